@@ -1,0 +1,9 @@
+pub mod Splice
+pub mod Sections
+pub mod Bools
+pub mod Counts
+pub mod Scan
+pub mod Formed
+pub mod Names
+pub mod Events
+pub mod Whole

@@ -1,0 +1,77 @@
+-- Laws of `sets d i xs`, the list d with xs stored from index i on: the form of contract for a write into a lent buffer.
+--     sets-append    two writes, one after the other, are one
+--     wrote-then     a write at the end of what was written so far; wrote-none, wrote-length, wrote-front
+--     copy-turn      a turn of a loop that copies s, byte by byte, from index at on
+--     sets-front     a write from the start is xs, then what was behind it
+-- Assumes nothing.
+use mathlib.Core.Path.{_≡_, refl, sym, ap, _∙_, subst}
+use mathlib.Core.List.{List, [], _∷_, _++_, append-nil}
+use Prim.Native.Nat.{ℕ, suc, _+_, _≤_, _<_}
+use native.Mathlib.Numerals.{add-one}
+use native.Mathlib.Omega.{arith}
+use native.Mathlib.Nat.{add-zero, zero-add, add-suc, suc-add}
+use lib.ListN.{length, getD, set, take, drop, replicate, drop-of-length-le}
+use borrow.Author.Fill.{fill-more}
+use Rattle.record.specs.Bytes.{Wrote}
+use lib.Seq.{sets, length-sets, sets-eq, take-suc, length-take-le, take-length}
+
+pub sets-append : (d : List ℕ) (i : ℕ) (xs ys : List ℕ) → sets d i (xs ++ ys) ≡ sets (sets d i xs) (i + length xs) ys
+sets-append d i [] ys = ap (λ (k : ℕ). sets d k ys) (sym (add-zero i))
+sets-append d i (x ∷ xs) ys =
+    sets-append (set d i x) (suc i) xs ys
+    ∙ ap (λ (k : ℕ). sets (sets (set d i x) (suc i) xs) k ys) (suc-add i (length xs) ∙ sym (add-suc i (length xs)))
+
+-- the same where the place of the second write is known by an equation
+pub sets-then : (d : List ℕ) (i j : ℕ) (xs ys : List ℕ) → j ≡ i + length xs → sets (sets d i xs) j ys ≡ sets d i (xs ++ ys)
+sets-then d i j xs ys e = ap (λ (k : ℕ). sets (sets d i xs) k ys) e ∙ sym (sets-append d i xs ys)
+
+pub sets-front : (d xs : List ℕ) → length xs ≤ length d → sets d 0 xs ≡ xs ++ drop (length xs) d
+sets-front d xs h =
+    sets-eq xs d 0 (subst (λ (k : ℕ). k ≤ length d) (sym (zero-add (length xs))) h)
+    ∙ ap (λ (k : ℕ). xs ++ drop k d) (zero-add (length xs))
+
+-- a write at the end of what was written so far: the form for a run of calls. All but the equation is found
+pub wrote-then : {d d₁ d₂ : List ℕ} {at j : ℕ} {xs ys : List ℕ} → Wrote d at xs d₁ → Wrote d₁ j ys d₂ → j ≡ at + length xs → Wrote d at (xs ++ ys) d₂
+wrote-then {d} {d₁} {d₂} {at} {j} {xs} {ys} w v e =
+    record { same = v .same ∙ ap (λ (l : List ℕ). sets l j ys) (w .same) ∙ sets-then d at j xs ys e }
+
+-- nothing is written
+pub wrote-none : (d : List ℕ) (at : ℕ) → Wrote d at [] d
+wrote-none d at = record { same = refl }
+
+-- the first of a run of writes, and then the rest: the form that `search` can use, with no path into `c`
+pub wrote-first : {d d₁ d₂ : List ℕ} {at : ℕ} {xs zs : List ℕ} → Wrote d at xs d₁ → Wrote d₁ (at + length xs) (drop (length xs) zs) d₂ → zs ≡ xs ++ drop (length xs) zs → Wrote d at zs d₂
+wrote-first {d} {d₁} {d₂} {at} {xs} {zs} w v e = subst (λ (l : List ℕ). Wrote d at l d₂) (sym e) (wrote-then w v refl)
+
+-- a write keeps the length
+pub wrote-length : {d d′ : List ℕ} {at : ℕ} {xs : List ℕ} → Wrote d at xs d′ → length d′ ≡ length d
+wrote-length {d} {d′} {at} {xs} w = ap length (w .same) ∙ length-sets d at xs
+
+-- what is written from the start: xs, then what was behind it
+pub wrote-front : {d d′ xs : List ℕ} → Wrote d 0 xs d′ → length xs ≤ length d → d′ ≡ xs ++ drop (length xs) d
+wrote-front {d} {d′} {xs} w h = w .same ∙ sets-front d xs h
+
+pub copy-turn : (d s : List ℕ) (at i : ℕ) → i < length s → set (sets d at (take i s)) (at + i) (getD s i 0) ≡ sets d at (take (i + 1) s)
+copy-turn d s at i h =
+    sets-then d at (at + i) (take i s) (getD s i 0 ∷ []) (ap (λ (k : ℕ). at + k) (sym (length-take-le i s (omega arith))))
+    ∙ ap (λ (l : List ℕ). sets d at l) (sym (take-suc s i 0 h) ∙ ap (λ (k : ℕ). take k s) (sym (add-one i)))
+
+-- the same from the start
+pub copy-turn-front : (d s : List ℕ) (i : ℕ) → i < length s → set (sets d 0 (take i s)) i (getD s i 0) ≡ sets d 0 (take (i + 1) s)
+copy-turn-front d s i h = ap (λ (k : ℕ). set (sets d 0 (take i s)) k (getD s i 0)) (sym (zero-add i)) ∙ copy-turn d s 0 i h
+
+-- d is d₀ with v in its first i places: the invariant of a loop that fills. Then its start, its turn and its end
+pub record Filled (d₀ : List ℕ) (i v : ℕ) (d : List ℕ) : Type 0 where
+  pub same : d ≡ replicate i v ++ drop i d₀
+
+pub fill-start : (d : List ℕ) (v : ℕ) → Filled d 0 v d
+fill-start d v = record { same = refl }
+
+pub fill-turn : {d₀ d d′ : List ℕ} {i j v : ℕ} → Filled d₀ i v d → i < length d → length d ≡ length d₀ → d′ ≡ set d i v → j ≡ i + 1 → Filled d₀ j v d′
+fill-turn {d₀} {d} {d′} {i} {j} {v} f h l e ej =
+    record { same = e ∙ ap (λ (x : List ℕ). set x i v) (f .same) ∙ fill-more i v d₀ (omega arith) ∙ ap (λ (k : ℕ). replicate k v ++ drop k d₀) (sym ej) }
+
+pub fill-done : {d₀ d : List ℕ} {i v : ℕ} → Filled d₀ i v d → i ≤ length d₀ → length d₀ ≤ i → d ≡ replicate (length d₀) v
+fill-done {d₀} {d} {i} {v} f le ge =
+    let n : i ≡ length d₀ = omega arith in
+    f .same ∙ rw (drop-of-length-le d₀ {i = i} ge, append-nil, n)

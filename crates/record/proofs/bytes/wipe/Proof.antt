@@ -1,0 +1,63 @@
+use mathlib.Core.Path.{_≡_, _∙_, ap}
+use mathlib.Core.List.{_++_, append-nil}
+use Prim.Native.Nat.{ℕ, _≤_, _-_}
+use native.Mathlib.Omega.{arith}
+use native.Mathlib.Nat.{le-antisymm}
+use lib.ListN.{length, drop, replicate, length-set, drop-of-length-le}
+use borrow.Author.Fill.{fill-none, fill-more}
+use borrow.Author.Needs.{needs}
+use mathlib.Core.List.{List}
+use lib.ListN.{set}
+use Rattle.record.proofs.Splice.{Filled, fill-start, fill-turn, fill-done}
+use Rattle.record.proofs.bytes.wipe.Statement.{statement}
+use Rattle.record.proofs.bytes.wipe.Tie as tie
+use Rattle.record.proofs.bytes.wipe.Reads as reads
+use Rattle.record.proofs.bytes.wipe.Lts as lts
+
+abbrev Inv-loop : tie.InvT-loop
+Inv-loop work₀ i₀ work i = (i ≤ length work₀) × (length work ≡ length work₀) × Filled work₀ i 0 work
+
+abbrev μ-loop : tie.MeasureT-loop
+μ-loop work₀ i₀ work i = length work₀ - i
+
+-- src/lib.rt:37:5
+loop-holds : tie.Need-loop-holds Inv-loop μ-loop
+loop-holds c = search (needs, fill-start)
+
+-- src/lib.rt:38:9
+slice-write-work : tie.Need-slice-write-work Inv-loop μ-loop
+slice-write-work c = search needs
+
+-- src/lib.rt:39:9
+add-i : tie.Need-add-i Inv-loop μ-loop
+add-i c = search needs
+
+-- src/lib.rt:37:5
+loop-less : tie.Need-loop-less Inv-loop μ-loop
+loop-less c = search needs
+
+-- src/lib.rt:37:5
+loop-again : tie.Need-loop-again Inv-loop μ-loop
+loop-again c = (search needs, search needs, search (needs, fill-turn))
+
+-- src/lib.rt:33:1
+same-length : tie.Need-same-length Inv-loop μ-loop
+same-length c = search needs
+
+-- src/lib.rt:33:1
+returns : tie.Need-returns Inv-loop μ-loop
+returns c = fill-done (c .before .loop .inv .2) (search needs) (search needs)
+
+pub wipe-spec : {M : Type 1} → statement M
+wipe-spec =
+    tie.close
+    (tie.spec
+    Inv-loop
+    μ-loop
+    loop-holds
+    slice-write-work
+    add-i
+    loop-less
+    loop-again
+    same-length
+    returns)

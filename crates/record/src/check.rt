@@ -1,0 +1,179 @@
+// The check of a record: document 01's numbers 1 to 5, the lowest first and at the earliest place.
+
+use crate::bytes::u32_at;
+use crate::limits::MAX_DEPTH;
+use crate::limits::MAX_DOCUMENT;
+use crate::limits::MAX_EVENTS;
+use crate::limits::MAX_OPTIONS;
+use crate::limits::MIN_WORK;
+use crate::stack::Open;
+ghost use mathlib.Core.Path.{_≡_};
+ghost use mathlib.Core.List.{[]};
+ghost use Prim.Native.Nat.{_+_, _*_, _≤_};
+ghost use lib.ListN.{length};
+ghost use Rattle.record.specs.Event.{storedAt, allStoredAt};
+ghost use Rattle.record.specs.Check.{countAt, firstReturn, formed, judge, checked, admitted};
+
+// A refusal: document 01's number, and the place that it names.
+pub struct Refusal {
+    pub number: usize,
+    pub place: usize,
+}
+
+// What a check finds: the two counts of a good record, or the refusal.
+pub enum Reading {
+    Good { document: usize, events: usize },
+    Refused(Refusal),
+}
+
+// A section's count, where it fits.
+pub enum Count {
+    Fits(usize),
+    Misfit,
+}
+
+// A refusal with its number and place.
+pub fn refused(number: usize, place: usize) -> Reading
+    ensures { λ r. ⌜ r ≡ Reading.Refused (record { number = number; place = place }) ⌝ }
+{
+    Reading::Refused(Refusal { number, place })
+}
+
+// The count at a place, of a section of at most `limit` entries of `width` bytes. It is read only where its four bytes are there.
+pub fn count_at(s: &[u8], at: usize, limit: usize, width: usize) -> Count
+    requires { ⌜ (at ≤ length (now s)) × (limit ≤ 16384) × (width ≤ 256) ⌝ }
+    ensures { λ r. ⌜ r ≡ countAt (now (s .entry)) at limit width ⌝ }
+{
+    let left = s.len() - at;
+    if left < 4 {
+        return Count::Misfit;
+    }
+    let count = u32_at(s, at);
+    if count > limit {
+        return Count::Misfit;
+    }
+    if left - 4 < width * count {
+        return Count::Misfit;
+    }
+    Count::Fits(count)
+}
+
+// The place of the first carriage return among the n bytes from a place on, or the place after them.
+pub fn first_return(s: &[u8], from: usize, n: usize) -> usize
+    requires { ⌜ from + n ≤ length (now s) ⌝ }
+    ensures { λ r. ⌜ r ≡ firstReturn n (now (s .entry)) from ⌝ }
+{
+    let end = from + n;
+    let mut at = from;
+    while at < end {
+        if s[at] == 13 {
+            return at;
+        }
+        at += 1;
+    }
+    at
+}
+
+// Whether one event's kind, name, zero bytes and place are good; `last` is the place of the event before.
+pub fn well_formed(s: &[u8], d: usize, last: usize, at: usize) -> bool
+    requires { ⌜ at + 8 ≤ length (now s) ⌝ }
+    ensures { λ r. ⌜ r ≡ formed (storedAt (now (s .entry)) at) d last ⌝ }
+{
+    if s[at] > 1 {
+        return false;
+    }
+    if s[at + 1] > 24 {
+        return false;
+    }
+    if s[at + 2] != 0 {
+        return false;
+    }
+    if s[at + 3] != 0 {
+        return false;
+    }
+    let place = u32_at(s, at + 4);
+    if place > d {
+        return false;
+    }
+    if place < last {
+        return false;
+    }
+    true
+}
+
+// Number 5: the e events after a document of d bytes, each by itself and against the names that are open.
+pub fn check_events(s: &[u8], d: usize, e: usize) -> Reading
+    requires { ⌜ (d ≤ 16384) × (e ≤ 2048) × (8 + d + 8 * e ≤ length (now s)) ⌝ }
+    ensures { λ r. ⌜ r ≡ judge (allStoredAt e (now (s .entry)) (8 + d)) d (8 + d) 0 [] (Reading.Good d e) ⌝ }
+{
+    let mut held = Open::new();
+    let mut at = 8 + d;
+    let mut last = 0;
+    let mut left = e;
+    while left > 0 {
+        if !well_formed(s, d, last, at) {
+            return refused(5, at);
+        }
+        let depth = held.depth;
+        if s[at] == 0 {
+            if depth >= MAX_DEPTH {
+                return refused(5, at);
+            }
+            held.names[depth] = s[at + 1];
+            held.depth = depth + 1;
+        } else {
+            if depth == 0 {
+                return refused(5, at);
+            }
+            let top = depth - 1;
+            if held.names[top] != s[at + 1] {
+                return refused(5, at);
+            }
+            held.depth = top;
+        }
+        last = u32_at(s, at + 4);
+        at += 8;
+        left -= 1;
+    }
+    if held.depth != 0 {
+        return refused(5, at);
+    }
+    Reading::Good {
+        document: d,
+        events: e,
+    }
+}
+
+// Numbers 3, 4 and 5.
+pub fn check(s: &[u8]) -> Reading
+    ensures { λ r. ⌜ r ≡ checked (now (s .entry)) ⌝ }
+{
+    let Count::Fits(d) = count_at(s, 0, MAX_DOCUMENT, 1) else {
+        return refused(3, 0);
+    };
+    let Count::Fits(e) = count_at(s, 4 + d, MAX_EVENTS, 8) else {
+        return refused(3, 4 + d);
+    };
+    let end = 8 + d + 8 * e;
+    if s.len() != end {
+        return refused(3, end);
+    }
+    let returned = first_return(s, 4, d);
+    if returned < 4 + d {
+        return refused(4, returned);
+    }
+    check_events(s, d, e)
+}
+
+// Numbers 1 to 5: what every call on a record begins with. Of the work memory only its length matters.
+pub fn admit(s: &[u8], options: u32, works: usize) -> Reading
+    ensures { λ r. ⌜ r ≡ admitted (now (s .entry)) options works ⌝ }
+{
+    if works < MIN_WORK {
+        return refused(1, 0);
+    }
+    if options > MAX_OPTIONS {
+        return refused(2, 0);
+    }
+    check(s)
+}

@@ -1,0 +1,56 @@
+// One event of eight bytes, read and written, and events copied from a record to an output.
+
+use crate::bytes::put_u32;
+use crate::bytes::u32_at;
+ghost use mathlib.Core.Path.{_≡_};
+ghost use Prim.Native.Nat.{_+_, _*_, _≤_, _<_};
+ghost use lib.ListN.{length};
+ghost use Rattle.record.specs.Bytes.{Wrote};
+ghost use Rattle.record.specs.Event.{eventAt, eventsAt, eventBytes, flat};
+
+// An event: its kind (0 enter, 1 exit), its name, and its place in the document.
+pub struct Event {
+    pub kind: u8,
+    pub name: u8,
+    pub place: usize,
+}
+
+// The event that stands at a place of a record.
+pub fn event_at(s: &[u8], at: usize) -> Event
+    requires { ⌜ at + 8 ≤ length (now s) ⌝ }
+    ensures { λ r. ⌜ (r ≡ eventAt (now (s .entry)) at) × (r .place < 4294967296) ⌝ }
+{
+    Event {
+        kind: s[at],
+        name: s[at + 1],
+        place: u32_at(s, at + 4),
+    }
+}
+
+// An event's eight bytes, at a place of an output.
+pub fn put_event(out: &mut [u8], at: usize, kind: u8, name: u8, place: usize)
+    requires { ⌜ at + 8 ≤ length (now out) ⌝ }
+    ensures { λ _. ⌜ Wrote (now (out .entry)) at (eventBytes kind name place) (now (out .exit)) ⌝ }
+{
+    out[at] = kind;
+    out[at + 1] = name;
+    out[at + 2] = 0;
+    out[at + 3] = 0;
+    put_u32(out, at + 4, place);
+}
+
+// Copies the n events that stand in a record from a place on to a place of an output.
+pub fn copy_events(out: &mut [u8], at: usize, s: &[u8], from: usize, n: usize)
+    requires { ⌜ (at + 8 * n ≤ length (now out)) × (from + 8 * n ≤ length (now s)) ⌝ }
+    ensures { λ _. ⌜ Wrote (now (out .entry)) at (flat (eventsAt n (now (s .entry)) from)) (now (out .exit)) ⌝ }
+{
+    let mut i = 0;
+    let mut to = at;
+    let mut read = from;
+    while i < n {
+        put_event(out, to, s[read], s[read + 1], u32_at(s, read + 4));
+        to += 8;
+        read += 8;
+        i += 1;
+    }
+}
