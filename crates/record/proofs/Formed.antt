@@ -8,31 +8,34 @@ use native.Mathlib.Omega.{arith}
 use borrow.Author.Tests.{le-leb, lt-leb, eq-eqb, ne-eqb}
 use Rattle.record.specs.Choice.{and}
 use Rattle.record.specs.Event.{Stored}
+use Rattle.record.specs.Sound.{placed}
 use Rattle.record.specs.Check.{formed}
 
 module _ (v : Stored) (d last : ℕ) where
-  pub bad-kind : 1 < v .what .kind → formed v d last ≡ false
+  pub bad-zeros : (v .zeros ≡ 0 → ⊥) → formed v d last ≡ false
   unfolding formed and
-  bad-kind h = rw (lt-leb _ _ h)
+  bad-zeros h = rw (ne-eqb _ _ h)
 
-  pub bad-name : v .what .kind ≤ 1 → 24 < v .what .name → formed v d last ≡ false
-  unfolding formed and
-  bad-name k h = rw (le-leb _ _ k, lt-leb _ _ h)
+  module _ (z : v .zeros ≡ 0) where
+    pub bad-kind : 1 < v .what .kind → formed v d last ≡ false
+    unfolding formed placed and
+    bad-kind h = rw (eq-eqb _ _ z, lt-leb _ _ h)
 
-  pub bad-zeros : v .what .kind ≤ 1 → v .what .name ≤ 24 → (v .zeros ≡ 0 → ⊥) → formed v d last ≡ false
-  unfolding formed and
-  bad-zeros k n h = rw (le-leb _ _ k, le-leb _ _ n, ne-eqb _ _ h)
+    module _ (k : v .what .kind ≤ 1) where
+      pub bad-name : 24 < v .what .name → formed v d last ≡ false
+      unfolding formed placed and
+      bad-name h = rw (eq-eqb _ _ z, le-leb _ _ k, lt-leb _ _ h)
 
-  module _ (k : v .what .kind ≤ 1) (n : v .what .name ≤ 24) (z : v .zeros ≡ 0) where
-    pub past-document : d < v .what .place → formed v d last ≡ false
-    unfolding formed and
-    past-document h = rw (le-leb _ _ k, le-leb _ _ n, eq-eqb _ _ z, lt-leb _ _ h)
+      module _ (n : v .what .name ≤ 24) where
+        pub past-document : d < v .what .place → formed v d last ≡ false
+        unfolding formed placed and
+        past-document h = rw (eq-eqb _ _ z, le-leb _ _ k, le-leb _ _ n, lt-leb _ _ h)
 
-    module _ (w : v .what .place ≤ d) where
-      pub below-last : v .what .place < last → formed v d last ≡ false
-      unfolding formed and
-      below-last h = rw (le-leb _ _ k, le-leb _ _ n, eq-eqb _ _ z, le-leb _ _ w, lt-leb _ _ h)
+        module _ (w : v .what .place ≤ d) where
+          pub below-last : v .what .place < last → formed v d last ≡ false
+          unfolding formed placed and
+          below-last h = rw (eq-eqb _ _ z, le-leb _ _ k, le-leb _ _ n, le-leb _ _ w, lt-leb _ _ h)
 
-      pub good-form : last ≤ v .what .place → formed v d last ≡ true
-      unfolding formed and
-      good-form h = rw (le-leb _ _ k, le-leb _ _ n, eq-eqb _ _ z, le-leb _ _ w, le-leb _ _ h)
+          pub good-form : last ≤ v .what .place → formed v d last ≡ true
+          unfolding formed placed and
+          good-form h = rw (eq-eqb _ _ z, le-leb _ _ k, le-leb _ _ n, le-leb _ _ w, le-leb _ _ h)

@@ -7,3 +7,7 @@ pub mod Formed
 pub mod Names
 pub mod Events
 pub mod Whole
+pub mod Good
+pub mod Soundness
+pub mod Pairs
+pub mod Output

@@ -8,6 +8,7 @@ use native.Mathlib.Omega.{arith}
 use lib.ListN.{length, getD, drop, length-append}
 use Rattle.record.specs.Bytes.{Wrote, u32At, u32Bytes}
 use Rattle.record.specs.Event.{eventBytes, bytesOf, flat, sectionBytes, eventAt, eventsAt}
+use Rattle.record.specs.Outcome.{onto}
 use Rattle.record.specs.declared.event.Event.{Event}
 use Rattle.record.proofs.Splice.{wrote-then, wrote-front}
 
@@ -56,8 +57,8 @@ copied s from i n at le ge w =
 
 -- the count, and then the events: a section, then what was behind it
 pub section : {d d₁ d₂ : List ℕ} (es : List Event) (n : ℕ) → length es ≡ n → 4 + 8 * n ≤ length d
-    → Wrote d 0 (u32Bytes n) d₁ → Wrote d₁ 4 (flat es) d₂ → d₂ ≡ sectionBytes es ++ drop (length (sectionBytes es)) d
-unfolding sectionBytes
+    → Wrote d 0 (u32Bytes n) d₁ → Wrote d₁ 4 (flat es) d₂ → d₂ ≡ onto (sectionBytes es) d
+unfolding sectionBytes onto
 section {d} {d₁} {d₂} es n en fits w v =
     let k : length (u32Bytes n ++ flat es) ≡ 4 + 8 * n = omega (arith, length-append (u32Bytes n) (flat es), length-flat es, en) in
     wrote-front (wrote-then w v refl) (omega arith)

@@ -9,6 +9,7 @@ use Rattle.record.specs.Choice.{choose, and}
 use Rattle.record.specs.Bytes.{u32At}
 use Rattle.record.specs.Event.{Stored, allStoredAt}
 use Rattle.record.specs.Stack.{none, fitsOpen, after}
+use Rattle.record.specs.Sound.{placed}
 use Rattle.record.specs.declared.check.Count.{Count}
 use Rattle.record.specs.declared.check.Count.the-variants.{Fits, Misfit}
 use Rattle.record.specs.declared.check.Reading.{Reading}
@@ -37,12 +38,7 @@ firstReturn (suc n) s at = choose (eqb (getD s at 0) 13) at (firstReturn n s (at
 
 -- "bad kind, name or zero bytes; place over D or below the event before", which is `last`: whether none of these holds
 unfoldable pub formed : Stored → ℕ → ℕ → Bool
-formed v d last =
-    and (leb (v .what .kind) 1)
-    (and (leb (v .what .name) 24)
-    (and (eqb (v .zeros) 0)
-    (and (leb (v .what .place) d)
-    (leb last (v .what .place)))))
+formed v d last = and (eqb (v .zeros) 0) (placed (v .what) d last)
 
 -- the events one by one, the first of them at a place of the record: the first that breaks a rule is refused there, and where none does,
 -- events left open are refused at the record's end

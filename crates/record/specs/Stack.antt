@@ -3,7 +3,7 @@
 use Prim.Native.Nat.{ℕ, zero, suc, _+_}
 use mathlib.Core.Bool.{Bool, true, false}
 use mathlib.Core.List.{List, [], _∷_}
-use lib.ListN.{length, getD}
+use lib.ListN.{length, getD, take}
 use lib.Dec.{ltb, eqb}
 use Rattle.record.specs.Choice.{choose}
 use Rattle.record.specs.declared.event.Event.{Event}
@@ -45,3 +45,11 @@ after e x held = choose (eqb (e .kind) 0) (x ∷ held) (outer held)
 unfoldable pub openAfter : List Event → ℕ → List ℕ → List ℕ
 openAfter [] i held = held
 openAfter (e ∷ es) i held = openAfter es (i + 1) (after e i held)
+
+-- the enter events that are open before event k of a whole list
+abbrev pub openAt : List Event → ℕ → List ℕ
+openAt es k = openAfter (take k es) 0 []
+
+-- event k of a list
+abbrev pub nth : List Event → ℕ → Event
+nth es k = getD es k (record { kind = 0; name = 0; place = 0 })

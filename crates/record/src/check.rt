@@ -1,6 +1,9 @@
 // The check of a record: document 01's numbers 1 to 5, the lowest first and at the earliest place.
 
 use crate::bytes::u32_at;
+use crate::limits::ENTER;
+use crate::limits::EXIT;
+use crate::limits::LAST_NAME;
 use crate::limits::MAX_DEPTH;
 use crate::limits::MAX_DOCUMENT;
 use crate::limits::MAX_EVENTS;
@@ -79,16 +82,16 @@ pub fn well_formed(s: &[u8], d: usize, last: usize, at: usize) -> bool
     requires { ⌜ at + 8 ≤ length (now s) ⌝ }
     ensures { λ r. ⌜ r ≡ formed (storedAt (now (s .entry)) at) d last ⌝ }
 {
-    if s[at] > 1 {
-        return false;
-    }
-    if s[at + 1] > 24 {
-        return false;
-    }
     if s[at + 2] != 0 {
         return false;
     }
     if s[at + 3] != 0 {
+        return false;
+    }
+    if s[at] > EXIT {
+        return false;
+    }
+    if s[at + 1] > LAST_NAME {
         return false;
     }
     let place = u32_at(s, at + 4);
@@ -115,7 +118,7 @@ pub fn check_events(s: &[u8], d: usize, e: usize) -> Reading
             return refused(5, at);
         }
         let depth = held.depth;
-        if s[at] == 0 {
+        if s[at] == ENTER {
             if depth >= MAX_DEPTH {
                 return refused(5, at);
             }

@@ -1,0 +1,24 @@
+-- When a list of events is sound. A record's events are, with at most 64 open; what a resolver writes is too, but for the depth.
+-- Assumes nothing.
+use Prim.Native.Nat.{ℕ}
+use mathlib.Core.Bool.{Bool}
+use mathlib.Core.List.{List, [], _∷_}
+use lib.Dec.{leb}
+use Rattle.record.specs.Choice.{and}
+use Rattle.record.specs.Stack.{none, fitsOpen, after}
+use Rattle.record.specs.declared.event.Event.{Event}
+
+-- document 01's number 5, of one event by itself: "bad kind, name ..; place over D or below the event before", which is `last`
+unfoldable pub placed : Event → ℕ → ℕ → Bool
+placed e d last = and (leb (e .kind) 1) (and (leb (e .name) 24) (and (leb (e .place) d) (leb last (e .place))))
+
+-- events that come where the names `held` are open and the event before has the place `last`: each is good by itself and fits what is open,
+-- and none is left open
+unfoldable pub soundFrom : ℕ → ℕ → ℕ → List ℕ → List Event → Bool
+soundFrom deep d last held [] = none held
+soundFrom deep d last held (e ∷ es) =
+    and (placed e d last) (and (fitsOpen deep e held) (soundFrom deep d (e .place) (after e (e .name) held) es))
+
+-- a whole section of events over a document of d bytes
+abbrev pub sound : ℕ → ℕ → List Event → Bool
+sound deep d es = soundFrom deep d 0 [] es
