@@ -11,3 +11,5 @@ pub mod Good
 pub mod Soundness
 pub mod Pairs
 pub mod Output
+pub mod Verdict
+pub mod Exactly

@@ -23,7 +23,7 @@ pub record Stands (deep d last : ℕ) (held : List ℕ) (e : Event) : Type 0 whe
   pub room : e .kind ≡ 0 → length held < deep
   pub partner : e .kind ≡ 1 → held ≡ e .name ∷ outer held
 
-fits-room : (deep : ℕ) (e : Event) (held : List ℕ) → fitsOpen deep e held ≡ true → e .kind ≡ 0 → length held < deep
+pub fits-room : (deep : ℕ) (e : Event) (held : List ℕ) → fitsOpen deep e held ≡ true → e .kind ≡ 0 → length held < deep
 unfolding fitsOpen choose
 fits-room deep e held q k = ltb-true _ _ (rw (eq-eqb _ _ k) at q)
 
@@ -31,7 +31,7 @@ is-innermost : (name : ℕ) (held : List ℕ) → innermost name held ≡ true �
 is-innermost name [] q = let z : _≡_ {A = ℕ} 0 1 = cc in absurd (omega arith)
 is-innermost name (top ∷ held) q = ap (λ (n : ℕ). n ∷ held) (eqb-true top name q)
 
-fits-partner : (deep : ℕ) (e : Event) (held : List ℕ) → fitsOpen deep e held ≡ true → e .kind ≡ 1 → held ≡ e .name ∷ outer held
+pub fits-partner : (deep : ℕ) (e : Event) (held : List ℕ) → fitsOpen deep e held ≡ true → e .kind ≡ 1 → held ≡ e .name ∷ outer held
 unfolding fitsOpen choose
 fits-partner deep e held q k = is-innermost _ _ (rw (ne-eqb (e .kind) 0 (λ z. omega arith)) at q)
 

@@ -4,5 +4,6 @@ pub mod Event
 pub mod Stack
 pub mod Sound
 pub mod Check
+pub mod Rows
 pub mod Outcome
 pub mod Promise

@@ -1,0 +1,348 @@
+-- The table's "given exactly when": the check refuses with n at p just where (n, p) is the least row that holds, and is good where none does.
+-- Proved by going through the check's own tests, each of which says that a row holds or that it holds nowhere.
+-- Assumes nothing.
+use mathlib.Core.Path.{_≡_, refl, sym, ap, _∙_, subst}
+use mathlib.Core.Bool.{Bool, true, false}
+use mathlib.Core.Logic.{_⊎_, inl, inr, ⊎-elim}
+use mathlib.Core.List.{List, [], _∷_}
+use Prim.Native.Nat.{ℕ, zero, suc, _+_, _*_, _≤_, _<_}
+use native.Mathlib.Omega.{arith}
+use lib.ListN.{length, getD}
+use lib.Dec.{leb, ltb, eqb}
+use borrow.Author.Tests.{leb-true, leb-false, ltb-true, ltb-false, eqb-true, eqb-false}
+use Rattle.record.specs.Choice.{choose, and}
+use Rattle.record.specs.Bytes.{u32At}
+use Rattle.record.specs.Event.{allStoredAt}
+use Rattle.record.specs.Stack.{none}
+use Rattle.record.specs.Check.{refuse, countAt, fitting, firstReturn, judge, insideOf, endOf, eventCountOf, checked, admitted}
+use Rattle.record.specs.Rows.{Least, documentCount, eventCount, Section, the-document, the-events, Misfits, no-room, over, past, follow, Returns, placeOf, openNames, placeBefore, Broken, Unsound, an-event, left-open, Row, row-1, row-2, row-3, row-4, row-5, Exactly}
+use Rattle.record.specs.declared.check.Count.{Count}
+use Rattle.record.specs.declared.check.Count.the-variants.{Fits, Misfit}
+use Rattle.record.specs.declared.check.Refusal.{Refusal}
+use Rattle.record.specs.declared.check.Reading.{Reading}
+use Rattle.record.specs.declared.check.Reading.the-variants.{Good, Refused}
+use Rattle.record.proofs.Bools.{and-split, clash}
+use Rattle.record.proofs.Counts.{Fitted, fitted}
+use Rattle.record.proofs.Good.{none-returned}
+use Rattle.record.proofs.Verdict.{Verdict, all-good, one-bad, some-left, verdict}
+
+-- the least row is one only
+pub least-only : {R : ℕ → ℕ → Type 0} {n p m q : ℕ} → Least R n p → Least R m q → (n ≡ m) × (p ≡ q)
+least-only {R} {n} {p} {m} {q} a b =
+    ⊎-elim
+    (λ x. ⊎-elim (λ y. absurd (omega arith)) (λ y. absurd (omega arith)) (b .least n p (a .holds)))
+    (λ x. ⊎-elim (λ y. absurd (omega arith)) (λ y. (omega arith, omega arith)) (b .least n p (a .holds)))
+    (a .least m q (b .holds))
+
+-- what a check comes to, of the rows R
+pub data Found (R : ℕ → ℕ → Type 0) (s : List ℕ) (r : Reading) : Type 0 where
+  least-row : (n p : ℕ) → r ≡ refuse n p → Least R n p → Found R s r
+  no-row : r ≡ Good (documentCount s) (eventCount s) → ((n p : ℕ) → R n p → ⊥) → Found R s r
+
+misfit-test : (b : Bool) (m : ℕ) → choose b (Fits m) Misfit ≡ Misfit → b ≡ false
+unfolding choose
+misfit-test true m q = let z : _≡_ {A = ℕ} 0 1 = cc in absurd (omega arith)
+misfit-test false m q = refl
+
+-- a count that is a misfit is one by row 3
+misfits : (s : List ℕ) (at limit width : ℕ) → Section s at limit width → countAt s at limit width ≡ Misfit → Misfits s at
+unfolding countAt and
+misfits s at limit width sec q = go (leb (at + 4) (length s)) refl (misfit-test _ _ q)
+  where
+    go : (z : Bool) → leb (at + 4) (length s) ≡ z → and z (and (leb (u32At s at) limit) (leb (at + 4 + width * u32At s at) (length s))) ≡ false → Misfits s at
+    go true e t =
+        let room : at + 4 ≤ length s = leb-true _ _ e in
+        ⊎-elim (λ x. over sec room (leb-false _ _ x)) (λ x. past sec room (leb-false _ _ x)) (and-split _ _ t)
+    go false e t = no-room sec (leb-false _ _ e)
+
+-- row 3 at a section's count, whichever section it is
+data Ill (s : List ℕ) (at limit width : ℕ) : Type 0 where
+  ill-room : length s < at + 4 → Ill s at limit width
+  ill-over : limit < u32At s at → Ill s at limit width
+  ill-past : length s < at + 4 + width * u32At s at → Ill s at limit width
+
+fitted-well : (s : List ℕ) (at limit width n : ℕ) → Fitted s at limit width n → Ill s at limit width → ⊥
+fitted-well s at limit width n f (ill-room h) = omega (arith, f .room)
+fitted-well s at limit width n f (ill-over h) = omega (arith, f .within, f .count)
+fitted-well s at limit width n f (ill-past h) =
+    let e : width * u32At s at ≡ width * n = ap (λ (m : ℕ). width * m) (f .count) in
+    omega (arith, f .whole)
+
+-- row 3 is at the document's count, at the events' count, or after both sections
+data Where (s : List ℕ) (p : ℕ) : Type 0 where
+  at-document : p ≡ 0 → Ill s 0 16384 1 → Where s p
+  at-events : p ≡ 4 + documentCount s → Ill s (4 + documentCount s) 2048 8 → Where s p
+  at-end : p ≡ 8 + documentCount s + 8 * eventCount s → p < length s → Where s p
+
+where-is : (s : List ℕ) (p : ℕ) → Misfits s p → Where s p
+where-is s p (no-room (the-document a b c) h) = at-document a (ill-room (rw a at h))
+where-is s p (no-room (the-events w a b c) h) = at-events a (ill-room (rw a at h))
+where-is s p (over (the-document a b c) r h) = at-document a (ill-over (rw (a, b) at h))
+where-is s p (over (the-events w a b c) r h) = at-events a (ill-over (rw (a, b) at h))
+where-is s p (past (the-document a b c) r h) = at-document a (ill-past (rw (a, c) at h))
+where-is s p (past (the-events w a b c) r h) = at-events a (ill-past (rw (a, c) at h))
+where-is s p (follow a h) = at-end a h
+
+-- a lower bound that is not reached
+strict : (a b : ℕ) → a ≤ b → (a ≡ b → ⊥) → a + 1 ≤ b
+strict a b h ne = go (leb (a + 1) b) refl
+  where
+    go : (z : Bool) → leb (a + 1) b ≡ z → a + 1 ≤ b
+    go true e = leb-true _ _ e
+    go false e =
+        let f : b < a + 1 = leb-false _ _ e in
+        absurd (ne (omega arith))
+
+-- the first carriage return: at or after the place, there, and before any other
+first-low : (n : ℕ) (s : List ℕ) (at : ℕ) → at ≤ firstReturn n s at
+unfolding firstReturn choose
+first-low zero s at = omega arith
+first-low (suc n) s at = go (eqb (getD s at 0) 13) (first-low n s (at + 1))
+  where
+    go : (z : Bool) → at + 1 ≤ firstReturn n s (at + 1) → at ≤ choose z at (firstReturn n s (at + 1))
+    go true h = omega arith
+    go false h = omega arith
+
+first-there : (n : ℕ) (s : List ℕ) (at : ℕ) → firstReturn n s at < at + n → getD s (firstReturn n s at) 0 ≡ 13
+unfolding firstReturn choose
+first-there zero s at h = absurd (omega arith)
+first-there (suc n) s at h = go (eqb (getD s at 0) 13) refl (first-there n s (at + 1)) h
+  where
+    go : (z : Bool) → eqb (getD s at 0) 13 ≡ z → (firstReturn n s (at + 1) < at + 1 + n → getD s (firstReturn n s (at + 1)) 0 ≡ 13) →
+        choose z at (firstReturn n s (at + 1)) < at + suc n → getD s (choose z at (firstReturn n s (at + 1))) 0 ≡ 13
+    go true e f h = eqb-true _ _ e
+    go false e f h = f (omega arith)
+
+first-least : (n : ℕ) (s : List ℕ) (at q : ℕ) → at ≤ q → getD s q 0 ≡ 13 → firstReturn n s at ≤ q ⊎ (at + n ≤ q)
+unfolding firstReturn choose
+first-least zero s at q h e = inr (omega arith)
+first-least (suc n) s at q h e = go (eqb (getD s at 0) 13) refl (first-least n s (at + 1) q)
+  where
+    later : (z : Bool) → eqb at q ≡ z → eqb (getD s at 0) 13 ≡ false → at + 1 ≤ q
+    later true x y = absurd (eqb-false _ _ y (ap (λ (m : ℕ). getD s m 0) (eqb-true at q x) ∙ e))
+    later false x y =
+        let ne : at ≡ q → ⊥ = eqb-false at q x in
+        strict at q h ne
+
+    go : (z : Bool) → eqb (getD s at 0) 13 ≡ z → (at + 1 ≤ q → getD s q 0 ≡ 13 → firstReturn n s (at + 1) ≤ q ⊎ (at + 1 + n ≤ q)) →
+        choose z at (firstReturn n s (at + 1)) ≤ q ⊎ (at + suc n ≤ q)
+    go true x f = inl h
+    go false x f = ⊎-elim (λ y. inl y) (λ y. inr (omega arith)) (f (later (eqb at q) refl x) e)
+
+-- where the record ends with its events and event i is the first that is broken, row 5 is nowhere before it
+first-broken : (s : List ℕ) (i : ℕ) → length s ≡ placeOf (documentCount s) (eventCount s) → i < 0 + eventCount s →
+    ((j : ℕ) → 0 ≤ j → j < i → Broken s (documentCount s) j → ⊥) → (q : ℕ) → Unsound s q → placeOf (documentCount s) i ≤ q
+first-broken s i ends l f q (an-event k h b e) = go (leb i k) refl
+  where
+    go : (z : Bool) → leb i k ≡ z → placeOf (documentCount s) i ≤ q
+    go true x =
+        let y : i ≤ k = leb-true _ _ x in
+        omega arith
+    go false x =
+        let y : k < i = leb-false _ _ x in
+        absurd (f k (omega arith) y b)
+first-broken s i ends l f q (left-open o e) = omega arith
+
+-- where none is broken, it is at the record's end only
+none-broken : (s : List ℕ) → ((j : ℕ) → 0 ≤ j → j < 0 + eventCount s → Broken s (documentCount s) j → ⊥) → (q : ℕ) → Unsound s q →
+    (q ≡ length s) × (none (openNames s (documentCount s) (eventCount s)) ≡ false)
+none-broken s f q (an-event k h b e) = absurd (f k (omega arith) (omega arith) b)
+none-broken s f q (left-open o e) = (e, o)
+
+module _ (s : List ℕ) (options works : ℕ) (memory : 65536 ≤ works) (known : options ≤ 63) where
+  at-3 : (p : ℕ) → Misfits s p → ((q : ℕ) → Misfits s q → p ≤ q) → Least (Row s options works) 3 p
+  at-3 p h f = record { holds = row-3 h refl; least = go }
+    where
+      go : (m q : ℕ) → Row s options works m q → (3 < m) ⊎ ((3 ≡ m) × (p ≤ q))
+      go m q (row-1 w a b) = absurd (omega arith)
+      go m q (row-2 w a b) = absurd (omega arith)
+      go m q (row-3 w a) = inr (sym a, f q w)
+      go m q (row-4 w a) = inl (omega arith)
+      go m q (row-5 w a) = inl (omega arith)
+
+  module _ (no-3 : (q : ℕ) → Misfits s q → ⊥) where
+    at-4 : (p : ℕ) → Returns s p → ((q : ℕ) → Returns s q → p ≤ q) → Least (Row s options works) 4 p
+    at-4 p h f = record { holds = row-4 h refl; least = go }
+      where
+        go : (m q : ℕ) → Row s options works m q → (4 < m) ⊎ ((4 ≡ m) × (p ≤ q))
+        go m q (row-1 w a b) = absurd (omega arith)
+        go m q (row-2 w a b) = absurd (omega arith)
+        go m q (row-3 w a) = absurd (no-3 q w)
+        go m q (row-4 w a) = inr (sym a, f q w)
+        go m q (row-5 w a) = inl (omega arith)
+
+    module _ (no-4 : (q : ℕ) → Returns s q → ⊥) where
+      at-5 : (p : ℕ) → Unsound s p → ((q : ℕ) → Unsound s q → p ≤ q) → Least (Row s options works) 5 p
+      at-5 p h f = record { holds = row-5 h refl; least = go }
+        where
+          go : (m q : ℕ) → Row s options works m q → (5 < m) ⊎ ((5 ≡ m) × (p ≤ q))
+          go m q (row-1 w a b) = absurd (omega arith)
+          go m q (row-2 w a b) = absurd (omega arith)
+          go m q (row-3 w a) = absurd (no-3 q w)
+          go m q (row-4 w a) = absurd (no-4 q w)
+          go m q (row-5 w a) = inr (sym a, f q w)
+
+      no-rows : ((q : ℕ) → Unsound s q → ⊥) → (m q : ℕ) → Row s options works m q → ⊥
+      no-rows no-5 m q (row-1 w a b) = omega arith
+      no-rows no-5 m q (row-2 w a b) = omega arith
+      no-rows no-5 m q (row-3 w a) = no-3 q w
+      no-rows no-5 m q (row-4 w a) = no-4 q w
+      no-rows no-5 m q (row-5 w a) = no-5 q w
+
+      -- row 5, where the record ends with its events
+      module _ (ends : length s ≡ placeOf (documentCount s) (eventCount s)) where
+        by-verdict : {r : Reading} → Verdict s (documentCount s) 0 (eventCount s) (Good (documentCount s) (eventCount s)) r → Found (Row s options works) s r
+        by-verdict (all-good q f o) =
+            let all : 0 + eventCount s ≡ eventCount s = omega arith in
+            no-row q (no-rows (λ p u. clash (rw all at o) (none-broken s f p u .1)))
+        by-verdict (one-bad i q h l b f) =
+            least-row 5 (placeOf (documentCount s) i) q (at-5 _ (an-event i (omega arith) b refl) (first-broken s i ends l f))
+        by-verdict (some-left q f o) =
+            let all : 0 + eventCount s ≡ eventCount s = omega arith in
+            least-row 5 (length s) (rw (all, ← ends) at q)
+            (at-5 _ (left-open (rw all at o) refl) (λ p u. let e = none-broken s f p u .0 in omega arith))
+
+        found-events : Found (Row s options works) s
+            (judge (allStoredAt (eventCount s) s (8 + documentCount s)) (documentCount s) (8 + documentCount s) 0 [] (Good (documentCount s) (eventCount s)))
+        unfolding openNames placeBefore
+        found-events =
+            let start : placeOf (documentCount s) 0 ≡ 8 + documentCount s = omega arith in
+            by-verdict (rw start at (verdict (eventCount s) s (documentCount s) 0 (Good (documentCount s) (eventCount s))))
+
+  -- row 4 and then row 5, where both counts fit and nothing follows
+  module _ (fd : Fitted s 0 16384 1 (documentCount s)) (fe : Fitted s (4 + documentCount s) 2048 8 (eventCount s)) where
+    place-of-misfit : (q : ℕ) → Misfits s q → (q ≡ 8 + documentCount s + 8 * eventCount s) × (q < length s)
+    place-of-misfit q m = go (where-is s q m)
+      where
+        go : Where s q → (q ≡ 8 + documentCount s + 8 * eventCount s) × (q < length s)
+        go (at-document e i) = absurd (fitted-well _ _ _ _ _ fd i)
+        go (at-events e i) = absurd (fitted-well _ _ _ _ _ fe i)
+        go (at-end e h) = (e, h)
+
+    module _ (ends : length s ≡ 8 + documentCount s + 8 * eventCount s) where
+      no-misfit : (q : ℕ) → Misfits s q → ⊥
+      no-misfit q m = let w = place-of-misfit q m in omega arith
+
+      returned : (q : ℕ) → Returns s q → firstReturn (documentCount s) s 4 ≤ q
+      returned q r = ⊎-elim (λ h. h) (λ h. absurd (omega (arith, r .to))) (first-least (documentCount s) s 4 q (r .from) (r .there))
+
+      none-there : 4 + documentCount s ≤ firstReturn (documentCount s) s 4 → (q : ℕ) → Returns s q → ⊥
+      none-there h q r = let l = returned q r in omega (arith, r .to)
+
+      found-inside : Found (Row s options works) s (insideOf s (documentCount s) (eventCount s))
+      unfolding insideOf choose
+      found-inside = go (ltb (firstReturn (documentCount s) s 4) (4 + documentCount s)) refl
+        where
+          go : (z : Bool) → ltb (firstReturn (documentCount s) s 4) (4 + documentCount s) ≡ z →
+              Found (Row s options works) s (choose z (refuse 4 (firstReturn (documentCount s) s 4))
+              (judge (allStoredAt (eventCount s) s (8 + documentCount s)) (documentCount s) (8 + documentCount s) 0 [] (Good (documentCount s) (eventCount s))))
+          go true e =
+              let h : firstReturn (documentCount s) s 4 < 4 + documentCount s = ltb-true _ _ e in
+              least-row 4 (firstReturn (documentCount s) s 4) refl
+              (at-4 no-misfit _ record { from = first-low (documentCount s) s 4; to = h; there = first-there (documentCount s) s 4 h } returned)
+          go false e = found-events no-misfit (none-there (ltb-false _ _ e)) ends
+
+    -- "bytes follow the last section"
+    found-end : Found (Row s options works) s (endOf s (documentCount s) (eventCount s))
+    unfolding endOf choose
+    found-end = go (eqb (length s) (8 + documentCount s + 8 * eventCount s)) refl
+      where
+        go : (z : Bool) → eqb (length s) (8 + documentCount s + 8 * eventCount s) ≡ z →
+            Found (Row s options works) s (choose z (insideOf s (documentCount s) (eventCount s)) (refuse 3 (8 + documentCount s + 8 * eventCount s)))
+        go true e = found-inside (eqb-true _ _ e)
+        go false e =
+            let ne : length s ≡ 8 + documentCount s + 8 * eventCount s → ⊥ = eqb-false _ _ e in
+            let le : 8 + documentCount s + 8 * eventCount s + 1 ≤ length s = strict _ _ (omega (arith, fe .whole)) (λ x. ne (sym x)) in
+            least-row 3 _ refl (at-3 _ (follow refl (omega arith)) (λ q m. let w = place-of-misfit q m in omega arith))
+
+  -- the events' count
+  found-second : Fitted s 0 16384 1 (documentCount s) → Found (Row s options works) s (eventCountOf s (documentCount s))
+  unfolding eventCountOf
+  found-second fd = go (countAt s (4 + documentCount s) 2048 8) refl
+    where
+      there : 4 + documentCount s ≤ length s
+      there = omega (arith, fd .whole)
+
+      before : (q : ℕ) → Where s q → 4 + documentCount s ≤ q
+      before q (at-document e i) = absurd (fitted-well _ _ _ _ _ fd i)
+      before q (at-events e i) = omega arith
+      before q (at-end e h) = omega arith
+
+      go : (c : Count) → countAt s (4 + documentCount s) 2048 8 ≡ c →
+          Found (Row s options works) s (fitting c (refuse 3 (4 + documentCount s)) (λ e. endOf s (documentCount s) e))
+      go (Fits e) x =
+          let f = fitted _ _ _ _ _ x in
+          let y : e ≡ eventCount s = sym (f .count) in
+          rw y (found-end fd (rw y at f))
+      go Misfit x =
+          least-row 3 _ refl (at-3 _ (misfits s (4 + documentCount s) 2048 8 (the-events there refl refl refl) x) (λ q m. before q (where-is s q m)))
+
+  -- the document's count
+  found-first : Found (Row s options works) s (checked s)
+  unfolding checked
+  found-first = go (countAt s 0 16384 1) refl
+    where
+      go : (c : Count) → countAt s 0 16384 1 ≡ c → Found (Row s options works) s (fitting c (refuse 3 0) (λ d. eventCountOf s d))
+      go (Fits d) x =
+          let f = fitted _ _ _ _ _ x in
+          let y : d ≡ documentCount s = sym (f .count) in
+          rw y (found-second (rw y at f))
+      go Misfit x = least-row 3 _ refl (at-3 _ (misfits s 0 16384 1 (the-document refl refl refl) x) (λ q m. omega arith))
+
+-- the whole check
+pub found : (s : List ℕ) (options works : ℕ) → Found (Row s options works) s (admitted s options works)
+unfolding admitted choose
+found s options works = first (ltb works 65536) refl
+  where
+    second : (z : Bool) → ltb 63 options ≡ z → 65536 ≤ works → Found (Row s options works) s (choose z (refuse 2 0) (checked s))
+    second true e memory = least-row 2 0 refl record { holds = row-2 (ltb-true _ _ e) refl refl; least = go }
+      where
+        go : (m q : ℕ) → Row s options works m q → (2 < m) ⊎ ((2 ≡ m) × (0 ≤ q))
+        go m q (row-1 w a b) = absurd (omega arith)
+        go m q (row-2 w a b) = inr (sym a, omega arith)
+        go m q (row-3 w a) = inl (omega arith)
+        go m q (row-4 w a) = inl (omega arith)
+        go m q (row-5 w a) = inl (omega arith)
+    second false e memory = found-first s options works memory (ltb-false _ _ e)
+
+    first : (z : Bool) → ltb works 65536 ≡ z → Found (Row s options works) s (choose z (refuse 1 0) (choose (ltb 63 options) (refuse 2 0) (checked s)))
+    first true e = least-row 1 0 refl record { holds = row-1 (ltb-true _ _ e) refl refl; least = go }
+      where
+        go : (m q : ℕ) → Row s options works m q → (1 < m) ⊎ ((1 ≡ m) × (0 ≤ q))
+        go m q (row-1 w a b) = inr (sym a, omega arith)
+        go m q (row-2 w a b) = inl (omega arith)
+        go m q (row-3 w a) = inl (omega arith)
+        go m q (row-4 w a) = inl (omega arith)
+        go m q (row-5 w a) = inl (omega arith)
+    first false e = second (ltb 63 options) refl (ltb-false _ _ e)
+
+same-refusal : (n p m q : ℕ) → refuse n p ≡ refuse m q → (n ≡ m) × (p ≡ q)
+same-refusal n p m q e =
+    let r : _≡_ {A = Refusal} (record { number = n; place = p }) (record { number = m; place = q }) = cc in
+    (ap (λ (x : Refusal). x .number) r, ap (λ (x : Refusal). x .place) r)
+
+apart : (n p d e : ℕ) → refuse n p ≡ Good d e → ⊥
+apart n p d e q = let z : _≡_ {A = ℕ} 0 1 = cc in omega arith
+
+same-good : (d e m n : ℕ) → Good d e ≡ Good m n → (d ≡ m) × (e ≡ n)
+same-good d e m n q = (cc, cc)
+
+-- "Given exactly when"
+pub exactly : (s : List ℕ) (options works : ℕ) → Exactly s options works
+exactly s options works = by (found s options works)
+  where
+    by : Found (Row s options works) s (admitted s options works) → Exactly s options works
+    by (least-row n p r l) =
+        record {
+          refused = λ m q e. let x = same-refusal n p m q (sym r ∙ e) in rw (x .0, x .1) at l;
+          given = λ m q k. let x = least-only l k in r ∙ rw (x .0, x .1);
+          good = λ d e q. absurd (apart n p d e (sym r ∙ q));
+          accepted = λ f. absurd (f n p (l .holds));
+        }
+    by (no-row r f) =
+        record {
+          refused = λ m q e. absurd (apart m q (documentCount s) (eventCount s) (sym e ∙ r));
+          given = λ m q k. absurd (f m q (k .holds));
+          good = λ d e q. let x = same-good d e (documentCount s) (eventCount s) (sym q ∙ r) in (x .0, x .1, f);
+          accepted = λ g. r;
+        }
