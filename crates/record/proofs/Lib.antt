@@ -13,3 +13,4 @@ pub mod Pairs
 pub mod Output
 pub mod Verdict
 pub mod Exactly
+pub mod ExactlyWritten

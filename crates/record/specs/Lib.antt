@@ -6,4 +6,5 @@ pub mod Sound
 pub mod Check
 pub mod Rows
 pub mod Outcome
+pub mod Written
 pub mod Promise

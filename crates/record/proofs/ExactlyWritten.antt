@@ -1,0 +1,148 @@
+-- The table's "given exactly when" for a call that writes: on top of the check's, by the three tests of `settled`.
+-- Assumes nothing.
+use mathlib.Core.Path.{_≡_, refl, sym, ap, _∙_}
+use mathlib.Core.Bool.{Bool, true, false}
+use mathlib.Core.Logic.{_⊎_, inl, inr, ⊎-elim}
+use mathlib.Core.List.{List}
+use Prim.Native.Nat.{ℕ, _+_, _*_, _≤_, _<_}
+use native.Mathlib.Omega.{arith}
+use lib.ListN.{length}
+use lib.Dec.{ltb}
+use borrow.Author.Tests.{ltb-true, ltb-false}
+use Rattle.record.specs.Choice.{choose}
+use Rattle.record.specs.Check.{refuse, admitted}
+use Rattle.record.specs.Rows.{Least, Row, row-1, row-2, row-3, row-4, row-5, placeOf, documentCount, eventCount}
+use Rattle.record.specs.Outcome.{Resolution, offends, gives, Outcome, accepted, refused, refusing, sized, settled, outcome}
+use Rattle.record.specs.Written.{Rows, checked, row-6, row-7, row-8, ExactlyWritten}
+use Rattle.record.specs.declared.event.Event.{Event}
+use Rattle.record.specs.declared.check.Refusal.{Refusal}
+use Rattle.record.specs.declared.check.Reading.{Reading}
+use Rattle.record.specs.declared.check.Reading.the-variants.{Good}
+use Rattle.record.proofs.Exactly.{Found, least-row, no-row, found, least-only}
+
+-- the check's numbers end at 5
+low : {s : List ℕ} {options works n p : ℕ} → Row s options works n p → n ≤ 5
+low (row-1 w a b) = omega arith
+low (row-2 w a b) = omega arith
+low (row-3 w a) = omega arith
+low (row-4 w a) = omega arith
+low (row-5 w a) = omega arith
+
+-- what a call comes to
+data Came (R : ℕ → ℕ → Type 0) (made : Resolution) (o : Outcome) : Type 0 where
+  least-row′ : (n p : ℕ) → o ≡ refusing n p → Least R n p → Came R made o
+  no-row′ : (es : List Event) → o ≡ accepted es → made ≡ gives es → ((n p : ℕ) → R n p → ⊥) → Came R made o
+
+same-gives : (es fs : List Event) → gives es ≡ gives fs → es ≡ fs
+same-gives es fs e = cc
+
+gives-offends : (es : List Event) (k : ℕ) → gives es ≡ offends k → ⊥
+gives-offends es k e = let z : _≡_ {A = ℕ} 0 1 = cc in omega arith
+
+same-offends : (j k : ℕ) → offends j ≡ offends k → j ≡ k
+same-offends j k e = cc
+
+module _ (s : List ℕ) (options works : ℕ) (none : (n p : ℕ) → Row s options works n p → ⊥) (outs : ℕ) where
+  came-offends : (k : ℕ) → Came (Rows s options works (offends k) outs) (offends k) (refusing 6 (placeOf (documentCount s) k))
+  came-offends k = least-row′ 6 _ refl record { holds = row-6 k refl refl refl; least = go }
+    where
+      go : (m q : ℕ) → Rows s options works (offends k) outs m q → (6 < m) ⊎ ((6 ≡ m) × (placeOf (documentCount s) k ≤ q))
+      go m q (checked r) = absurd (none m q r)
+      go m q (row-6 j e a b) =
+          let x : k ≡ j = same-offends k j e in
+          inr (sym a, omega arith)
+      go m q (row-7 es e h a b) = inl (omega arith)
+      go m q (row-8 es e h a b) = inl (omega arith)
+
+  came-gives : (es : List Event) → Came (Rows s options works (gives es) outs) (gives es) (sized es outs)
+  unfolding sized choose
+  came-gives es = first (ltb 8000 (length es)) refl
+    where
+      same-length : (fs : List Event) → gives es ≡ gives fs → length es ≡ length fs
+      same-length fs e = ap length (same-gives es fs e)
+
+      second : (z : Bool) → ltb outs (4 + 8 * length es) ≡ z → length es ≤ 8000 →
+          Came (Rows s options works (gives es) outs) (gives es) (choose z (refusing 8 0) (accepted es))
+      second true t few = least-row′ 8 0 refl record { holds = row-8 es refl (ltb-true _ _ t) refl refl; least = go }
+        where
+          go : (m q : ℕ) → Rows s options works (gives es) outs m q → (8 < m) ⊎ ((8 ≡ m) × (0 ≤ q))
+          go m q (checked r) = absurd (none m q r)
+          go m q (row-6 j e a b) = absurd (gives-offends es j e)
+          go m q (row-7 fs e h a b) = let l = same-length fs e in absurd (omega arith)
+          go m q (row-8 fs e h a b) = inr (sym a, omega arith)
+      second false t few = no-row′ es refl refl go
+        where
+          fits : 4 + 8 * length es ≤ outs
+          fits = ltb-false _ _ t
+
+          go : (m q : ℕ) → Rows s options works (gives es) outs m q → ⊥
+          go m q (checked r) = none m q r
+          go m q (row-6 j e a b) = gives-offends es j e
+          go m q (row-7 fs e h a b) = let l = same-length fs e in omega arith
+          go m q (row-8 fs e h a b) = let l = same-length fs e in omega (arith, fits)
+
+      first : (z : Bool) → ltb 8000 (length es) ≡ z →
+          Came (Rows s options works (gives es) outs) (gives es) (choose z (refusing 7 0) (choose (ltb outs (4 + 8 * length es)) (refusing 8 0) (accepted es)))
+      first true t = least-row′ 7 0 refl record { holds = row-7 es refl (ltb-true _ _ t) refl refl; least = go }
+        where
+          go : (m q : ℕ) → Rows s options works (gives es) outs m q → (7 < m) ⊎ ((7 ≡ m) × (0 ≤ q))
+          go m q (checked r) = absurd (none m q r)
+          go m q (row-6 j e a b) = absurd (gives-offends es j e)
+          go m q (row-7 fs e h a b) = inr (sym a, omega arith)
+          go m q (row-8 fs e h a b) = inl (omega arith)
+      first false t = second (ltb outs (4 + 8 * length es)) refl (ltb-false _ _ t)
+
+  came-settled : (made : Resolution) → Came (Rows s options works made outs) made (settled (documentCount s) made outs)
+  came-settled (offends k) = came-offends k
+  came-settled (gives es) = came-gives es
+
+came : (s : List ℕ) (options works : ℕ) (resolve : ℕ → ℕ → Resolution) (outs : ℕ) →
+    Came (Rows s options works (resolve (documentCount s) (eventCount s)) outs) (resolve (documentCount s) (eventCount s)) (outcome (admitted s options works) resolve outs)
+came s options works resolve outs = by (found s options works)
+  where
+    made : Resolution
+    made = resolve (documentCount s) (eventCount s)
+
+    by : Found (Row s options works) s (admitted s options works) → Came (Rows s options works made outs) made (outcome (admitted s options works) resolve outs)
+    by (least-row n p r l) = least-row′ n p (rw r) record { holds = checked (l .holds); least = go }
+      where
+        go : (m q : ℕ) → Rows s options works made outs m q → (n < m) ⊎ ((n ≡ m) × (p ≤ q))
+        go m q (checked x) = l .least m q x
+        go m q (row-6 j e a b) = let y = low (l .holds) in inl (omega arith)
+        go m q (row-7 fs e h a b) = let y = low (l .holds) in inl (omega arith)
+        go m q (row-8 fs e h a b) = let y = low (l .holds) in inl (omega arith)
+    by (no-row r f) = rw r (came-settled s options works f outs made)
+
+same-refusing : (n p m q : ℕ) → refusing n p ≡ refusing m q → (n ≡ m) × (p ≡ q)
+same-refusing n p m q e =
+    let r : _≡_ {A = Refusal} (record { number = n; place = p }) (record { number = m; place = q }) = cc in
+    (ap (λ (x : Refusal). x .number) r, ap (λ (x : Refusal). x .place) r)
+
+apart : (n p : ℕ) (es : List Event) → refusing n p ≡ accepted es → ⊥
+apart n p es q = let z : _≡_ {A = ℕ} 0 1 = cc in omega arith
+
+same-accepted : (es fs : List Event) → accepted es ≡ accepted fs → es ≡ fs
+same-accepted es fs q = cc
+
+-- "Given exactly when"
+pub exactly-written : (s : List ℕ) (options works : ℕ) (resolve : ℕ → ℕ → Resolution) (outs : ℕ) → ExactlyWritten s options works resolve outs
+exactly-written s options works resolve outs = by (came s options works resolve outs)
+  where
+    made : Resolution
+    made = resolve (documentCount s) (eventCount s)
+
+    by : Came (Rows s options works made outs) made (outcome (admitted s options works) resolve outs) → ExactlyWritten s options works resolve outs
+    by (least-row′ n p r l) =
+        record {
+          refused = λ m q e. let x = same-refusing n p m q (sym r ∙ e) in rw (x .0, x .1) at l;
+          given = λ m q k. let x = least-only l k in r ∙ rw (x .0, x .1);
+          good = λ es q. absurd (apart n p es (sym r ∙ q));
+          written = λ es e f. absurd (f n p (l .holds));
+        }
+    by (no-row′ es r m f) =
+        record {
+          refused = λ n q e. absurd (apart n q es (sym e ∙ r));
+          given = λ n q k. absurd (f n q (k .holds));
+          good = λ fs q. let x = same-accepted es fs (sym r ∙ q) in (m ∙ ap (λ (l : List Event). gives l) x, f);
+          written = λ fs e g. r ∙ ap (λ (l : List Event). accepted l) (same-gives es fs (sym m ∙ e));
+        }
