@@ -1,0 +1,158 @@
+-- Document 01's attention cases, computed. A text stands for the record that a tokenizer makes of it: each longest stretch of one marker is a
+-- run, each longest stretch of other bytes is Data.
+-- Assumes nothing.
+use Prim.Native.Nat.{ℕ, _+_}
+use Prim.Native.String.{String}
+use mathlib.Core.Path.{_≡_, refl}
+use mathlib.Core.Bool.{Bool, true, false, _||_}
+use mathlib.Core.List.{List, [], _∷_, _++_, map}
+use mathlib.Core.Option.{Option, none, some}
+use lib.Dec.{eqb}
+use lib.ListN.{length, getD}
+use Rattle.record.specs.Choice.{choose, and}
+use Rattle.record.specs.Event.{enter, exit, flat, sectionBytes}
+use Rattle.record.specs.Stack.{after}
+use Rattle.record.specs.declared.event.Event.{Event}
+use Rattle.classes.specs.Class.{classOf, whitespace, punctuation}
+use Rattle.runs.specs.Texts.{bytes}
+use Rattle.runs.specs.Runs.{Run, optionOn, byteAt, byteBefore, entersRun, runsFrom, runsOf, isMarker, allowed, leftAtOnce, allAre, shaped, offenderFrom, offender}
+use Rattle.runs.specs.Flanking.{classBeside, leftFlanking, rightFlanking, besideMarker, flanksLeft, flanksRight, canOpen, canClose}
+use Rattle.runs.specs.Rule.{Profile, threes, tildes, ruleOver, crateRule, standardRule, crate, standard}
+use Rattle.runs.specs.Plain.{Group, Outcome, group, opener, closer, sameContainer, candidate, takes, back, look, forth, amount, alter, matched, rounds, total, plain}
+use Rattle.runs.specs.Pieces.{Piece, standing, outcome, groupName, closings, openings, closed, opened, leftFrom, leftTo, remains}
+use Rattle.runs.specs.Output.{closingEvents, openingEvents, leftoverEvents, runEvents, noRun, replaced, output, emptied, resultSize}
+
+-- what a byte belongs to: a run of its own marker, or Data, which is 0
+unfoldable pub stretchOf : ℕ → ℕ
+stretchOf b = choose (isMarker b) b 0
+
+-- the name of a stretch
+unfoldable pub nameOf : ℕ → ℕ
+nameOf stretch = choose (eqb stretch 0) 0 1
+
+-- the events of what is left of a text from a place on, where a stretch is open
+unfoldable pub splitFrom : List ℕ → ℕ → ℕ → List Event
+splitFrom [] at stretch = exit (nameOf stretch) at ∷ []
+splitFrom (b ∷ bs) at stretch =
+    let on = splitFrom bs (at + 1) stretch in
+    let new = splitFrom bs (at + 1) (stretchOf b) in
+    choose (eqb (stretchOf b) stretch) on (exit (nameOf stretch) at ∷ enter (nameOf (stretchOf b)) at ∷ new)
+
+unfoldable pub split : List ℕ → List Event
+split [] = []
+split (b ∷ bs) = enter (nameOf (stretchOf b)) 0 ∷ splitFrom bs 1 (stretchOf b)
+
+-- of some events those that enter and leave groups: emphasis, strong and strikethrough
+unfoldable pub groupEvents : List Event → List Event
+groupEvents [] = []
+groupEvents (e ∷ es) =
+    let rest = groupEvents es in
+    choose (eqb (e .name) 2 || (eqb (e .name) 5 || eqb (e .name) 8)) (e ∷ rest) rest
+
+-- where the leftovers of some runs begin, the first of which has number q
+unfoldable pub leftovers : List Group → ℕ → List Run → List ℕ
+leftovers gs q [] = []
+leftovers gs q (r ∷ rs) =
+    let rest = leftovers gs (q + 1) rs in
+    choose (remains gs q r) (leftFrom gs q r ∷ rest) rest
+
+-- what a case shows: the groups as they are entered and left, where the leftovers begin, and the candidates tried
+pub record Shown : Type 0 where
+  pub groups : List Event
+  pub leftovers : List ℕ
+  pub tried : ℕ
+
+abbrev pub shows : List Event → List ℕ → ℕ → Shown
+shows gs ls t = record { groups = gs; leftovers = ls; tried = t }
+
+-- what a text comes to
+unfoldable pub shown : Profile → ℕ → String → Shown
+shown profile options s =
+    let doc = bytes s in
+    let es = split doc in
+    let whole = outcome profile options doc es in
+    shows (groupEvents (output profile options doc es)) (leftovers (whole .groups) 0 (runsOf doc es)) (whole .tried)
+
+-- a row of document 01's table: the text and what it shows
+pub record Row : Type 0 where
+  pub text : String
+  pub expected : Shown
+
+abbrev pub row : String → List Event → List ℕ → ℕ → Row
+row s gs ls t = record { text = s; expected = shows gs ls t }
+
+-- "Table, proved (12), options 59": those of its rows that are of attention. `**a*` leftover at 0, emphasis 1; `*a**` leftover at 3;
+-- `***a***` strong inside emphasis; `a**b*c` none; `a***b***c` two groups; `a_b_c` none; `~~~a~~~` none; `*a _b* c_` one group.
+unfoldable pub rows : List Row
+rows =
+    row "**a*" (enter 2 1 ∷ exit 2 4 ∷ []) (0 ∷ []) 1
+    ∷ row "*a**" (enter 2 0 ∷ exit 2 3 ∷ []) (3 ∷ []) 1
+    ∷ row "***a***" (enter 2 0 ∷ enter 5 1 ∷ exit 5 6 ∷ exit 2 7 ∷ []) [] 2
+    ∷ row "a**b*c" [] (1 ∷ 4 ∷ []) 1
+    ∷ row "a***b***c" (enter 2 1 ∷ enter 5 2 ∷ exit 5 7 ∷ exit 2 8 ∷ []) [] 2
+    ∷ row "a_b_c" [] (1 ∷ 3 ∷ []) 0
+    ∷ row "~~~a~~~" [] (0 ∷ 4 ∷ []) 1
+    ∷ row "*a _b* c_" (enter 2 0 ∷ exit 2 6 ∷ []) (3 ∷ 8 ∷ []) 1
+    ∷ []
+
+-- every row of the table shows what it says
+pub table : map (λ (r : Row). shown crate 59 (r .text)) rows ≡ map (λ (r : Row). r .expected) rows
+unfolding rows shown bytes split splitFrom stretchOf nameOf groupEvents leftovers choose and after classOf whitespace punctuation optionOn byteAt byteBefore entersRun runsFrom runsOf isMarker classBeside leftFlanking rightFlanking besideMarker flanksLeft flanksRight canOpen canClose threes tildes ruleOver opener closer sameContainer candidate takes back look forth amount alter matched rounds total plain standing outcome groupName closings openings closed opened remains closingEvents openingEvents leftoverEvents runEvents replaced output
+table = refl
+
+-- and the events that come out are as many as the formula says
+pub sizes : map (λ (r : Row). resultSize crate 59 (bytes (r .text)) (split (bytes (r .text)))) rows
+    ≡ map (λ (r : Row). length (output crate 59 (bytes (r .text)) (split (bytes (r .text))))) rows
+unfolding rows emptied resultSize bytes split splitFrom stretchOf nameOf groupEvents leftovers choose and after classOf whitespace punctuation optionOn byteAt byteBefore entersRun runsFrom runsOf isMarker classBeside leftFlanking rightFlanking besideMarker flanksLeft flanksRight canOpen canClose threes tildes ruleOver opener closer sameContainer candidate takes back look forth amount alter matched rounds total plain standing outcome groupName closings openings closed opened remains closingEvents openingEvents leftoverEvents runEvents replaced output
+sizes = refl
+
+-- the same under a profile and options of its own
+pub record Trial : Type 0 where
+  pub profile : Profile
+  pub options : ℕ
+  pub case : Row
+
+abbrev pub trial : Profile → ℕ → Row → Trial
+trial profile options r = record { profile = profile; options = options; case = r }
+
+-- "Departures already found". `a*_b_*`: crate two groups, standard one. `****a** b*c`: crate one group, standard two. `~a~` only with 4.
+-- Then one where `~` has no clause on neighbouring markers, and one of 22 runs.
+unfoldable pub trials : List Trial
+trials =
+    trial crate 59 (row "a*_b_*" (enter 2 1 ∷ enter 2 2 ∷ exit 2 5 ∷ exit 2 6 ∷ []) [] 2)
+    ∷ trial (record { amended = false; rule = crateRule }) 59 (row "a*_b_*" (enter 2 2 ∷ exit 2 5 ∷ []) (1 ∷ 5 ∷ []) 1)
+    ∷ trial standard 59 (row "a*_b_*" (enter 2 2 ∷ exit 2 5 ∷ []) (1 ∷ 5 ∷ []) 1)
+    ∷ trial crate 59 (row "****a** b*c" (enter 5 2 ∷ exit 5 7 ∷ []) (0 ∷ 9 ∷ []) 2)
+    ∷ trial (record { amended = true; rule = standardRule }) 59 (row "****a** b*c" (enter 2 1 ∷ enter 5 2 ∷ exit 5 7 ∷ exit 2 10 ∷ []) (0 ∷ []) 2)
+    ∷ trial standard 59 (row "****a** b*c" (enter 2 1 ∷ enter 5 2 ∷ exit 5 7 ∷ exit 2 10 ∷ []) (0 ∷ []) 2)
+    ∷ trial crate 59 (row "~a~" [] (0 ∷ 2 ∷ []) 1)
+    ∷ trial crate 63 (row "~a~" (enter 8 0 ∷ exit 8 3 ∷ []) [] 1)
+    ∷ trial crate 59 (row "a~~*b*~~" (enter 2 3 ∷ exit 2 6 ∷ []) (1 ∷ 6 ∷ []) 1)
+    ∷ trial crate 59 (row "*a **b _c* d__ *e ~~f _g* h~~ i* _j **k__ l*m** _n* **o__ p*q**" (enter 2 0 ∷ enter 2 3 ∷ enter 2 4 ∷ exit 2 10 ∷ enter 2 15 ∷ exit 2 25 ∷ exit 2 32 ∷ enter 2 33 ∷ exit 2 40 ∷ exit 2 44 ∷ enter 2 48 ∷ exit 2 56 ∷ []) (7 ∷ 12 ∷ 18 ∷ 22 ∷ 27 ∷ 36 ∷ 40 ∷ 45 ∷ 50 ∷ 52 ∷ 56 ∷ 59 ∷ 61 ∷ []) 7)
+    ∷ []
+
+pub departures : map (λ (t : Trial). shown (t .profile) (t .options) (t .case .text)) trials ≡ map (λ (t : Trial). t .case .expected) trials
+unfolding trials shown bytes split splitFrom stretchOf nameOf groupEvents leftovers choose and after classOf whitespace punctuation optionOn byteAt byteBefore entersRun runsFrom runsOf isMarker classBeside leftFlanking rightFlanking besideMarker flanksLeft flanksRight canOpen canClose threes tildes ruleOver opener closer sameContainer candidate takes back look forth amount alter matched rounds total plain standing outcome groupName closings openings closed opened remains closingEvents openingEvents leftoverEvents runEvents replaced output
+departures = refl
+
+-- "Whole case (+ enter, - exit): `*a*` with events +1@0, -1@1, +0@1, -0@2, +1@2, -1@3 gives 10 events", byte by byte: those events, and the
+-- section that is written
+pub wholeEvents : split (bytes "*a*") ≡ enter 1 0 ∷ exit 1 1 ∷ enter 0 1 ∷ exit 0 2 ∷ enter 1 2 ∷ exit 1 3 ∷ []
+unfolding bytes split splitFrom stretchOf nameOf choose isMarker
+wholeEvents = refl
+
+pub wholeSection : sectionBytes (output crate 59 (bytes "*a*") (split (bytes "*a*"))) ≡
+    10 ∷ 0 ∷ 0 ∷ 0
+    ∷ 0 ∷ 2 ∷ 0 ∷ 0 ∷ 0 ∷ 0 ∷ 0 ∷ 0
+    ∷ 0 ∷ 3 ∷ 0 ∷ 0 ∷ 0 ∷ 0 ∷ 0 ∷ 0
+    ∷ 1 ∷ 3 ∷ 0 ∷ 0 ∷ 1 ∷ 0 ∷ 0 ∷ 0
+    ∷ 0 ∷ 4 ∷ 0 ∷ 0 ∷ 1 ∷ 0 ∷ 0 ∷ 0
+    ∷ 0 ∷ 0 ∷ 0 ∷ 0 ∷ 1 ∷ 0 ∷ 0 ∷ 0
+    ∷ 1 ∷ 0 ∷ 0 ∷ 0 ∷ 2 ∷ 0 ∷ 0 ∷ 0
+    ∷ 1 ∷ 4 ∷ 0 ∷ 0 ∷ 2 ∷ 0 ∷ 0 ∷ 0
+    ∷ 0 ∷ 3 ∷ 0 ∷ 0 ∷ 2 ∷ 0 ∷ 0 ∷ 0
+    ∷ 1 ∷ 3 ∷ 0 ∷ 0 ∷ 3 ∷ 0 ∷ 0 ∷ 0
+    ∷ 1 ∷ 2 ∷ 0 ∷ 0 ∷ 3 ∷ 0 ∷ 0 ∷ 0
+    ∷ []
+unfolding flat sectionBytes bytes split splitFrom stretchOf nameOf choose and after classOf whitespace punctuation optionOn byteAt byteBefore entersRun runsFrom runsOf isMarker classBeside leftFlanking rightFlanking besideMarker flanksLeft flanksRight canOpen canClose threes tildes ruleOver opener closer sameContainer candidate takes back look forth amount alter matched rounds total plain standing outcome groupName closings openings closed opened remains closingEvents openingEvents leftoverEvents runEvents replaced output
+wholeSection = refl

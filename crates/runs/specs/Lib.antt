@@ -1,0 +1,9 @@
+pub mod Runs
+pub mod Flanking
+pub mod Paragraph
+pub mod Rule
+pub mod Plain
+pub mod Pieces
+pub mod Output
+pub mod Texts
+pub mod Cases

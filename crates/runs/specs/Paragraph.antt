@@ -1,0 +1,118 @@
+-- Document 01's own paragraph on opening and closing, and that it says what CommonMark's rules with amendment D4 say: for every marker, every
+-- byte or edge before and after, with option 2 on and off.
+-- Assumes nothing.
+use Prim.Native.Nat.{ℕ}
+use mathlib.Core.Path.{_≡_, refl, sym, ap, _∙_}
+use mathlib.Core.Bool.{Bool, true, false, not, _&&_, _||_, true≢false}
+use mathlib.Core.Option.{Option, none, some}
+use lib.Dec.{eqb}
+use Rattle.record.specs.Choice.{choose}
+use borrow.Author.Tests.{eqb-true}
+use Rattle.classes.specs.Class.{classOf, whitespace, punctuation}
+use Rattle.classes.specs.declared.Class.{Class}
+use Rattle.classes.specs.declared.Class.the-variants.{Other, Whitespace, Punctuation}
+use Rattle.runs.specs.Flanking.{isWhitespace, isPunctuation, classBeside, besideMarker, leftFlanking, rightFlanking, flanksLeft, flanksRight, canOpen, canClose}
+
+abbrev pub isOther : Class → Bool
+isOther Other = true
+isOther Whitespace = false
+isOther Punctuation = false
+
+-- "Open (000): after is other; or after is punctuation and before isn't other; or the marker isn't `~` and the next byte is `*`, `_`, or
+-- (option 2) `~`."
+unfoldable pub firstOpen : Bool → ℕ → Option ℕ → Option ℕ → Bool
+firstOpen strike marker before after =
+    isOther (classBeside after)
+    || ((isPunctuation (classBeside after) && not (isOther (classBeside before))) || besideMarker strike marker after)
+
+-- "Close: the same with before and after exchanged."
+abbrev pub firstClose : Bool → ℕ → Option ℕ → Option ℕ → Bool
+firstClose strike marker before after = firstOpen strike marker after before
+
+-- "For `_`, afterwards: open only if before isn't other or close was false; close only if after isn't other or open was false, both from the
+-- first results."
+unfoldable pub opens : Bool → ℕ → Option ℕ → Option ℕ → Bool
+opens strike marker before after =
+    let first = firstOpen strike marker before after in
+    choose (eqb marker 95) (first && (not (isOther (classBeside before)) || not (firstClose strike marker before after))) first
+
+unfoldable pub closes : Bool → ℕ → Option ℕ → Option ℕ → Bool
+closes strike marker before after =
+    let first = firstClose strike marker before after in
+    choose (eqb marker 95) (first && (not (isOther (classBeside after)) || not (firstOpen strike marker before after))) first
+
+-- the standard's sentence and the paper's are one: "not whitespace, and not punctuation or ..." leaves other, or punctuation
+flanks-first : (before after : Class) (m : Bool) →
+    leftFlanking before after || (true && m) ≡ isOther after || ((isPunctuation after && not (isOther before)) || m)
+unfolding leftFlanking
+flanks-first before Other m = refl
+flanks-first before Whitespace m = refl
+flanks-first Other Punctuation m = refl
+flanks-first Whitespace Punctuation m = refl
+flanks-first Punctuation Punctuation m = refl
+
+-- rule 2's "preceded by punctuation" and the paper's "before isn't other" are one where whitespace before means that the run can't close
+preceded : (first close : Bool) (before : Class) → (before ≡ Whitespace → close ≡ false) →
+    first && (not close || (close && isPunctuation before)) ≡ first && (not (isOther before) || not close)
+preceded first true Other h = refl
+preceded first true Whitespace h = absurd (true≢false (h refl))
+preceded first true Punctuation h = refl
+preceded first false Other h = refl
+preceded first false Whitespace h = refl
+preceded first false Punctuation h = refl
+
+-- a whitespace byte is no byte that isn't one
+another : (b x : ℕ) → classOf b ≡ Whitespace → isWhitespace (classOf x) ≡ false → eqb b x ≡ false
+another b x h f = go (eqb b x) refl
+  where
+    go : (z : Bool) → eqb b x ≡ z → eqb b x ≡ false
+    go false e = e
+    go true e =
+        let same : b ≡ x = eqb-true b x e in
+        absurd (true≢false (sym (ap isWhitespace h) ∙ ap (λ (y : ℕ). isWhitespace (classOf y)) same ∙ f))
+
+never : (m strike : Bool) → m && (strike && false) ≡ false
+never true true = refl
+never true false = refl
+never false strike = refl
+
+-- a marker is punctuation, so what is whitespace is no marker
+blank-unmarked : (strike : Bool) (marker : ℕ) (n : Option ℕ) → classBeside n ≡ Whitespace → besideMarker strike marker n ≡ false
+unfolding besideMarker classBeside classOf whitespace punctuation
+blank-unmarked strike marker none h = refl
+blank-unmarked strike marker (some b) h =
+    rw (another b 42 h refl, another b 95 h refl, another b 126 h refl) (never (not (eqb marker 126)) strike)
+
+-- where whitespace stands before, the first results say that the run can't close
+blank-open : (strike : Bool) (marker : ℕ) (before after : Option ℕ) → classBeside before ≡ Whitespace → firstClose strike marker before after ≡ false
+unfolding firstOpen
+blank-open strike marker before after h = rw (h, blank-unmarked strike marker before h)
+
+-- left-flanking with the amendment is the paper's first result for opening, and right-flanking its first result for closing
+left-first : (strike : Bool) (marker : ℕ) (before after : Option ℕ) → flanksLeft true strike marker before after ≡ firstOpen strike marker before after
+unfolding flanksLeft firstOpen
+left-first strike marker before after = flanks-first (classBeside before) (classBeside after) (besideMarker strike marker after)
+
+right-first : (strike : Bool) (marker : ℕ) (before after : Option ℕ) → flanksRight true strike marker before after ≡ firstClose strike marker before after
+unfolding flanksRight firstOpen leftFlanking rightFlanking
+right-first strike marker before after = flanks-first (classBeside after) (classBeside before) (besideMarker strike marker before)
+
+-- a run can open by CommonMark's rules with amendment D4 exactly when document 01's paragraph says so
+pub open-as-written : (strike : Bool) (marker : ℕ) (before after : Option ℕ) → canOpen true strike marker before after ≡ opens strike marker before after
+unfolding canOpen opens
+open-as-written strike marker before after =
+    rw (
+      left-first strike marker before after,
+      right-first strike marker before after,
+      preceded (firstOpen strike marker before after) (firstClose strike marker before after) (classBeside before) (blank-open strike marker before after),
+    )
+
+-- and the same of closing
+pub close-as-written : (strike : Bool) (marker : ℕ) (before after : Option ℕ) → canClose true strike marker before after ≡ closes strike marker before after
+unfolding canClose closes
+close-as-written strike marker before after =
+    rw (
+      left-first strike marker before after,
+      right-first strike marker before after,
+      preceded (firstClose strike marker before after) (firstOpen strike marker before after) (classBeside after) (blank-open strike marker after before),
+    )

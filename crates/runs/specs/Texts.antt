@@ -1,0 +1,10 @@
+-- A text between quotes as bytes. Assumes nothing.
+use Prim.Native.Nat.{ℕ}
+use Prim.Native.Char.{code}
+use Prim.Native.String.{String, [], _∷_}
+use mathlib.Core.List as list
+
+-- the bytes of a text, each of whose characters is ASCII
+unfoldable pub bytes : String → list.List ℕ
+bytes [] = list.[]
+bytes (c ∷ s) = list._∷_ (code c) (bytes s)
