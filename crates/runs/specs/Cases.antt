@@ -156,3 +156,40 @@ pub wholeSection : sectionBytes (output crate 59 (bytes "*a*") (split (bytes "*a
     ∷ []
 unfolding flat sectionBytes bytes split splitFrom stretchOf nameOf choose and after classOf whitespace punctuation optionOn byteAt byteBefore entersRun runsFrom runsOf isMarker classBeside leftFlanking rightFlanking besideMarker flanksLeft flanksRight canOpen canClose threes tildes ruleOver opener closer sameContainer candidate takes back look forth amount alter matched rounds total plain standing outcome groupName closings openings closed opened remains closingEvents openingEvents leftoverEvents runEvents replaced output
 wholeSection = refl
+
+-- a record and the event that breaks the shape rule, if one does
+pub record Shape : Type 0 where
+  pub text : String
+  pub options : ℕ
+  pub events : List Event
+  pub offends : Option ℕ
+
+abbrev pub shape : String → ℕ → List Event → Option ℕ → Shape
+shape s options es o = record { text = s; options = options; events = es; offends = o }
+
+-- "name 1 is entered, then at once left, at a later place; all bytes between are one marker; the byte after is not that marker (the byte
+-- before may be); its option is on (1 for `*` and `_`, 2 for `~`)": each part broken, and the earliest named
+unfoldable pub shapes : List Shape
+shapes =
+    shape "*" 1 (enter 1 0 ∷ exit 1 1 ∷ []) none
+    ∷ shape "**" 1 (enter 1 1 ∷ exit 1 2 ∷ []) none
+    ∷ shape "**" 1 (enter 1 0 ∷ exit 1 1 ∷ []) (some 0)
+    ∷ shape "*" 1 (enter 1 0 ∷ enter 0 0 ∷ exit 0 0 ∷ exit 1 1 ∷ []) (some 0)
+    ∷ shape "*" 1 (enter 1 0 ∷ enter 1 0 ∷ exit 1 1 ∷ exit 1 1 ∷ []) (some 0)
+    ∷ shape "*" 1 (enter 1 1 ∷ exit 1 1 ∷ []) (some 0)
+    ∷ shape "*_" 1 (enter 1 0 ∷ exit 1 2 ∷ []) (some 0)
+    ∷ shape "*a*" 1 (enter 1 0 ∷ exit 1 1 ∷ enter 24 1 ∷ enter 1 1 ∷ exit 1 2 ∷ exit 24 2 ∷ []) (some 3)
+    ∷ shape "*" 2 (enter 1 0 ∷ exit 1 1 ∷ []) (some 0)
+    ∷ shape "~" 5 (enter 1 0 ∷ exit 1 1 ∷ []) (some 0)
+    ∷ shape "~" 2 (enter 1 0 ∷ exit 1 1 ∷ []) none
+    ∷ []
+
+pub offenders : map (λ (s : Shape). offender (bytes (s .text)) (s .options) (s .events)) shapes ≡ map (λ (s : Shape). s .offends) shapes
+unfolding shapes bytes choose and optionOn byteAt entersRun isMarker allowed leftAtOnce allAre shaped offenderFrom offender
+offenders = refl
+
+-- runs of two containers never match, and a run in none has none: `*[a*b]*c`, where [ and ] stand for a container's enter and exit
+pub contained : map (λ (r : Run). r .container)
+    (runsOf (bytes "*a*b*") (enter 1 0 ∷ exit 1 1 ∷ enter 24 1 ∷ enter 1 2 ∷ exit 1 3 ∷ exit 24 4 ∷ enter 1 4 ∷ exit 1 5 ∷ [])) ≡ none ∷ some 2 ∷ none ∷ []
+unfolding bytes choose and after entersRun byteAt byteBefore runsFrom runsOf
+contained = refl
