@@ -4,11 +4,11 @@
 use Prim.Native.Nat.{ℕ, _+_}
 use Prim.Native.String.{String}
 use mathlib.Core.Path.{_≡_, refl}
-use mathlib.Core.Bool.{Bool, true, false, _||_}
-use mathlib.Core.List.{List, [], _∷_, _++_, map}
+use mathlib.Core.Bool.{true, false, _||_}
+use mathlib.Core.List.{List, [], _∷_, map}
 use mathlib.Core.Option.{Option, none, some}
 use lib.Dec.{eqb}
-use lib.ListN.{length, getD}
+use lib.ListN.{length}
 use Rattle.record.specs.Choice.{choose, and}
 use Rattle.record.specs.Event.{enter, exit, flat, sectionBytes}
 use Rattle.record.specs.Stack.{after}
@@ -18,9 +18,9 @@ use Rattle.runs.specs.Texts.{bytes}
 use Rattle.runs.specs.Runs.{Run, optionOn, byteAt, byteBefore, entersRun, runsFrom, runsOf, isMarker, allowed, leftAtOnce, allAre, shaped, offenderFrom, offender}
 use Rattle.runs.specs.Flanking.{classBeside, leftFlanking, rightFlanking, besideMarker, flanksLeft, flanksRight, canOpen, canClose}
 use Rattle.runs.specs.Rule.{Profile, threes, tildes, ruleOver, crateRule, standardRule, crate, standard}
-use Rattle.runs.specs.Plain.{Group, Outcome, group, opener, closer, sameContainer, candidate, takes, back, look, forth, amount, alter, matched, rounds, total, plain}
-use Rattle.runs.specs.Pieces.{Piece, standing, outcome, groupName, closings, openings, closed, opened, leftFrom, leftTo, remains}
-use Rattle.runs.specs.Output.{closingEvents, openingEvents, leftoverEvents, runEvents, noRun, replaced, output, emptied, resultSize}
+use Rattle.runs.specs.Plain.{Group, opener, closer, sameContainer, candidate, takes, back, look, forth, amount, alter, matched, rounds, total, plain}
+use Rattle.runs.specs.Pieces.{standing, outcome, groupName, closings, openings, closed, opened, leftFrom, remains}
+use Rattle.runs.specs.Output.{closingEvents, openingEvents, leftoverEvents, runEvents, replaced, output, emptied, resultSize}
 
 -- what a byte belongs to: a run of its own marker, or Data, which is 0
 unfoldable pub stretchOf : ℕ → ℕ

@@ -45,7 +45,7 @@ rightFlanking before after =
 -- Amendment D4: "the marker isn't `~` and the next byte is `*`, `_`, or (option 2) `~`". `strike` says whether option 2 is on.
 unfoldable pub besideMarker : Bool → ℕ → Option ℕ → Bool
 besideMarker strike marker none = false
-besideMarker strike marker (some b) = not (eqb marker 126) && (eqb b 42 || (eqb b 95 || (strike && eqb b 126)))
+besideMarker strike marker (some b) = not (eqb marker 126) && (eqb b 42 || (eqb b 95 || (eqb b 126 && strike)))
 
 -- left- and right-flanking, as a profile has them: `amended` says whether amendment D4 holds
 unfoldable pub flanksLeft : Bool → Bool → ℕ → Option ℕ → Option ℕ → Bool

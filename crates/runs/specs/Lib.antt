@@ -1,7 +1,7 @@
 pub mod Runs
 pub mod Flanking
-pub mod Paragraph
 pub mod Rule
+pub mod Paragraph
 pub mod Plain
 pub mod Pieces
 pub mod Output

@@ -1,9 +1,8 @@
 -- The events that come out, and how many. Document 01, section "Attention", "Output for each run" and "Result size".
 -- Assumes nothing.
-use Prim.Native.Nat.{ℕ, zero, suc, _+_, _-_, _*_}
-use mathlib.Core.Bool.{Bool}
+use Prim.Native.Nat.{ℕ, _+_, _-_, _*_}
 use mathlib.Core.List.{List, [], _∷_, _++_}
-use mathlib.Core.Option.{Option, none}
+use mathlib.Core.Option.{none}
 use lib.ListN.{length, getD}
 use lib.Dec.{eqb}
 use Rattle.record.specs.Choice.{choose}

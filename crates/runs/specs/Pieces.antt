@@ -2,11 +2,9 @@
 -- Document 01, section "Attention": "The opener gives its last bytes, the closer its first." "Output for each run: its closing pieces in match
 -- order .., then the leftover .., then its opening pieces, last match first".
 -- Assumes nothing.
-use Prim.Native.Nat.{ℕ, zero, suc, _+_, _-_}
+use Prim.Native.Nat.{ℕ, _+_, _-_}
 use mathlib.Core.Bool.{Bool}
 use mathlib.Core.List.{List, [], _∷_, _++_, map}
-use mathlib.Core.Option.{Option, none}
-use lib.ListN.{getD}
 use lib.Dec.{eqb, ltb}
 use Rattle.record.specs.Choice.{choose}
 use Rattle.record.specs.declared.event.Event.{Event}
