@@ -188,7 +188,7 @@ pub offenders : map (λ (s : Shape). offender (bytes (s .text)) (s .options) (s 
 unfolding shapes bytes choose and optionOn byteAt entersRun isMarker allowed leftAtOnce allAre shaped offenderFrom offender
 offenders = refl
 
--- runs of two containers never match, and a run in none has none: `*[a*b]*c`, where [ and ] stand for a container's enter and exit
+-- the containers of the runs of `*[a*b]*`, where [ and ] stand for the enter, event 2, and the exit of a container
 pub contained : map (λ (r : Run). r .container)
     (runsOf (bytes "*a*b*") (enter 1 0 ∷ exit 1 1 ∷ enter 24 1 ∷ enter 1 2 ∷ exit 1 3 ∷ exit 24 4 ∷ enter 1 4 ∷ exit 1 5 ∷ [])) ≡ none ∷ some 2 ∷ none ∷ []
 unfolding bytes choose and after entersRun byteAt byteBefore runsFrom runsOf
