@@ -14,3 +14,4 @@ pub mod Output
 pub mod Verdict
 pub mod Exactly
 pub mod ExactlyWritten
+pub mod Parts

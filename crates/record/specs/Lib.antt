@@ -8,3 +8,4 @@ pub mod Rows
 pub mod Outcome
 pub mod Written
 pub mod Promise
+pub mod Cases

@@ -1,13 +1,12 @@
 // The open events: a fixed stack of 64 names held beside a depth.
 //
-// A loop over events holds one as a local and stores into its fields in place, since a copy for each event would cost more than the rest of
-// the check; the methods are for those who hold one by value.
+// A loop over events holds one as a local and stores into its fields in place: a copy for each event would cost more than the rest of the
+// check. specs/Stack.antt reads it as a list, the innermost first; proofs/Names.antt says what a store and a step back do to that list.
 
 ghost use mathlib.Core.Path.{_≡_};
-ghost use mathlib.Core.List.{[], _∷_};
-ghost use Prim.Native.Nat.{_+_, _<_, _≤_};
+ghost use mathlib.Core.List.{[]};
 ghost use lib.ListN.{length};
-ghost use Rattle.record.specs.Stack.{openOf, innermost};
+ghost use Rattle.record.specs.Stack.{openOf};
 
 pub struct Open {
     pub names: [u8; 64],

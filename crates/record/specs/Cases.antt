@@ -1,0 +1,44 @@
+-- The check, computed: the whole case of document 01 and a few refusals at the smallest records that show them.
+-- Assumes nothing.
+use mathlib.Core.Path.{_≡_, refl}
+use mathlib.Core.List.{List, [], _∷_, _++_, map}
+use Prim.Native.Nat.{ℕ}
+use Rattle.record.specs.Choice.{choose, and}
+use Rattle.record.specs.Bytes.{u32Bytes}
+use Rattle.record.specs.Event.{enter, exit, flat, allStoredAt}
+use Rattle.record.specs.Stack.{fitsOpen, after}
+use Rattle.record.specs.Sound.{placed}
+use Rattle.record.specs.Check.{refuse, countAt, firstReturn, formed, judge, insideOf, endOf, eventCountOf, checked}
+use Rattle.record.specs.declared.check.Reading.{Reading}
+use Rattle.record.specs.declared.check.Reading.the-variants.{Good}
+
+-- a record and what its check finds
+pub record Case : Type 0 where
+  pub bytes : List ℕ
+  pub found : Reading
+
+abbrev pub case : List ℕ → Reading → Case
+case s r = record { bytes = s; found = r }
+
+unfoldable pub cases : List Case
+cases =
+    -- `*a*` with +1@0, -1@1, +0@1, -0@2, +1@2, -1@3
+    case (u32Bytes 3 ++ (42 ∷ 97 ∷ 42 ∷ u32Bytes 6) ++ flat (enter 1 0 ∷ exit 1 1 ∷ enter 0 1 ∷ exit 0 2 ∷ enter 1 2 ∷ exit 1 3 ∷ [])) (Good 3 6)
+    -- three bytes; a document that runs past by one; no second count; counts as large as can be; a byte too many
+    ∷ case (0 ∷ 0 ∷ 0 ∷ []) (refuse 3 0)
+    ∷ case (u32Bytes 5 ++ (97 ∷ 98 ∷ 99 ∷ 100 ∷ [])) (refuse 3 0)
+    ∷ case (u32Bytes 1 ++ (97 ∷ [])) (refuse 3 5)
+    ∷ case (u32Bytes 4294967295) (refuse 3 0)
+    ∷ case (u32Bytes 0 ++ u32Bytes 4294967295) (refuse 3 4)
+    ∷ case (u32Bytes 0 ++ u32Bytes 0 ++ (0 ∷ [])) (refuse 3 8)
+    -- a carriage return and a bad event: 4 comes first; a carriage return and a byte too many: 3 does
+    ∷ case (u32Bytes 1 ++ (13 ∷ u32Bytes 1) ++ flat (exit 0 0 ∷ [])) (refuse 4 4)
+    ∷ case (u32Bytes 1 ++ (13 ∷ u32Bytes 0) ++ (0 ∷ [])) (refuse 3 9)
+    -- an exit of another name; one left open, at the record's end
+    ∷ case (u32Bytes 0 ++ u32Bytes 2 ++ flat (enter 0 0 ∷ exit 2 0 ∷ [])) (refuse 5 16)
+    ∷ case (u32Bytes 0 ++ u32Bytes 1 ++ flat (enter 0 0 ∷ [])) (refuse 5 16)
+    ∷ []
+
+pub computed : map (λ (c : Case). checked (c .bytes)) cases ≡ map (λ (c : Case). c .found) cases
+unfolding cases flat checked countAt eventCountOf endOf insideOf firstReturn allStoredAt judge formed placed fitsOpen after choose and
+computed = refl
