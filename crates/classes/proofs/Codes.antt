@@ -2,8 +2,8 @@
 use mathlib.Core.Path.{_≡_, refl, sym}
 use Prim.Native.Nat.{ℕ, _≤_}
 use native.Mathlib.Omega.{arith}
-use borrow.Author.Tests.{ne-eqb, lt-leb}
-use Rattle.classes.specs.Class.{classOf, codeOf, whitespace, punctuation}
+use borrow.Author.Tests.{ne-eqb, le-leb}
+use Rattle.classes.specs.Class.{classOf, codeOf, amended}
 use Rattle.classes.specs.declared.Class.{Class}
 use Rattle.classes.specs.declared.Class.the-variants.{Other, Whitespace, Punctuation}
 
@@ -23,15 +23,5 @@ is-other Whitespace p q = absurd (p refl)
 is-other Punctuation p q = absurd (q refl)
 
 pub high-is-other : (b : ℕ) → 128 ≤ b → Other ≡ classOf b
-unfolding classOf whitespace punctuation
-high-is-other b h =
-    simp (
-      ne-eqb b 32 (λ e. omega arith),
-      ne-eqb b 9 (λ e. omega arith),
-      ne-eqb b 10 (λ e. omega arith),
-      ne-eqb b 12 (λ e. omega arith),
-      lt-leb b 47 (omega arith),
-      lt-leb b 64 (omega arith),
-      lt-leb b 96 (omega arith),
-      lt-leb b 126 (omega arith),
-    )
+unfolding classOf amended
+high-is-other b h = simp (ne-eqb b 13 (λ e. omega arith), le-leb 128 b h)

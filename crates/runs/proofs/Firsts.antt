@@ -8,7 +8,7 @@ use native.Mathlib.Omega.{arith}
 use lib.Dec.{eqb}
 use borrow.Author.Tests.{eq-eqb, ne-eqb}
 use Rattle.record.specs.Choice.{choose}
-use Rattle.classes.specs.Class.{classOf, whitespace, punctuation}
+use Rattle.classes.specs.Class.{classOf, standardClass, amended, whitespace, punctuation}
 use Rattle.classes.specs.declared.Class.the-variants.{Other, Whitespace, Punctuation}
 use Rattle.runs.specs.Flanking.{classBeside, besideMarker, flanksLeft, flanksRight, canOpen, canClose}
 use Rattle.runs.specs.Paragraph.{isOther, firstOpen, opens, closes, open-as-written, close-as-written, blank-shut, never, threes-as-written}
@@ -69,7 +69,7 @@ orFeed none = 10
 orFeed (some b) = b
 
 feed-class : (n : Option ℕ) → classBeside n ≡ classBeside (some (orFeed n))
-unfolding classBeside classOf whitespace punctuation
+unfolding classBeside classOf standardClass amended whitespace punctuation
 feed-class none = refl
 feed-class (some b) = refl
 

@@ -13,7 +13,7 @@ use Rattle.record.specs.Choice.{choose, and}
 use Rattle.record.specs.Event.{enter, exit, flat, sectionBytes}
 use Rattle.record.specs.Stack.{after}
 use Rattle.record.specs.declared.event.Event.{Event}
-use Rattle.classes.specs.Class.{classOf, whitespace, punctuation}
+use Rattle.classes.specs.Class.{classOf, standardClass, amended, whitespace, punctuation}
 use Rattle.runs.specs.Texts.{bytes}
 use Rattle.runs.specs.Runs.{Run, optionOn, byteAt, byteBefore, entersRun, runsFrom, runsOf, isMarker, allowed, leftAtOnce, allAre, shaped, offenderFrom, offender}
 use Rattle.runs.specs.Flanking.{classBeside, leftFlanking, rightFlanking, besideMarker, flanksLeft, flanksRight, canOpen, canClose}
@@ -97,13 +97,13 @@ rows =
 
 -- every row of the table shows what it says
 pub table : map (λ (r : Row). shown crate 59 (r .text)) rows ≡ map (λ (r : Row). r .expected) rows
-unfolding rows shown bytes split splitFrom stretchOf nameOf groupEvents leftovers choose and after classOf whitespace punctuation optionOn byteAt byteBefore entersRun runsFrom runsOf isMarker classBeside leftFlanking rightFlanking besideMarker flanksLeft flanksRight canOpen canClose threes tildes ruleOver opener closer sameContainer candidate takes back look forth amount alter matched rounds total plain standing outcome groupName closings openings closed opened remains closingEvents openingEvents leftoverEvents runEvents replaced output
+unfolding rows shown bytes split splitFrom stretchOf nameOf groupEvents leftovers choose and after classOf standardClass amended whitespace punctuation optionOn byteAt byteBefore entersRun runsFrom runsOf isMarker classBeside leftFlanking rightFlanking besideMarker flanksLeft flanksRight canOpen canClose threes tildes ruleOver opener closer sameContainer candidate takes back look forth amount alter matched rounds total plain standing outcome groupName closings openings closed opened remains closingEvents openingEvents leftoverEvents runEvents replaced output
 table = refl
 
 -- and the events that come out are as many as the formula says
 pub sizes : map (λ (r : Row). resultSize crate 59 (bytes (r .text)) (split (bytes (r .text)))) rows
     ≡ map (λ (r : Row). length (output crate 59 (bytes (r .text)) (split (bytes (r .text))))) rows
-unfolding rows emptied resultSize bytes split splitFrom stretchOf nameOf groupEvents leftovers choose and after classOf whitespace punctuation optionOn byteAt byteBefore entersRun runsFrom runsOf isMarker classBeside leftFlanking rightFlanking besideMarker flanksLeft flanksRight canOpen canClose threes tildes ruleOver opener closer sameContainer candidate takes back look forth amount alter matched rounds total plain standing outcome groupName closings openings closed opened remains closingEvents openingEvents leftoverEvents runEvents replaced output
+unfolding rows emptied resultSize bytes split splitFrom stretchOf nameOf groupEvents leftovers choose and after classOf standardClass amended whitespace punctuation optionOn byteAt byteBefore entersRun runsFrom runsOf isMarker classBeside leftFlanking rightFlanking besideMarker flanksLeft flanksRight canOpen canClose threes tildes ruleOver opener closer sameContainer candidate takes back look forth amount alter matched rounds total plain standing outcome groupName closings openings closed opened remains closingEvents openingEvents leftoverEvents runEvents replaced output
 sizes = refl
 
 -- the same under a profile and options of its own
@@ -132,7 +132,7 @@ trials =
     ∷ []
 
 pub departures : map (λ (t : Trial). shown (t .profile) (t .options) (t .case .text)) trials ≡ map (λ (t : Trial). t .case .expected) trials
-unfolding trials shown bytes split splitFrom stretchOf nameOf groupEvents leftovers choose and after classOf whitespace punctuation optionOn byteAt byteBefore entersRun runsFrom runsOf isMarker classBeside leftFlanking rightFlanking besideMarker flanksLeft flanksRight canOpen canClose threes tildes ruleOver opener closer sameContainer candidate takes back look forth amount alter matched rounds total plain standing outcome groupName closings openings closed opened remains closingEvents openingEvents leftoverEvents runEvents replaced output
+unfolding trials shown bytes split splitFrom stretchOf nameOf groupEvents leftovers choose and after classOf standardClass amended whitespace punctuation optionOn byteAt byteBefore entersRun runsFrom runsOf isMarker classBeside leftFlanking rightFlanking besideMarker flanksLeft flanksRight canOpen canClose threes tildes ruleOver opener closer sameContainer candidate takes back look forth amount alter matched rounds total plain standing outcome groupName closings openings closed opened remains closingEvents openingEvents leftoverEvents runEvents replaced output
 departures = refl
 
 -- "Whole case (+ enter, - exit): `*a*` with events +1@0, -1@1, +0@1, -0@2, +1@2, -1@3 gives 10 events", byte by byte: those events, and the
@@ -154,7 +154,7 @@ pub wholeSection : sectionBytes (output crate 59 (bytes "*a*") (split (bytes "*a
     ∷ 1 ∷ 3 ∷ 0 ∷ 0 ∷ 3 ∷ 0 ∷ 0 ∷ 0
     ∷ 1 ∷ 2 ∷ 0 ∷ 0 ∷ 3 ∷ 0 ∷ 0 ∷ 0
     ∷ []
-unfolding flat sectionBytes bytes split splitFrom stretchOf nameOf choose and after classOf whitespace punctuation optionOn byteAt byteBefore entersRun runsFrom runsOf isMarker classBeside leftFlanking rightFlanking besideMarker flanksLeft flanksRight canOpen canClose threes tildes ruleOver opener closer sameContainer candidate takes back look forth amount alter matched rounds total plain standing outcome groupName closings openings closed opened remains closingEvents openingEvents leftoverEvents runEvents replaced output
+unfolding flat sectionBytes bytes split splitFrom stretchOf nameOf choose and after classOf standardClass amended whitespace punctuation optionOn byteAt byteBefore entersRun runsFrom runsOf isMarker classBeside leftFlanking rightFlanking besideMarker flanksLeft flanksRight canOpen canClose threes tildes ruleOver opener closer sameContainer candidate takes back look forth amount alter matched rounds total plain standing outcome groupName closings openings closed opened remains closingEvents openingEvents leftoverEvents runEvents replaced output
 wholeSection = refl
 
 -- a record and the event that breaks the shape rule, if one does

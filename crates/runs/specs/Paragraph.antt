@@ -9,7 +9,7 @@ use native.Mathlib.Omega.{arith}
 use lib.Dec.{eqb, ltb}
 use Rattle.record.specs.Choice.{choose}
 use borrow.Author.Tests.{eqb-true, eqb-false}
-use Rattle.classes.specs.Class.{classOf, whitespace, punctuation}
+use Rattle.classes.specs.Class.{classOf, standardClass, amended, whitespace, punctuation}
 use Rattle.classes.specs.declared.Class.{Class}
 use Rattle.classes.specs.declared.Class.the-variants.{Other, Whitespace, Punctuation}
 use Rattle.runs.specs.Flanking.{isWhitespace, isPunctuation, classBeside, besideMarker, leftFlanking, rightFlanking, flanksLeft, flanksRight, canOpen, canClose}
@@ -80,7 +80,7 @@ never false = refl
 
 -- a marker is punctuation, so what is whitespace is no marker
 blank-unmarked : (strike : Bool) (marker : ℕ) (n : Option ℕ) → classBeside n ≡ Whitespace → besideMarker strike marker n ≡ false
-unfolding besideMarker classBeside classOf whitespace punctuation
+unfolding besideMarker classBeside classOf standardClass amended whitespace punctuation
 blank-unmarked strike marker none h = refl
 blank-unmarked strike marker (some b) h =
     rw (another b 42 h refl, another b 95 h refl, another b 126 h refl) (never (not (eqb marker 126)))

@@ -7,7 +7,7 @@ use Prim.Native.Nat.{ℕ, _<_}
 use lib.Dec.{T, eqb, eqb→eq}
 use lib.ListN.{length, getD}
 use borrow.Author.Needs.{needs}
-use Rattle.classes.specs.Class.{classOf, codeOf, whitespace, punctuation}
+use Rattle.classes.specs.Class.{classOf, codeOf, whitespace, punctuation, standardClass, amended}
 use Rattle.classes.proofs.Table.{at, every}
 use Rattle.classes.proofs.code.Statement.{statement}
 use Rattle.classes.proofs.code.Tie as tie
@@ -35,7 +35,7 @@ array-read-result : tie.Need-array-read-result
 array-read-result c = search needs
 
 returns : tie.Need-returns
-unfolding table right classOf whitespace punctuation
+unfolding table right classOf standardClass amended whitespace punctuation
 returns c =
     let h : c .args .byte < 128 = search needs in
     law table _ h tt
