@@ -13,7 +13,7 @@ use Rattle.record.specs.Choice.{choose}
 use Rattle.record.specs.Check.{refuse, admitted}
 use Rattle.record.specs.Rows.{Least, Row, row-1, row-2, row-3, row-4, row-5, placeOf, documentCount, eventCount}
 use Rattle.record.specs.Outcome.{Resolution, offends, gives, Outcome, accepted, refused, refusing, sized, settled, outcome}
-use Rattle.record.specs.Written.{Rows, checked, row-6, row-7, row-8, ExactlyWritten}
+use Rattle.record.specs.Written.{Judges, WrittenRow, by-check, row-6, row-7, row-8, ExactlyWritten}
 use Rattle.record.specs.declared.event.Event.{Event}
 use Rattle.record.specs.declared.check.Refusal.{Refusal}
 use Rattle.record.specs.declared.check.Reading.{Reading}
@@ -36,38 +36,32 @@ data Came (R : ℕ → ℕ → Type 0) (made : Resolution) (o : Outcome) : Type 
 same-gives : (es fs : List Event) → gives es ≡ gives fs → es ≡ fs
 same-gives es fs e = cc
 
-gives-offends : (es : List Event) (k : ℕ) → gives es ≡ offends k → ⊥
-gives-offends es k e = let z : _≡_ {A = ℕ} 0 1 = cc in omega arith
-
-same-offends : (j k : ℕ) → offends j ≡ offends k → j ≡ k
-same-offends j k e = cc
-
-module _ (s : List ℕ) (options works : ℕ) (none : (n p : ℕ) → Row s options works n p → ⊥) (outs : ℕ) where
-  came-offends : (k : ℕ) → Came (Rows s options works (offends k) outs) (offends k) (refusing 6 (placeOf (documentCount s) k))
-  came-offends k = least-row′ 6 _ refl record { holds = row-6 k refl refl refl; least = go }
+module _ (s : List ℕ) (options works : ℕ) (none : (n p : ℕ) → Row s options works n p → ⊥) (Offends : ℕ → Type 0) (outs : ℕ) where
+  came-offends : (k : ℕ) → Judges Offends (offends k) → Came (WrittenRow s options works Offends (offends k) outs) (offends k) (refusing 6 (placeOf (documentCount s) k))
+  came-offends k j = least-row′ 6 _ refl record { holds = row-6 k (j .earliest k refl .0) refl refl; least = go }
     where
-      go : (m q : ℕ) → Rows s options works (offends k) outs m q → (6 < m) ⊎ ((6 ≡ m) × (placeOf (documentCount s) k ≤ q))
-      go m q (checked r) = absurd (none m q r)
-      go m q (row-6 j e a b) =
-          let x : k ≡ j = same-offends k j e in
+      go : (m q : ℕ) → WrittenRow s options works Offends (offends k) outs m q → (6 < m) ⊎ ((6 ≡ m) × (placeOf (documentCount s) k ≤ q))
+      go m q (by-check r) = absurd (none m q r)
+      go m q (row-6 i e a b) =
+          let x : k ≤ i = j .earliest k refl .1 i e in
           inr (sym a, omega arith)
       go m q (row-7 es e h a b) = inl (omega arith)
       go m q (row-8 es e h a b) = inl (omega arith)
 
-  came-gives : (es : List Event) → Came (Rows s options works (gives es) outs) (gives es) (sized es outs)
+  came-gives : (es : List Event) → Judges Offends (gives es) → Came (WrittenRow s options works Offends (gives es) outs) (gives es) (sized es outs)
   unfolding sized choose
-  came-gives es = first (ltb 8000 (length es)) refl
+  came-gives es j = first (ltb 8000 (length es)) refl
     where
       same-length : (fs : List Event) → gives es ≡ gives fs → length es ≡ length fs
       same-length fs e = ap length (same-gives es fs e)
 
       second : (z : Bool) → ltb outs (4 + 8 * length es) ≡ z → length es ≤ 8000 →
-          Came (Rows s options works (gives es) outs) (gives es) (choose z (refusing 8 0) (accepted es))
+          Came (WrittenRow s options works Offends (gives es) outs) (gives es) (choose z (refusing 8 0) (accepted es))
       second true t few = least-row′ 8 0 refl record { holds = row-8 es refl (ltb-true _ _ t) refl refl; least = go }
         where
-          go : (m q : ℕ) → Rows s options works (gives es) outs m q → (8 < m) ⊎ ((8 ≡ m) × (0 ≤ q))
-          go m q (checked r) = absurd (none m q r)
-          go m q (row-6 j e a b) = absurd (gives-offends es j e)
+          go : (m q : ℕ) → WrittenRow s options works Offends (gives es) outs m q → (8 < m) ⊎ ((8 ≡ m) × (0 ≤ q))
+          go m q (by-check r) = absurd (none m q r)
+          go m q (row-6 i e a b) = absurd (j .none es refl i e)
           go m q (row-7 fs e h a b) = let l = same-length fs e in absurd (omega arith)
           go m q (row-8 fs e h a b) = inr (sym a, omega arith)
       second false t few = no-row′ es refl refl go
@@ -75,43 +69,44 @@ module _ (s : List ℕ) (options works : ℕ) (none : (n p : ℕ) → Row s opti
           fits : 4 + 8 * length es ≤ outs
           fits = ltb-false _ _ t
 
-          go : (m q : ℕ) → Rows s options works (gives es) outs m q → ⊥
-          go m q (checked r) = none m q r
-          go m q (row-6 j e a b) = gives-offends es j e
+          go : (m q : ℕ) → WrittenRow s options works Offends (gives es) outs m q → ⊥
+          go m q (by-check r) = none m q r
+          go m q (row-6 i e a b) = j .none es refl i e
           go m q (row-7 fs e h a b) = let l = same-length fs e in omega arith
           go m q (row-8 fs e h a b) = let l = same-length fs e in omega (arith, fits)
 
       first : (z : Bool) → ltb 8000 (length es) ≡ z →
-          Came (Rows s options works (gives es) outs) (gives es) (choose z (refusing 7 0) (choose (ltb outs (4 + 8 * length es)) (refusing 8 0) (accepted es)))
+          Came (WrittenRow s options works Offends (gives es) outs) (gives es) (choose z (refusing 7 0) (choose (ltb outs (4 + 8 * length es)) (refusing 8 0) (accepted es)))
       first true t = least-row′ 7 0 refl record { holds = row-7 es refl (ltb-true _ _ t) refl refl; least = go }
         where
-          go : (m q : ℕ) → Rows s options works (gives es) outs m q → (7 < m) ⊎ ((7 ≡ m) × (0 ≤ q))
-          go m q (checked r) = absurd (none m q r)
-          go m q (row-6 j e a b) = absurd (gives-offends es j e)
+          go : (m q : ℕ) → WrittenRow s options works Offends (gives es) outs m q → (7 < m) ⊎ ((7 ≡ m) × (0 ≤ q))
+          go m q (by-check r) = absurd (none m q r)
+          go m q (row-6 i e a b) = absurd (j .none es refl i e)
           go m q (row-7 fs e h a b) = inr (sym a, omega arith)
           go m q (row-8 fs e h a b) = inl (omega arith)
       first false t = second (ltb outs (4 + 8 * length es)) refl (ltb-false _ _ t)
 
-  came-settled : (made : Resolution) → Came (Rows s options works made outs) made (settled (documentCount s) made outs)
-  came-settled (offends k) = came-offends k
-  came-settled (gives es) = came-gives es
+  came-settled : (made : Resolution) → Judges Offends made → Came (WrittenRow s options works Offends made outs) made (settled (documentCount s) made outs)
+  came-settled (offends k) j = came-offends k j
+  came-settled (gives es) j = came-gives es j
 
-came : (s : List ℕ) (options works : ℕ) (resolve : ℕ → ℕ → Resolution) (outs : ℕ) →
-    Came (Rows s options works (resolve (documentCount s) (eventCount s)) outs) (resolve (documentCount s) (eventCount s)) (outcome (admitted s options works) resolve outs)
-came s options works resolve outs = by (found s options works)
+came : (s : List ℕ) (options works : ℕ) (Offends : ℕ → Type 0) (resolve : ℕ → ℕ → Resolution) (outs : ℕ) →
+    Judges Offends (resolve (documentCount s) (eventCount s)) →
+    Came (WrittenRow s options works Offends (resolve (documentCount s) (eventCount s)) outs) (resolve (documentCount s) (eventCount s)) (outcome (admitted s options works) resolve outs)
+came s options works Offends resolve outs j = by (found s options works)
   where
     made : Resolution
     made = resolve (documentCount s) (eventCount s)
 
-    by : Found (Row s options works) s (admitted s options works) → Came (Rows s options works made outs) made (outcome (admitted s options works) resolve outs)
-    by (least-row n p r l) = least-row′ n p (rw r) record { holds = checked (l .holds); least = go }
+    by : Found (Row s options works) s (admitted s options works) → Came (WrittenRow s options works Offends made outs) made (outcome (admitted s options works) resolve outs)
+    by (least-row n p r l) = least-row′ n p (rw r) record { holds = by-check (l .holds); least = go }
       where
-        go : (m q : ℕ) → Rows s options works made outs m q → (n < m) ⊎ ((n ≡ m) × (p ≤ q))
-        go m q (checked x) = l .least m q x
-        go m q (row-6 j e a b) = let y = low (l .holds) in inl (omega arith)
+        go : (m q : ℕ) → WrittenRow s options works Offends made outs m q → (n < m) ⊎ ((n ≡ m) × (p ≤ q))
+        go m q (by-check x) = l .least m q x
+        go m q (row-6 i e a b) = let y = low (l .holds) in inl (omega arith)
         go m q (row-7 fs e h a b) = let y = low (l .holds) in inl (omega arith)
         go m q (row-8 fs e h a b) = let y = low (l .holds) in inl (omega arith)
-    by (no-row r f) = rw r (came-settled s options works f outs made)
+    by (no-row r f) = rw r (came-settled s options works f Offends outs made j)
 
 same-refusing : (n p m q : ℕ) → refusing n p ≡ refusing m q → (n ≡ m) × (p ≡ q)
 same-refusing n p m q e =
@@ -125,13 +120,14 @@ same-accepted : (es fs : List Event) → accepted es ≡ accepted fs → es ≡ 
 same-accepted es fs q = cc
 
 -- "Given exactly when"
-pub exactly-written : (s : List ℕ) (options works : ℕ) (resolve : ℕ → ℕ → Resolution) (outs : ℕ) → ExactlyWritten s options works resolve outs
-exactly-written s options works resolve outs = by (came s options works resolve outs)
+pub exactly-written : (s : List ℕ) (options works : ℕ) (Offends : ℕ → Type 0) (resolve : ℕ → ℕ → Resolution) (outs : ℕ) →
+    Judges Offends (resolve (documentCount s) (eventCount s)) → ExactlyWritten s options works Offends resolve outs
+exactly-written s options works Offends resolve outs j = by (came s options works Offends resolve outs j)
   where
     made : Resolution
     made = resolve (documentCount s) (eventCount s)
 
-    by : Came (Rows s options works made outs) made (outcome (admitted s options works) resolve outs) → ExactlyWritten s options works resolve outs
+    by : Came (WrittenRow s options works Offends made outs) made (outcome (admitted s options works) resolve outs) → ExactlyWritten s options works Offends resolve outs
     by (least-row′ n p r l) =
         record {
           refused = λ m q e. let x = same-refusing n p m q (sym r ∙ e) in rw (x .0, x .1) at l;

@@ -64,6 +64,19 @@ judged-sound (suc n) s d at last held good a b q =
     (and-both _ _ (and-right _ _ t)
     (judged-sound n s d (at + 8) (u32At s (at + 4)) (after (storedAt s at .what) (getD s (at + 1) 0) held) good a b (held-side _ _ _ _ _ _ q)))
 
+-- and each event's two bytes are zero
+judged-zeros : (n : ℕ) (s : List ℕ) (d at last : ℕ) (held : List ℕ) (good : Reading) (a b : ℕ) →
+    judge (allStoredAt n s at) d at last held good ≡ Good a b → (k : ℕ) → k < n → storedAt s (at + 8 * k) .zeros ≡ 0
+unfolding judge allStoredAt formed
+judged-zeros zero s d at last held good a b q k h = absurd (omega arith)
+judged-zeros (suc n) s d at last held good a b q zero h =
+    let z : at + 8 * 0 ≡ at = omega arith in
+    rw z (eqb-true _ _ (and-left _ _ (and-left _ _ (held-test _ _ _ _ _ _ q))))
+judged-zeros (suc n) s d at last held good a b q (suc k) h =
+    let z : at + 8 * suc k ≡ at + 8 + 8 * k = omega arith in
+    rw z
+    (judged-zeros n s d (at + 8) (u32At s (at + 4)) (after (storedAt s at .what) (getD s (at + 1) 0) held) good a b (held-side _ _ _ _ _ _ q) k (omega arith))
+
 -- a scan that finds none passes every byte
 none-by : (z : Bool) (at n f : ℕ) → at + suc n ≤ choose z at f → (z ≡ false) × (at + 1 + n ≤ f)
 unfolding choose
@@ -81,7 +94,7 @@ none-returned (suc n) s at h (suc k) l e =
     let z : at + suc k ≡ at + 1 + k = omega arith in
     none-returned n s (at + 1) (none-by _ _ _ _ h .1) k (omega arith) (ap (λ (m : ℕ). getD s m 0) (sym z) ∙ e)
 
--- all that a good record is
+-- what a good record is
 pub record Told (s : List ℕ) (d e : ℕ) : Type 0 where
   pub document-count : u32At s 0 ≡ d
   pub event-count : u32At s (4 + d) ≡ e
@@ -90,6 +103,7 @@ pub record Told (s : List ℕ) (d e : ℕ) : Type 0 where
   pub whole : length s ≡ 8 + d + 8 * e
   pub no-return : (k : ℕ) → k < d → getD s (4 + k) 0 ≡ 13 → ⊥
   pub sound-events : sound 64 d (eventsOf s d e) ≡ true
+  pub zero-bytes : (k : ℕ) → k < e → storedAt s (8 + d + 8 * k) .zeros ≡ 0
 
 told-end : (s : List ℕ) (d′ e′ d e : ℕ) → Fitted s 0 16384 1 d′ → Fitted s (4 + d′) 2048 8 e′ → endOf s d′ e′ ≡ Good d e → Told s d e
 unfolding endOf insideOf eventsOf
@@ -102,6 +116,7 @@ told-end s d′ e′ d e fd fe q =
     let whole′ : length s ≡ 8 + d′ + 8 * e′ = eqb-true _ _ (held-test _ _ _ _ _ _ q) in
     let none′ : 4 + d′ ≤ firstReturn d′ s 4 = ltb-false _ _ (other-test _ _ _ _ _ _ r₁) in
     let sound′ : soundFrom 64 d′ 0 [] (eventsAt e′ s (8 + d′)) ≡ true = judged-sound _ _ _ _ _ _ _ _ _ r₂ in
+    let zeros′ : (k : ℕ) → k < e′ → storedAt s (8 + d′ + 8 * k) .zeros ≡ 0 = judged-zeros _ _ _ _ _ _ _ _ _ r₂ in
     let count-d : u32At s 0 ≡ d′ = fd .count in
     let count-e : u32At s (4 + d′) ≡ e′ = fe .count in
     let small′ : d′ ≤ 16384 = fd .within in
@@ -114,6 +129,7 @@ told-end s d′ e′ d e fd fe q =
       whole = rw (gd, ge) at whole′;
       no-return = none-returned d s 4 (rw gd at none′);
       sound-events = rw (gd, ge) at sound′;
+      zero-bytes = rw (gd, ge) at zeros′;
     }
 
 -- which count it was

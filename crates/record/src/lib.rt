@@ -1,10 +1,11 @@
 // The record: its limits and names, the check that every call begins with, and the reading and writing of its parts.
 //
-// Upper crates go by the promises made here and by the laws in proofs/ (Good, Rows, Splice); they see no body.
+// Upper crates go by the promises made here and by the laws in proofs/; they see no body. Good, Soundness, Pairs and Parts say what a good
+// record is, Splice and Sections how writes come together, Exactly and ExactlyWritten which refusal is given when.
 
-pub mod limits; // limits, names, options
+pub mod limits; // limits, kinds, names, options
 pub mod bytes; // numbers of four bytes, wiping
-pub mod event; // one event read, one event written, a section
+pub mod event; // one event read, one event written, events copied
 pub mod stack; // the open events
-pub mod check; // numbers 1 to 5
-pub mod call; // the public call
+pub mod check; // numbers 1 to 5, refusals
+pub mod call; // the public call `read`

@@ -52,7 +52,7 @@ pub const BLANK_LINE_ENDING: u8 = 22;
 
 pub const BLOCK_QUOTE_PREFIX: u8 = 23;
 
-pub const CONTAINER: u8 = 24;
+pub const OTHER_CONTAINER: u8 = 24;
 
 pub const LAST_NAME: u8 = 24;
 

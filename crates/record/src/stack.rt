@@ -4,9 +4,7 @@
 // check. specs/Stack.antt reads it as a list, the innermost first; proofs/Names.antt says what a store and a step back do to that list.
 
 ghost use mathlib.Core.Path.{_≡_};
-ghost use mathlib.Core.List.{[]};
-ghost use lib.ListN.{length};
-ghost use Rattle.record.specs.Stack.{openOf};
+ghost use lib.ListN.{replicate};
 
 pub struct Open {
     pub names: [u8; 64],
@@ -14,8 +12,9 @@ pub struct Open {
 }
 
 impl Open {
+    // None open.
     pub fn new() -> Open
-        ensures { λ r. ⌜ (r .depth ≡ 0) × (length (r .names) ≡ 64) × (openOf r ≡ []) ⌝ }
+        ensures { λ r. ⌜ (r .depth ≡ 0) × (r .names ≡ replicate 64 0) ⌝ }
     {
         Open {
             names: [0u8; 64],

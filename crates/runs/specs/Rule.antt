@@ -22,7 +22,8 @@ unfoldable pub threes : Bool → ℕ → ℕ → Bool
 threes both opener closer = both && (eqb ((opener + closer) % 3) 0 && not (eqb (opener % 3) 0 && eqb (closer % 3) 0))
 
 -- GFM: "Strikethrough text is any text wrapped in a matching pair of one or two tildes", "three or more tildes do not create a strikethrough".
--- Document 01 skips "`~`, and the sizes differ, exceed 2, or are 1 without option 4". `single` says whether option 4 is on.
+-- Amendment D7: document 01 skips "`~`, and the sizes differ, exceed 2, or are 1 without option 4". `single` says whether option 4 is on; where
+-- it is, this is GFM's rule.
 unfoldable pub tildes : Bool → ℕ → ℕ → ℕ → Bool
 tildes single marker opener closer =
     eqb marker 126 && (not (eqb opener closer) || (ltb 2 closer || (eqb closer 1 && not single)))

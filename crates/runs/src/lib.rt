@@ -25,7 +25,7 @@ pub enum Next {
     },
 }
 
-// Whether a neighbour is a marker that lets a run of another open or close beside it.
+// Whether a neighbour is a marker that lets a run of this marker open or close beside it.
 fn beside_marker(strike: bool, marker: u8, byte: u8) -> bool
     ensures { λ r. ⌜ r ≡ besideMarker strike marker (some byte) ⌝ }
 {

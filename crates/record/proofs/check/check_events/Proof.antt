@@ -1,7 +1,8 @@
 -- `record::check::check_events` meets its contract. The invariant: what is left to judge, with the names that are open, finds what the whole
 -- judgement finds; the measure is the number of events left.
 -- Assumes nothing.
-use mathlib.Core.Path.{refl, sym, _∙_}
+use mathlib.Core.Path.{refl, sym, ap, _∙_}
+use lib.ListN.{length}
 use mathlib.Core.Logic.{⊎-elim}
 use native.Mathlib.Omega.{arith}
 use borrow.Author.Tests.{not-true, not-false}
@@ -29,7 +30,7 @@ add-at : tie.Need-add-at Inv-loop μ-loop
 add-at c = search needs
 
 loop-holds : tie.Need-loop-holds Inv-loop μ-loop
-loop-holds c = start _ _ _ _ _ (c .new .ensures .0) (c .new .ensures .1)
+loop-holds c = start _ _ _ _ _ (c .new .ensures .0) (ap length (c .new .ensures .1))
 
 well-formed-requires : tie.Need-well-formed-requires Inv-loop μ-loop
 well-formed-requires c κs = search needs
