@@ -1,0 +1,4 @@
+pub mod Search
+pub mod Laws
+pub mod Matches
+pub mod Accounts
