@@ -2,3 +2,4 @@ pub mod Search
 pub mod Laws
 pub mod Matches
 pub mod Accounts
+pub mod Groups
