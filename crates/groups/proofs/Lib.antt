@@ -3,3 +3,4 @@ pub mod Laws
 pub mod Matches
 pub mod Accounts
 pub mod Groups
+pub mod Tildes

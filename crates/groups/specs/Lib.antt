@@ -1,3 +1,4 @@
 pub mod Matches
 pub mod Accounts
 pub mod Groups
+pub mod Tildes
