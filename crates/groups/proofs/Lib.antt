@@ -4,3 +4,4 @@ pub mod Matches
 pub mod Accounts
 pub mod Groups
 pub mod Tildes
+pub mod Places
