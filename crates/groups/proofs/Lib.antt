@@ -5,3 +5,4 @@ pub mod Accounts
 pub mod Groups
 pub mod Tildes
 pub mod Places
+pub mod Crossing

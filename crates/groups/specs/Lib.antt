@@ -3,3 +3,4 @@ pub mod Accounts
 pub mod Groups
 pub mod Tildes
 pub mod Places
+pub mod Spans
