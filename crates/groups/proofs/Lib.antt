@@ -6,3 +6,4 @@ pub mod Groups
 pub mod Tildes
 pub mod Places
 pub mod Crossing
+pub mod Spans
