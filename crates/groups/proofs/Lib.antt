@@ -7,3 +7,4 @@ pub mod Tildes
 pub mod Places
 pub mod Crossing
 pub mod Spans
+pub mod Opened

@@ -4,3 +4,4 @@ pub mod Groups
 pub mod Tildes
 pub mod Places
 pub mod Spans
+pub mod Containers
