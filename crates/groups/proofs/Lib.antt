@@ -8,3 +8,4 @@ pub mod Places
 pub mod Crossing
 pub mod Spans
 pub mod Opened
+pub mod Containers
