@@ -9,3 +9,4 @@ pub mod Crossing
 pub mod Spans
 pub mod Opened
 pub mod Containers
+pub mod Ending

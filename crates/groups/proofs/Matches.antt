@@ -17,7 +17,7 @@ use Rattle.groups.specs.Matches.{Found, Matches, start, then, Matched, b
 use Rattle.groups.proofs.Search.{next-found}
 use Rattle.groups.proofs.Laws.{length-matched}
 
-within : {rule : Rule} {rs₀ : List Standing} {gs : List Group} {rs : List Standing} {c : ℕ} → Matches rule rs₀ gs rs c → c ≤ length rs
+pub within : {rule : Rule} {rs₀ : List Standing} {gs : List Group} {rs : List Standing} {c : ℕ} → Matches rule rs₀ gs rs c → c ≤ length rs
 within start = omega arith
 within (then {gs} {rs} {from} o c m f) = omega (arith, f .within, length-matched rs o c)
 

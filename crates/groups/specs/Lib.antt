@@ -5,3 +5,4 @@ pub mod Tildes
 pub mod Places
 pub mod Spans
 pub mod Containers
+pub mod Ending
