@@ -2,15 +2,13 @@
 -- of them is open at the other, and one that is open at neither was left before the opener, stands between them with its exit, or comes later.
 -- Assumes nothing.
 use Prim.Native.Nat.{ℕ, suc, _+_, _-_, _≤_, _<_}
-use mathlib.Core.Path.{_≡_, refl, sym, ap, _∙_}
-use mathlib.Core.Bool.{Bool, true, false}
+use mathlib.Core.Path.{_≡_, sym, ap, _∙_}
+use mathlib.Core.Bool.{true, false}
 use mathlib.Core.List.{List, []}
 use mathlib.Core.Logic.{_⊎_, inl, inr}
 use native.Mathlib.Omega.{arith}
-use lib.Dec.{eqb}
-use lib.ListN.{length, take, length-map}
+use lib.ListN.{length}
 use borrow.Author.Tests.{eqb-true}
-use Rattle.record.specs.Choice.{and}
 use Rattle.record.specs.Sound.{sound}
 use Rattle.record.specs.Stack.{nth, openAt}
 use Rattle.record.specs.declared.event.Event.{Event}
@@ -48,7 +46,7 @@ data Sides (n m a b : ℕ) : Type 0 where
   about : a < n → m < b → Sides n m a b
 
 module _ (es : List Event) (n m a b : ℕ) (p : Pair es a b) (l : m ≤ length es) (lt : n < m) (same : openAt es n ≡ openAt es m)
-  (an : a ≡ n → ⊥) (am : a ≡ m → ⊥) (bn : b ≡ n → ⊥) (bm : b ≡ m → ⊥) where
+    (an : a ≡ n → ⊥) (am : a ≡ m → ⊥) (bn : b ≡ n → ⊥) (bm : b ≡ m → ⊥) where
   early : a < n → n < b → m < b
   early x y = go (below b m)
     where
@@ -109,13 +107,21 @@ clear deep d es rs gs i a b s fits wo wc p (first x) =
 clear deep d es rs gs i a b s fits wo wc p (last x) =
     let e = enter-before es a b p in
     behind x
-    (omega (arith, ends-before deep d es s (closerOf rs gs i) wc a x (omega (arith, p .within)), closed-most gs (suc i) (groups.nth gs i .closer),
-    fits (groups.nth gs i .closer)))
+    (omega (
+      arith,
+      ends-before deep d es s (closerOf rs gs i) wc a x (omega (arith, p .within)),
+      closed-most gs (suc i) (groups.nth gs i .closer),
+      fits (groups.nth gs i .closer),
+    ))
 clear deep d es rs gs i a b s fits wo wc p (about x y) =
     around x y
     (omega (arith, starts-behind deep d es s (openerOf rs gs i) wo a x, opened-most gs (suc i) (groups.nth gs i .opener), fits (groups.nth gs i .opener)))
-    (omega (arith, ends-before deep d es s (closerOf rs gs i) wc b y (p .within), closed-most gs (suc i) (groups.nth gs i .closer),
-    fits (groups.nth gs i .closer)))
+    (omega (
+      arith,
+      ends-before deep d es s (closerOf rs gs i) wc b y (p .within),
+      closed-most gs (suc i) (groups.nth gs i .closer),
+      fits (groups.nth gs i .closer),
+    ))
 
 -- what a run's enter is not: the exit of a pair, or the enter of a pair that is no run
 module _ (es : List Event) (r : Run) (w : Stands es r) where

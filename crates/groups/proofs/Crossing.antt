@@ -2,26 +2,26 @@
 -- group's opener, or at or behind its closer; and closers do not fall. Of bytes: runs stand one behind the other, and the pieces of one run
 -- stand as its groups were matched, openings from its end, closings from its start, and together they are not larger than the run.
 -- Assumes nothing.
-use Prim.Native.Nat.{ℕ, zero, suc, _+_, _-_, _≤_, _<_}
-use mathlib.Core.Path.{_≡_, refl, sym, ap, _∙_}
-use mathlib.Core.Bool.{Bool, true, false}
-use mathlib.Core.List.{List, [], _∷_, _++_}
+use Prim.Native.Nat.{ℕ, suc, _+_, _-_, _≤_, _<_}
+use mathlib.Core.Path.{_≡_, ap}
+use mathlib.Core.Bool.{true}
+use mathlib.Core.List.{List}
 use mathlib.Core.Logic.{_⊎_, inl, inr}
 use native.Mathlib.Omega.{arith}
-use lib.ListN.{length, getD, take, drop, take-append-drop, length-map}
-use lib.Seq.{take-suc, take-take}
+use lib.ListN.{length, take, drop, take-append-drop, length-map}
+use lib.Seq.{take-take}
 use Rattle.record.proofs.Bools.{clash}
 use Rattle.record.specs.Sound.{sound}
 use Rattle.record.specs.declared.event.Event.{Event}
 use Rattle.runs.specs.Runs.{Run, runsOf}
 use Rattle.runs.specs.Rule.{Rule, Profile}
-use Rattle.runs.specs.Plain.{Standing, Group, at, group}
-use Rattle.runs.specs.Pieces.{Piece, closed, opened, standing, outcome}
-use Rattle.groups.specs.Matches.{Found, Matches, begin}
-use Rattle.groups.specs.Groups.{nth, Made, Joined}
+use Rattle.runs.specs.Plain.{Standing, Group}
+use Rattle.runs.specs.Pieces.{closed, opened, standing, outcome}
+use Rattle.groups.specs.Matches.{Matches, begin}
+use Rattle.groups.specs.Groups.{nth, Joined}
 use Rattle.groups.specs.Places.{runAt}
-use Rattle.groups.specs.Spans.{openerOf, closerOf, spanFrom, textFrom, textTo, spanTo, Ordered, earlier, nested, Apart, before, behind, inside, around, NeverCross}
-use Rattle.groups.proofs.Laws.{below, same, closed-append, opened-append, closed-own, opened-own}
+use Rattle.groups.specs.Spans.{spanFrom, textFrom, textTo, spanTo, Ordered, earlier, nested, Apart, before, behind, inside, around, NeverCross}
+use Rattle.groups.proofs.Laws.{below, closed-append, opened-append}
 use Rattle.groups.proofs.Groups.{made, shut, early, rising, joined}
 use Rattle.groups.proofs.Accounts.{spent-within}
 use Rattle.groups.proofs.Matches.{outcome-matched}
@@ -69,9 +69,9 @@ closed-most gs a q =
 
 -- of bytes, for runs that stand one behind the other and are not overspent, and groups that are ordered by run numbers
 module _ (rs : List Run) (gs : List Group)
-  (fits : (q : ℕ) → closed gs q + opened gs q ≤ runAt rs q .size)
-  (rise : (p q : ℕ) → p < q → q < length rs → runAt rs p .start + runAt rs p .size ≤ runAt rs q .start)
-  (in-list : (i : ℕ) → i < length gs → (nth gs i .opener < nth gs i .closer) × (nth gs i .closer < length rs)) where
+    (fits : (q : ℕ) → closed gs q + opened gs q ≤ runAt rs q .size)
+    (rise : (p q : ℕ) → p < q → q < length rs → runAt rs p .start + runAt rs p .size ≤ runAt rs q .start)
+    (in-list : (i : ℕ) → i < length gs → (nth gs i .opener < nth gs i .closer) × (nth gs i .closer < length rs)) where
   -- the closing pieces of a run stand before the opening pieces of it or of a later run
   apart : (a b p q : ℕ) → p ≤ q → q < length rs →
       runAt rs p .start + closed (take a gs) p ≤ runAt rs q .start + runAt rs q .size - opened (take b gs) q

@@ -1,23 +1,22 @@
 -- The plain rule ends, and on a record that has no runs it gives the record. Each match lowers the markers left, which is the measure.
 -- Assumes nothing.
 use Prim.Native.Nat.{ℕ, zero, suc, _+_, _-_, _*_, _≤_, _<_}
-use mathlib.Core.Path.{_≡_, refl, sym, ap, _∙_}
-use mathlib.Core.Bool.{Bool, true, false}
-use mathlib.Core.List.{List, [], _∷_, _++_, map}
+use mathlib.Core.Path.{_≡_, refl}
+use mathlib.Core.Bool.{false}
+use mathlib.Core.List.{List, [], _∷_, _++_}
 use native.Mathlib.Omega.{arith}
-use lib.Dec.{eqb}
 use lib.ListN.{length, length-append}
 use borrow.Author.Tests.{ne-eqb}
-use Rattle.record.specs.Choice.{choose, and}
-use Rattle.record.specs.Stack.{nth, after}
+use Rattle.record.specs.Choice.{choose}
+use Rattle.record.specs.Stack.{after}
 use Rattle.record.specs.declared.event.Event.{Event}
 use Rattle.record.proofs.Bools.{and-false}
 use Rattle.runs.specs.declared.Next.{Next}
 use Rattle.runs.specs.declared.Next.the-variants.{Match, Done}
 use Rattle.runs.specs.Runs.{Run, entersRun, runsFrom, runsOf}
 use Rattle.runs.specs.Rule.{Rule, Profile}
-use Rattle.runs.specs.Plain.{Standing, Group, Outcome, at, forth, next, takenBy, matched, group, rounds, total, plain}
-use Rattle.runs.specs.Pieces.{standing, outcome}
+use Rattle.runs.specs.Plain.{Standing, Group, at, forth, next, takenBy, matched, group, rounds, total, plain}
+use Rattle.runs.specs.Pieces.{outcome}
 use Rattle.runs.specs.Output.{replaced, output}
 use Rattle.groups.specs.Matches.{Found, Matches, start, then}
 use Rattle.groups.specs.Ending.{Ended, Enough, Runless}
@@ -52,8 +51,11 @@ total-two (r ∷ rs) (v ∷ vs) o zero k l oc h a b other = absurd (omega arith)
 total-two (r ∷ rs) (v ∷ vs) zero (suc c) k l oc h a b other =
     omega (arith, total-one rs vs c k (omega arith) (omega arith) b (λ q n. other (suc q) (λ z. omega arith) (λ z. n (omega arith))))
 total-two (r ∷ rs) (v ∷ vs) (suc o) (suc c) k l oc h a b other =
-    omega (arith, other 0 (λ z. omega arith) (λ z. omega arith),
-    total-two rs vs o c k (omega arith) (omega arith) (omega arith) a b (λ q m n. other (suc q) (λ z. m (omega arith)) (λ z. n (omega arith))))
+    omega (
+      arith,
+      other 0 (λ z. omega arith) (λ z. omega arith),
+      total-two rs vs o c k (omega arith) (omega arith) (omega arith) a b (λ q m n. other (suc q) (λ z. m (omega arith)) (λ z. n (omega arith))),
+    )
 
 -- what a match takes of the markers left
 pub total-matched : {rule : Rule} {rs : List Standing} {from o c : ℕ} → Found rule rs from o c → total (matched rs o c) + 2 * takenBy rs o c ≡ total rs

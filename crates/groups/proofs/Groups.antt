@@ -1,24 +1,23 @@
 -- Each group of some matches: how it was made, what it joins, and that closers do not fall. By induction on the matches; the rest follows from
 -- how a group was made and from the account of the groups before it.
 -- Assumes nothing.
-use Prim.Native.Nat.{ℕ, zero, suc, _+_, _≤_, _<_}
-use mathlib.Core.Path.{_≡_, refl, sym, ap, _∙_}
+use Prim.Native.Nat.{ℕ, _+_, _≤_, _<_}
+use mathlib.Core.Path.{_≡_, refl, sym, _∙_}
 use mathlib.Core.Bool.{Bool, true, false}
 use mathlib.Core.List.{List, [], _∷_, _++_}
 use mathlib.Core.Logic.{_⊎_, inl, inr}
 use native.Mathlib.Omega.{arith}
 use lib.Dec.{leb}
-use lib.ListN.{length, getD, take, length-append, List·getD-append}
+use lib.ListN.{length, take, length-append, List·getD-append}
 use lib.Seq.{take-append-le, take-at, getD-at, getD-take, length-take-le}
 use borrow.Author.Tests.{leb-true, leb-false}
 use Rattle.record.specs.Choice.{choose, and}
 use Rattle.record.proofs.Bools.{and-left, and-right, and-split, clash}
 use Rattle.runs.specs.Rule.{Rule}
 use Rattle.runs.specs.Plain.{Standing, Group, at, amount, takenBy, matched, group}
-use Rattle.groups.specs.Matches.{Found, Matches, start, then}
-use Rattle.groups.specs.Accounts.{Accounts}
+use Rattle.groups.specs.Matches.{Matches, start, then}
 use Rattle.groups.specs.Groups.{nth, Made, Amount, both, single, Joined, Rising}
-use Rattle.groups.proofs.Laws.{below, length-matched, between-shut, open-was}
+use Rattle.groups.proofs.Laws.{below, between-shut, open-was}
 use Rattle.groups.proofs.Accounts.{matches-account}
 
 -- a group of a longer list is the old one or the new one

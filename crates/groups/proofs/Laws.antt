@@ -7,13 +7,12 @@ use mathlib.Core.List.{List, [], _∷_, _++_}
 use mathlib.Core.Logic.{_⊎_, inl, inr}
 use native.Mathlib.Omega.{arith}
 use lib.Dec.{eqb, ltb, leb}
-use lib.ListN.{length, getD, List·getD-eq-default}
-use borrow.Author.Tests.{ltb-true, ltb-false, leb-true, eq-eqb, ne-eqb, eqb-true, eqb-false, lt-ltb, le-ltb}
+use lib.ListN.{length, List·getD-eq-default}
+use borrow.Author.Tests.{ltb-true, ltb-false, leb-true, eq-eqb, ne-eqb, eqb-true, eqb-false, lt-ltb}
 use Rattle.record.specs.Choice.{choose, and}
-use Rattle.record.proofs.Bools.{and-left, and-right, and-split}
+use Rattle.record.proofs.Bools.{and-left, and-right}
 use Rattle.runs.specs.Plain.{Standing, Group, nowhere, at, amount, alter, change, matched, takenBy}
 use Rattle.runs.specs.Pieces.{closed, opened}
-use Rattle.groups.specs.Matches.{Found}
 
 -- whether a number is below another
 pub below : (a b : ℕ) → (a < b) ⊎ (b ≤ a)

@@ -3,10 +3,11 @@ pub mod Laws
 pub mod Matches
 pub mod Accounts
 pub mod Groups
-pub mod Tildes
 pub mod Places
 pub mod Crossing
 pub mod Spans
+pub mod Tildes
 pub mod Opened
 pub mod Containers
 pub mod Ending
+pub mod Theorems

@@ -8,12 +8,12 @@ use lib.ListN.{length, getD}
 use Rattle.record.specs.declared.event.Event.{Event}
 use Rattle.runs.specs.declared.Next.{Next}
 use Rattle.runs.specs.declared.Next.the-variants.{Match, Done}
-use Rattle.runs.specs.Runs.{Run, runsOf}
+use Rattle.runs.specs.Runs.{Run}
 use Rattle.runs.specs.Rule.{Rule, Profile}
 use Rattle.runs.specs.Plain.{Standing, Group, at, next, takenBy, matched, group, rounds, total, plain}
 use Rattle.runs.specs.Pieces.{standing, outcome}
 use Rattle.runs.specs.Output.{noRun}
-use Rattle.groups.specs.Matches.{Found, Matches, start, then, Matched, begin}
+use Rattle.groups.specs.Matches.{Matches, start, then, Matched, begin}
 use Rattle.groups.proofs.Search.{next-found}
 use Rattle.groups.proofs.Laws.{length-matched}
 

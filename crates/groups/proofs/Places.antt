@@ -4,9 +4,9 @@
 use Prim.Native.Nat.{ℕ, zero, suc, _+_, _-_, _≤_, _<_}
 use mathlib.Core.Path.{_≡_, refl, sym, ap, _∙_}
 use mathlib.Core.Bool.{Bool, true, false}
-use mathlib.Core.List.{List, [], _∷_, _++_}
+use mathlib.Core.List.{List, [], _∷_}
 use native.Mathlib.Omega.{arith}
-use lib.ListN.{length, getD, take, drop, length-drop}
+use lib.ListN.{length, take, drop, length-drop}
 use lib.Seq.{take-suc, length-take-le, getD-drop, drop-drop}
 use Rattle.record.specs.Choice.{choose}
 use Rattle.record.specs.Stack.{nth, after, openAfter, openAt}
@@ -14,7 +14,7 @@ use Rattle.record.specs.Event.{event}
 use Rattle.record.specs.Sound.{soundFrom, sound}
 use Rattle.record.specs.declared.event.Event.{Event}
 use Rattle.record.proofs.Soundness.{stands, sound-rest, open-append}
-use Rattle.runs.specs.Runs.{Run, firstPlace, innermostOf, entersRun, runOf, runsFrom, runsOf}
+use Rattle.runs.specs.Runs.{firstPlace, innermostOf, entersRun, runOf, runsFrom, runsOf}
 use Rattle.groups.specs.Places.{runAt, Stands}
 
 -- the events left after k

@@ -2,20 +2,19 @@
 -- on the runs looked back over, the runs gone onward over, and the matches.
 -- Assumes nothing.
 use Prim.Native.Nat.{ℕ, zero, suc, _+_, _-_, _≤_, _<_}
-use mathlib.Core.Path.{_≡_, refl, sym, ap, _∙_}
+use mathlib.Core.Path.{_≡_, refl, ap}
 use mathlib.Core.Bool.{Bool, true, false}
-use mathlib.Core.List.{List, [], _∷_, _++_}
+use mathlib.Core.List.{List}
 use mathlib.Core.Option.{Option, none, some}
 use native.Mathlib.Omega.{arith}
 use lib.ListN.{length}
 use borrow.Author.Tests.{ltb-true, eqb-true}
-use Rattle.record.specs.Choice.{choose, and}
+use Rattle.record.specs.Choice.{choose}
 use Rattle.record.proofs.Bools.{and-left, and-right}
-use Rattle.runs.specs.declared.Next.{Next}
-use Rattle.runs.specs.declared.Next.the-variants.{Match, Done}
+use Rattle.runs.specs.declared.Next.the-variants.{Match}
 use Rattle.runs.specs.Rule.{Rule}
-use Rattle.runs.specs.Plain.{Standing, Group, Outcome, Look, hit, miss, at, opener, closer, sameContainer, candidate, takes, back, look, forth, next, takenBy, matched, group, rounds}
-use Rattle.groups.specs.Matches.{Found, Matches, start, then}
+use Rattle.runs.specs.Plain.{Standing, Look, hit, miss, at, opener, closer, sameContainer, candidate, takes, back, look, forth, next}
+use Rattle.groups.specs.Matches.{Found}
 
 -- equal containers are equal
 pub one-container : (a b : Option ℕ) → sameContainer a b ≡ true → a ≡ b

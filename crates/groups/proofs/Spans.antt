@@ -1,24 +1,23 @@
 -- The span and the text of a group are those of its two pieces as runs' Pieces has them: openings and closings of a list of groups that is put
 -- together, and the group in its place between those before it and those behind it.
 -- Assumes nothing.
-use Prim.Native.Nat.{ℕ, zero, suc, _+_, _-_, _≤_, _<_}
-use mathlib.Core.Path.{_≡_, refl, sym, ap, _∙_}
+use Prim.Native.Nat.{ℕ, suc, _+_, _-_, _<_}
+use mathlib.Core.Path.{_≡_, refl, ap, _∙_}
 use mathlib.Core.Bool.{Bool, true, false}
 use mathlib.Core.List.{List, [], _∷_, _++_, append-assoc, append-nil}
 use native.Mathlib.Omega.{arith}
 use lib.Dec.{eqb}
-use lib.ListN.{length, getD, take, drop}
+use lib.ListN.{length, take, drop}
 use lib.Seq.{take-suc, split-at}
 use borrow.Author.Tests.{eq-eqb}
 use Rattle.record.specs.Choice.{choose}
 use Rattle.record.specs.Sound.{sound}
 use Rattle.record.specs.declared.event.Event.{Event}
-use Rattle.runs.specs.Runs.{Run, runsOf}
+use Rattle.runs.specs.Runs.{runsOf}
 use Rattle.runs.specs.Rule.{Profile}
 use Rattle.runs.specs.Plain.{Group, group}
 use Rattle.runs.specs.Pieces.{Piece, piece, closings, openings, closed, opened, outcome}
 use Rattle.groups.specs.Groups.{nth}
-use Rattle.groups.specs.Places.{runAt}
 use Rattle.groups.specs.Spans.{openerOf, closerOf, spanFrom, textFrom, textTo, spanTo, Among, Held}
 use Rattle.groups.proofs.Laws.{closed-append, opened-append, closed-own, opened-own}
 use Rattle.groups.proofs.Accounts.{spent-within}
@@ -50,10 +49,10 @@ openings-append (g ∷ gs) hs q marker at = go (openings-append gs hs q marker) 
     go ih false e = rw (e, ih at)
 
 -- a group more
-opened-suc : (gs : List Group) (i : ℕ) → i < length gs → opened (take (suc i) gs) (nth gs i .opener) ≡ opened (take i gs) (nth gs i .opener) + nth gs i .taken
+pub opened-suc : (gs : List Group) (i : ℕ) → i < length gs → opened (take (suc i) gs) (nth gs i .opener) ≡ opened (take i gs) (nth gs i .opener) + nth gs i .taken
 opened-suc gs i h = rw (take-suc gs i (group 0 0 0) h, opened-append, opened-own (nth gs i) (nth gs i .opener) refl)
 
-closed-suc : (gs : List Group) (i : ℕ) → i < length gs → closed (take (suc i) gs) (nth gs i .closer) ≡ closed (take i gs) (nth gs i .closer) + nth gs i .taken
+pub closed-suc : (gs : List Group) (i : ℕ) → i < length gs → closed (take (suc i) gs) (nth gs i .closer) ≡ closed (take i gs) (nth gs i .closer) + nth gs i .taken
 closed-suc gs i h = rw (take-suc gs i (group 0 0 0) h, closed-append, closed-own (nth gs i) (nth gs i .closer) refl)
 
 -- the closing piece of the group i

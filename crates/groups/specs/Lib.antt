@@ -6,3 +6,4 @@ pub mod Places
 pub mod Spans
 pub mod Containers
 pub mod Ending
+pub mod Theorems

@@ -5,11 +5,11 @@
 -- Assumes nothing.
 use Prim.Native.Nat.{ℕ, suc, _+_, _-_, _≤_, _<_}
 use mathlib.Core.Path.{_≡_}
-use mathlib.Core.List.{List, [], _∷_, _++_}
-use lib.ListN.{length, take, drop}
+use mathlib.Core.List.{List, _∷_, _++_}
+use lib.ListN.{length, take}
 use Rattle.runs.specs.Runs.{Run}
 use Rattle.runs.specs.Plain.{Group}
-use Rattle.runs.specs.Pieces.{Piece, piece, closings, openings, closed, opened, closingPieces, openingPieces}
+use Rattle.runs.specs.Pieces.{Piece, piece, closed, opened, closingPieces, openingPieces}
 use Rattle.groups.specs.Groups.{nth}
 use Rattle.groups.specs.Places.{runAt}
 
