@@ -7,3 +7,4 @@ pub mod Spans
 pub mod Containers
 pub mod Ending
 pub mod Theorems
+pub mod Cases
