@@ -21,11 +21,11 @@ use Rattle.groups.specs.Groups as groups
 use Rattle.groups.specs.Places.{runAt, Stands}
 use Rattle.groups.specs.Spans.{openerOf, closerOf, spanFrom, textFrom, textTo, spanTo}
 use Rattle.groups.specs.Containers.{Pair, Clear, inside, before, behind, around, NeverCrosses, OneContainer}
-use Rattle.groups.proofs.Laws.{below}
+use Rattle.groups.proofs.Laws.{below, opened-most, closed-most}
 use Rattle.groups.proofs.Matches.{at-begin}
 use Rattle.groups.proofs.Accounts.{spent-within}
 use Rattle.groups.proofs.Places.{run-stands, numbers-rise, places-rise}
-use Rattle.groups.proofs.Crossing.{outcome-joined, in-runs, opened-most, closed-most}
+use Rattle.groups.proofs.Crossing.{outcome-joined, in-runs}
 use Rattle.groups.proofs.Opened.{Has, open-one, open-after, open-until, open-at-exit, enter-before, closed-after}
 
 -- opener and closer have one container

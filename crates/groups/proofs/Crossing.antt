@@ -3,13 +3,12 @@
 -- stand as its groups were matched, openings from its end, closings from its start, and together they are not larger than the run.
 -- Assumes nothing.
 use Prim.Native.Nat.{ℕ, suc, _+_, _-_, _≤_, _<_}
-use mathlib.Core.Path.{_≡_, ap}
+use mathlib.Core.Path.{_≡_}
 use mathlib.Core.Bool.{true}
 use mathlib.Core.List.{List}
 use mathlib.Core.Logic.{_⊎_, inl, inr}
 use native.Mathlib.Omega.{arith}
-use lib.ListN.{length, take, drop, take-append-drop, length-map}
-use lib.Seq.{take-take}
+use lib.ListN.{length, take, length-map}
 use Rattle.record.proofs.Bools.{clash}
 use Rattle.record.specs.Sound.{sound}
 use Rattle.record.specs.declared.event.Event.{Event}
@@ -21,7 +20,7 @@ use Rattle.groups.specs.Matches.{Matches, begin}
 use Rattle.groups.specs.Groups.{nth, Joined}
 use Rattle.groups.specs.Places.{runAt}
 use Rattle.groups.specs.Spans.{spanFrom, textFrom, textTo, spanTo, Ordered, earlier, nested, Apart, before, behind, inside, around, NeverCross}
-use Rattle.groups.proofs.Laws.{below, closed-append, opened-append}
+use Rattle.groups.proofs.Laws.{below, closed-first, opened-first, closed-most, opened-most}
 use Rattle.groups.proofs.Groups.{made, shut, early, rising, joined}
 use Rattle.groups.proofs.Accounts.{spent-within}
 use Rattle.groups.proofs.Matches.{outcome-matched}
@@ -41,31 +40,6 @@ ordered {gs = gs} m i j h l = go (below (nth gs i .opener) (nth gs j .opener)) (
     go (inl x) (inr y) = earlier y
     go (inr x) (inl y) = nested x (rising m i j h l)
     go (inr x) (inr y) = nested x (rising m i j h l)
-
--- the first groups took not more than all
-pub opened-first : (gs : List Group) (a b q : ℕ) → a ≤ b → opened (take a gs) q ≤ opened (take b gs) q
-opened-first gs a b q h =
-    let e : take a (take b gs) ≡ take a gs = take-take a b gs h in
-    let f = ap (λ (l : List Group). opened l q) (take-append-drop a (take b gs)) in
-    let g = ap (λ (l : List Group). opened l q) e in
-    omega (arith, opened-append (take a (take b gs)) (drop a (take b gs)) q)
-
-pub closed-first : (gs : List Group) (a b q : ℕ) → a ≤ b → closed (take a gs) q ≤ closed (take b gs) q
-closed-first gs a b q h =
-    let e : take a (take b gs) ≡ take a gs = take-take a b gs h in
-    let f = ap (λ (l : List Group). closed l q) (take-append-drop a (take b gs)) in
-    let g = ap (λ (l : List Group). closed l q) e in
-    omega (arith, closed-append (take a (take b gs)) (drop a (take b gs)) q)
-
-pub opened-most : (gs : List Group) (a q : ℕ) → opened (take a gs) q ≤ opened gs q
-opened-most gs a q =
-    let f = ap (λ (l : List Group). opened l q) (take-append-drop a gs) in
-    omega (arith, opened-append (take a gs) (drop a gs) q)
-
-pub closed-most : (gs : List Group) (a q : ℕ) → closed (take a gs) q ≤ closed gs q
-closed-most gs a q =
-    let f = ap (λ (l : List Group). closed l q) (take-append-drop a gs) in
-    omega (arith, closed-append (take a gs) (drop a gs) q)
 
 -- of bytes, for runs that stand one behind the other and are not overspent, and groups that are ordered by run numbers
 module _ (rs : List Run) (gs : List Group)

@@ -7,12 +7,14 @@ use mathlib.Core.List.{List, [], _∷_, _++_}
 use mathlib.Core.Logic.{_⊎_, inl, inr}
 use native.Mathlib.Omega.{arith}
 use lib.Dec.{eqb, ltb, leb}
-use lib.ListN.{length, List·getD-eq-default}
+use lib.ListN.{length, take, drop, take-append-drop, List·getD-eq-default}
+use lib.Seq.{take-suc, take-take}
 use borrow.Author.Tests.{ltb-true, ltb-false, leb-true, eq-eqb, ne-eqb, eqb-true, eqb-false, lt-ltb}
 use Rattle.record.specs.Choice.{choose, and}
 use Rattle.record.proofs.Bools.{and-left, and-right}
-use Rattle.runs.specs.Plain.{Standing, Group, nowhere, at, amount, alter, change, matched, takenBy}
+use Rattle.runs.specs.Plain.{Standing, Group, group, nowhere, at, amount, alter, change, matched, takenBy}
 use Rattle.runs.specs.Pieces.{closed, opened}
+use Rattle.groups.specs.Groups.{nth}
 
 -- whether a number is below another
 pub below : (a b : ℕ) → (a < b) ⊎ (b ≤ a)
@@ -141,3 +143,35 @@ opened-own g q e = rw (eq-eqb _ _ e) (omega arith)
 pub opened-other : (g : Group) (q : ℕ) → (g .opener ≡ q → ⊥) → opened (g ∷ []) q ≡ 0
 unfolding opened choose
 opened-other g q e = rw (ne-eqb _ _ e)
+
+-- the first groups took not more than all
+pub opened-first : (gs : List Group) (a b q : ℕ) → a ≤ b → opened (take a gs) q ≤ opened (take b gs) q
+opened-first gs a b q h =
+    let e : take a (take b gs) ≡ take a gs = take-take a b gs h in
+    let f = ap (λ (l : List Group). opened l q) (take-append-drop a (take b gs)) in
+    let g = ap (λ (l : List Group). opened l q) e in
+    omega (arith, opened-append (take a (take b gs)) (drop a (take b gs)) q)
+
+pub closed-first : (gs : List Group) (a b q : ℕ) → a ≤ b → closed (take a gs) q ≤ closed (take b gs) q
+closed-first gs a b q h =
+    let e : take a (take b gs) ≡ take a gs = take-take a b gs h in
+    let f = ap (λ (l : List Group). closed l q) (take-append-drop a (take b gs)) in
+    let g = ap (λ (l : List Group). closed l q) e in
+    omega (arith, closed-append (take a (take b gs)) (drop a (take b gs)) q)
+
+pub opened-most : (gs : List Group) (a q : ℕ) → opened (take a gs) q ≤ opened gs q
+opened-most gs a q =
+    let f = ap (λ (l : List Group). opened l q) (take-append-drop a gs) in
+    omega (arith, opened-append (take a gs) (drop a gs) q)
+
+pub closed-most : (gs : List Group) (a q : ℕ) → closed (take a gs) q ≤ closed gs q
+closed-most gs a q =
+    let f = ap (λ (l : List Group). closed l q) (take-append-drop a gs) in
+    omega (arith, closed-append (take a gs) (drop a gs) q)
+
+-- a group more
+pub opened-suc : (gs : List Group) (i : ℕ) → i < length gs → opened (take (suc i) gs) (nth gs i .opener) ≡ opened (take i gs) (nth gs i .opener) + nth gs i .taken
+opened-suc gs i h = rw (take-suc gs i (group 0 0 0) h, opened-append, opened-own (nth gs i) (nth gs i .opener) refl)
+
+pub closed-suc : (gs : List Group) (i : ℕ) → i < length gs → closed (take (suc i) gs) (nth gs i .closer) ≡ closed (take i gs) (nth gs i .closer) + nth gs i .taken
+closed-suc gs i h = rw (take-suc gs i (group 0 0 0) h, closed-append, closed-own (nth gs i) (nth gs i .closer) refl)

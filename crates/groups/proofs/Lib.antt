@@ -8,6 +8,7 @@ pub mod Crossing
 pub mod Spans
 pub mod Tildes
 pub mod Opened
+pub mod Paired
 pub mod Containers
 pub mod Ending
 pub mod Theorems

@@ -8,7 +8,7 @@ use mathlib.Core.List.{List, [], _∷_, _++_, append-assoc, append-nil}
 use native.Mathlib.Omega.{arith}
 use lib.Dec.{eqb}
 use lib.ListN.{length, take, drop}
-use lib.Seq.{take-suc, split-at}
+use lib.Seq.{split-at}
 use borrow.Author.Tests.{eq-eqb}
 use Rattle.record.specs.Choice.{choose}
 use Rattle.record.specs.Sound.{sound}
@@ -19,10 +19,10 @@ use Rattle.runs.specs.Plain.{Group, group}
 use Rattle.runs.specs.Pieces.{Piece, piece, closings, openings, closed, opened, outcome}
 use Rattle.groups.specs.Groups.{nth}
 use Rattle.groups.specs.Spans.{openerOf, closerOf, spanFrom, textFrom, textTo, spanTo, Among, Held}
-use Rattle.groups.proofs.Laws.{closed-append, opened-append, closed-own, opened-own}
+use Rattle.groups.proofs.Laws.{opened-most, opened-suc, closed-suc}
 use Rattle.groups.proofs.Accounts.{spent-within}
 use Rattle.groups.proofs.Places.{ends-before}
-use Rattle.groups.proofs.Crossing.{opened-most, in-runs, text-in-order}
+use Rattle.groups.proofs.Crossing.{in-runs, text-in-order}
 
 -- closings of two lists of groups, one after the other
 pub closings-append : (gs hs : List Group) (q marker at : ℕ) → closings (gs ++ hs) q marker at ≡ closings gs q marker at ++ closings hs q marker (at + closed gs q)
@@ -47,13 +47,6 @@ openings-append (g ∷ gs) hs q marker at = go (openings-append gs hs q marker) 
         openings ((g ∷ gs) ++ hs) q marker at ≡ openings hs q marker (at - opened (g ∷ gs) q) ++ openings (g ∷ gs) q marker at
     go ih true e = let s : at - (g .taken + opened gs q) ≡ at - g .taken - opened gs q = omega arith in rw (e, s, ih (at - g .taken), append-assoc)
     go ih false e = rw (e, ih at)
-
--- a group more
-pub opened-suc : (gs : List Group) (i : ℕ) → i < length gs → opened (take (suc i) gs) (nth gs i .opener) ≡ opened (take i gs) (nth gs i .opener) + nth gs i .taken
-opened-suc gs i h = rw (take-suc gs i (group 0 0 0) h, opened-append, opened-own (nth gs i) (nth gs i .opener) refl)
-
-pub closed-suc : (gs : List Group) (i : ℕ) → i < length gs → closed (take (suc i) gs) (nth gs i .closer) ≡ closed (take i gs) (nth gs i .closer) + nth gs i .taken
-closed-suc gs i h = rw (take-suc gs i (group 0 0 0) h, closed-append, closed-own (nth gs i) (nth gs i .closer) refl)
 
 -- the closing piece of the group i
 closing-among : (gs : List Group) (i q marker at : ℕ) → i < length gs → nth gs i .closer ≡ q →

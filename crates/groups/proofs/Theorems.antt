@@ -1,6 +1,6 @@
 -- The theorems of specs/Theorems.antt, each from the file that has its proof.
 -- Assumes nothing.
-use Rattle.groups.specs.Theorems.{AccountsHold, NoneOverspent, EachMade, EachTook, EachJoined, ClosersInOrder, TildesAsTheRuleSays, EachHeld, GroupsNeverCross, ContainersNeverCrossed, ContainerIsOne, PlainRuleEnds, NothingWithoutRuns}
+use Rattle.groups.specs.Theorems.{AccountsHold, NoneOverspent, EachMade, EachTook, EachJoined, ClosersInOrder, TildesAsTheRuleSays, EachHeld, GroupsNeverCross, EventsArePaired, ContainersNeverCrossed, ContainerIsOne, PlainRuleEnds, NothingWithoutRuns}
 use Rattle.runs.specs.Rule.{ruleOver}
 use Rattle.runs.specs.Plain.{plain}
 use Rattle.groups.proofs.Matches.{plain-matched, outcome-matched}
@@ -9,6 +9,7 @@ use Rattle.groups.proofs.Groups.{made, took, rising}
 use Rattle.groups.proofs.Crossing.{outcome-joined, never-cross}
 use Rattle.groups.proofs.Spans.{held}
 use Rattle.groups.proofs.Tildes.{strikes}
+use Rattle.groups.proofs.Paired.{paired}
 use Rattle.groups.proofs.Containers.{one-container, never-crosses}
 use Rattle.groups.proofs.Ending.{plain-enough, plain-ended, no-groups, output-nothing}
 
@@ -39,6 +40,9 @@ each-held = held
 
 pub groups-never-cross : GroupsNeverCross
 groups-never-cross = never-cross
+
+pub events-are-paired : EventsArePaired
+events-are-paired = paired
 
 pub containers-never-crossed : ContainersNeverCrossed
 containers-never-crossed = never-crosses

@@ -18,10 +18,9 @@ use Rattle.runs.specs.Plain.{Standing, Group, at, takes, sideOf}
 use Rattle.runs.specs.Pieces.{closed, opened}
 use Rattle.groups.specs.Groups.{nth, Made, Amount, both, single}
 use Rattle.groups.specs.Tildes.{Strikes}
+use Rattle.groups.proofs.Laws.{opened-first, closed-first, opened-suc, closed-suc}
 use Rattle.groups.proofs.Accounts.{matches-account}
 use Rattle.groups.proofs.Groups.{took, joined, early}
-use Rattle.groups.proofs.Crossing.{opened-first, closed-first}
-use Rattle.groups.proofs.Spans.{opened-suc, closed-suc}
 
 -- a test that lets a pair of tildes pass
 passed : (one : Bool) (a b : ℕ) → tildes one 126 a b ≡ false → (a ≡ b) × (b ≤ 2) × (b ≡ 1 → one ≡ true)

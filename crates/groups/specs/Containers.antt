@@ -20,6 +20,13 @@ pub record Pair (es : List Event) (a b : ℕ) : Type 0 where
   pub exits : nth es b .kind ≡ 1
   pub innermost : openAt es b ≡ a ∷ outer (openAt es b)
 
+-- in these events every enter has an exit, every exit its enter, and neither has two
+pub record Paired (es : List Event) : Type 0 where
+  pub exit-of : (a : ℕ) → a < length es → nth es a .kind ≡ 0 → (b : ℕ) × Pair es a b
+  pub enter-of : (b : ℕ) → b < length es → nth es b .kind ≡ 1 → (a : ℕ) × Pair es a b
+  pub one-exit : (a b c : ℕ) → Pair es a b → Pair es a c → b ≡ c
+  pub one-enter : (a b c : ℕ) → Pair es a c → Pair es b c → a ≡ b
+
 -- where a pair of events stands beside the group i
 pub data Clear (es : List Event) (rs : List Run) (gs : List Group) (i a b : ℕ) : Type 0 where
   inside : openerOf rs gs i .number < a → b < closerOf rs gs i .number →

@@ -26,7 +26,7 @@ pub record Found (rule : Rule) (rs : List Standing) (from o c : ℕ) : Type 0 wh
   pub same-container : at rs o .container ≡ at rs c .container
   pub taken : takes rule (at rs o) (at rs c) ≡ true
 
--- the groups gs, in match order, make of the runs rs₀ the runs rs, and the last of them was closed by the run c
+-- the groups gs, in match order, make of the runs rs₀ the runs rs, and the last of them was closed by the run c, which is 0 before the first
 pub data Matches (rule : Rule) (rs₀ : List Standing) : List Group → List Standing → ℕ → Type 0 where
   start : Matches rule rs₀ [] rs₀ 0
   then : {gs : List Group} {rs : List Standing} {from : ℕ} (o c : ℕ) → Matches rule rs₀ gs rs from → Found rule rs from o c →

@@ -19,7 +19,7 @@ use Rattle.groups.specs.Groups.{nth, Made, Amount, Joined, Rising}
 use Rattle.groups.specs.Tildes.{Strikes}
 use Rattle.groups.specs.Places.{runAt}
 use Rattle.groups.specs.Spans.{Held, NeverCross}
-use Rattle.groups.specs.Containers.{NeverCrosses, OneContainer}
+use Rattle.groups.specs.Containers.{Paired, NeverCrosses, OneContainer}
 use Rattle.groups.specs.Ending.{Ended, Enough, Runless}
 
 -- the groups of a record, in match order
@@ -78,7 +78,10 @@ GroupsNeverCross =
     Always (λ profile options doc es.
     (deep d : ℕ) → sound deep d es ≡ true → NeverCross (runsOf doc es) (groupsOf profile options doc es))
 
--- a group never crosses a container; opener and closer have one container
+-- a sound record is made of pairs; a group never crosses a pair that is no run; opener and closer have one container
+abbrev pub EventsArePaired : Type 0
+EventsArePaired = (deep d : ℕ) (es : List Event) → sound deep d es ≡ true → Paired es
+
 abbrev pub ContainersNeverCrossed : Type 0
 ContainersNeverCrossed =
     Always (λ profile options doc es.
