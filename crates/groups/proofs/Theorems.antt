@@ -1,9 +1,9 @@
 -- The theorems of specs/Theorems.antt, each from the file that has its proof.
 -- Assumes nothing.
-use Rattle.groups.specs.Theorems.{AccountsHold, NoneOverspent, EachMade, EachTook, EachJoined, ClosersInOrder, TildesAsTheRuleSays, EachHeld, GroupsNeverCross, EventsArePaired, ContainersNeverCrossed, ContainerIsOne, PlainRuleEnds, NothingWithoutRuns}
-use Rattle.runs.specs.Rule.{ruleOver}
-use Rattle.runs.specs.Plain.{plain}
-use Rattle.groups.proofs.Matches.{plain-matched, outcome-matched}
+use Rattle.groups.specs.Theorems.{groupsOf, withTildes, AccountsHold, NoneOverspent, EachMade, EachTook, EachJoined, ClosersInOrder, TildesAsTheRuleSays, EachHeld, GroupsNeverCross, EventsArePaired, ContainersNeverCrossed, ContainerIsOne, PlainRuleEnds, NothingWithoutRuns}
+use Rattle.runs.specs.Runs.{optionOn}
+use Rattle.groups.specs.Matches.{begin}
+use Rattle.groups.proofs.Matches.{outcome-matched}
 use Rattle.groups.proofs.Accounts.{outcome-account, spent-within}
 use Rattle.groups.proofs.Groups.{made, took, rising}
 use Rattle.groups.proofs.Crossing.{outcome-joined, never-cross}
@@ -32,8 +32,9 @@ pub closers-in-order : ClosersInOrder
 closers-in-order profile options doc es = rising (outcome-matched profile options doc es .matches)
 
 pub tildes-as-the-rule-says : TildesAsTheRuleSays
-tildes-as-the-rule-says sizeOf one rs =
-    strikes sizeOf one rs (plain (ruleOver sizeOf one) rs .groups) (made (plain-matched (ruleOver sizeOf one) rs .matches))
+tildes-as-the-rule-says amended sizeOf options doc es =
+    strikes sizeOf (optionOn options 4) (begin (withTildes amended sizeOf) options doc es) (groupsOf (withTildes amended sizeOf) options doc es)
+    (made (outcome-matched (withTildes amended sizeOf) options doc es .matches))
 
 pub each-held : EachHeld
 each-held = held

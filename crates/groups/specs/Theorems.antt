@@ -2,14 +2,14 @@
 -- those of the other files here; proofs/Theorems.antt proves each.
 -- Assumes nothing.
 use Prim.Native.Nat.{ℕ, _+_, _≤_, _<_}
-use mathlib.Core.Path.{_≡_}
-use mathlib.Core.Bool.{Bool, true}
+use mathlib.Core.Path.{_≡_, refl}
+use mathlib.Core.Bool.{Bool, true, false}
 use mathlib.Core.List.{List, []}
 use lib.ListN.{length}
 use Rattle.record.specs.Sound.{sound}
 use Rattle.record.specs.declared.event.Event.{Event}
-use Rattle.runs.specs.Runs.{runsOf}
-use Rattle.runs.specs.Rule.{Side, Rule, Profile, ruleOver}
+use Rattle.runs.specs.Runs.{optionOn, runsOf}
+use Rattle.runs.specs.Rule.{Side, Rule, Profile, ruleOver, crate, standard}
 use Rattle.runs.specs.Plain.{Standing, Group, at, plain}
 use Rattle.runs.specs.Pieces.{outcome, closed, opened}
 use Rattle.runs.specs.Output.{output}
@@ -61,11 +61,22 @@ EachJoined =
 abbrev pub ClosersInOrder : Type 0
 ClosersInOrder = Always (λ profile options doc es. Rising (groupsOf profile options doc es))
 
--- "tildes always as the tilde rule says": under a rule that has it, whichever sizes the rule of three goes by
+-- a profile that has the tilde rule, whichever sizes its rule of three goes by; the crate's and the standard's are two of them
+abbrev pub withTildes : Bool → (Side → ℕ) → Profile
+withTildes amended sizeOf = record { amended = amended; rule = λ options. ruleOver sizeOf (optionOn options 4) }
+
+pub crate-has-tildes : crate ≡ withTildes true (λ s. s .left)
+crate-has-tildes = refl
+
+pub standard-has-tildes : standard ≡ withTildes false (λ s. s .whole)
+standard-has-tildes = refl
+
+-- "tildes always as the tilde rule says"
 abbrev pub TildesAsTheRuleSays : Type 0
 TildesAsTheRuleSays =
-    (sizeOf : Side → ℕ) (one : Bool) (rs : List Standing) (i : ℕ) → i < length (plain (ruleOver sizeOf one) rs .groups) →
-    at rs (nth (plain (ruleOver sizeOf one) rs .groups) i .closer) .marker ≡ 126 → Strikes one rs (nth (plain (ruleOver sizeOf one) rs .groups) i)
+    (amended : Bool) (sizeOf : Side → ℕ) (options : ℕ) (doc : List ℕ) (es : List Event) (i : ℕ) → i < length (groupsOf (withTildes amended sizeOf) options doc es) →
+    at (begin (withTildes amended sizeOf) options doc es) (nth (groupsOf (withTildes amended sizeOf) options doc es) i .closer) .marker ≡ 126 →
+    Strikes (optionOn options 4) (begin (withTildes amended sizeOf) options doc es) (nth (groupsOf (withTildes amended sizeOf) options doc es) i)
 
 -- in a sound record each group has its two pieces, and two groups never cross
 abbrev pub EachHeld : Type 0
