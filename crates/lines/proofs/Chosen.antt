@@ -1,0 +1,11 @@
+-- A choice read backwards: which side was taken, and why.
+-- Assumes nothing.
+use mathlib.Core.Path.{_≡_, refl}
+use mathlib.Core.Bool.{Bool, true, false}
+use mathlib.Core.Logic.{_⊎_, inl, inr}
+use Rattle.record.specs.Choice.{choose}
+
+pub chosen : {A : Type 0} (b : Bool) (x y r : A) → r ≡ choose b x y → ((b ≡ true) × (r ≡ x)) ⊎ ((b ≡ false) × (r ≡ y))
+unfolding choose
+chosen true x y r q = inl (refl, q)
+chosen false x y r q = inr (refl, q)

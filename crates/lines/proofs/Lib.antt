@@ -1,0 +1,10 @@
+pub mod Leading
+pub mod ByteKinds
+pub mod Checks
+pub mod Taking
+pub mod Marks
+pub mod Starts
+pub mod Chosen
+pub mod Goings
+pub mod Pieces
+pub mod Headings

@@ -1,0 +1,22 @@
+use Rattle.lines.proofs.Taking.{indent-three, indent-free}
+use borrow.Author.Needs.{needs}
+use Rattle.lines.proofs.scan.indented.Statement.{statement}
+use Rattle.lines.proofs.scan.indented.Tie as tie
+use Rattle.lines.proofs.scan.indented.Reads as reads
+use Rattle.lines.proofs.scan.indented.Lts as lts
+use Rattle.lines.proofs.scan.blanks.Reads as blanks-reads
+
+blanks-requires : tie.Need-blanks-requires
+blanks-requires c κs = search needs
+
+returns : tie.Need-returns
+returns c = indent-three _ _ _ (search needs) (c .blanks .ensures)
+
+blanks-requires-2 : tie.Need-blanks-requires-2
+blanks-requires-2 c κs = search needs
+
+returns-2 : tie.Need-returns-2
+returns-2 c = indent-free _ _ _ (search needs) (c .blanks2 .ensures)
+
+pub indented-spec : {M : Type 1} → statement M
+indented-spec = tie.close (tie.spec blanks-requires returns blanks-requires-2 returns-2)

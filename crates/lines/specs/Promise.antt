@@ -1,0 +1,22 @@
+-- What the heading reader promises of its answer and its output.
+-- Assumes nothing.
+use Prim.Native.Nat.{ℕ}
+use mathlib.Core.Path.{_≡_}
+use mathlib.Core.List.{List, _++_}
+use lib.ListN.{length, drop}
+use Rattle.lines.specs.Heading.{Result, headedIn, headedOf}
+use Rattle.lines.specs.declared.heading.Headed.{Headed}
+
+-- bytes written over the start of what was there; where there are none, it stays
+unfoldable pub onto : List ℕ → List ℕ → List ℕ
+onto bytes out = bytes ++ drop (length bytes) out
+
+-- on a line: r is answered, and out′ is what the output then holds
+pub record HeadedIn (l : List ℕ) (options : ℕ) (out : List ℕ) (r : Headed) (out′ : List ℕ) : Type 0 where
+  pub answer : r ≡ headedIn l options (length out) .answer
+  pub output : out′ ≡ onto (headedIn l options (length out) .bytes) out
+
+-- on a line as it is lent
+pub record HeadedBy (s : List ℕ) (options : ℕ) (out : List ℕ) (r : Headed) (out′ : List ℕ) : Type 0 where
+  pub answer : r ≡ headedOf s options (length out) .answer
+  pub output : out′ ≡ onto (headedOf s options (length out) .bytes) out

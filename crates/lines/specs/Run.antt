@@ -1,0 +1,67 @@
+-- Kinds of bytes, runs of them, and blank lines: the words in which the line readers are defined. CommonMark 0.31 §2.1 and §2.2.
+-- Assumes nothing.
+use Prim.Native.Nat.{ℕ, suc, _/_, _%_}
+use mathlib.Core.Bool.{Bool, true, false, not}
+use mathlib.Core.List.{List, [], _∷_}
+use lib.ListN.{length, getD, take}
+use lib.Dec.{leb, eqb}
+use Rattle.record.specs.Choice.{choose, and}
+
+unfoldable pub or : Bool → Bool → Bool
+or true b = true
+or false b = b
+
+-- "space (U+0020)", "tab (U+0009)"
+unfoldable pub spaceOrTab : ℕ → Bool
+spaceOrTab b = or (eqb b 32) (eqb b 9)
+
+-- all that is neither space nor tab
+unfoldable pub filled : ℕ → Bool
+filled b = not (spaceOrTab b)
+
+-- "arabic digits (0-9)"
+unfoldable pub digit : ℕ → Bool
+digit b = and (leb 48 b) (leb b 57)
+
+unfoldable pub hash : ℕ → Bool
+hash b = eqb b 35
+
+-- the length of the run at the front whose bytes are all of a kind
+unfoldable pub leading : (ℕ → Bool) → List ℕ → ℕ
+leading kind [] = 0
+leading kind (b ∷ l) = choose (kind b) (suc (leading kind l)) 0
+
+-- whether all bytes are of a kind
+unfoldable pub every : (ℕ → Bool) → List ℕ → Bool
+every kind [] = true
+every kind (b ∷ l) = and (kind b) (every kind l)
+
+-- how many bytes are of a kind
+unfoldable pub count : (ℕ → Bool) → List ℕ → ℕ
+count kind [] = 0
+count kind (b ∷ l) = choose (kind b) (suc (count kind l)) (count kind l)
+
+-- the first byte; 0, which stands for nothing here, where there is none
+abbrev pub first : List ℕ → ℕ
+first l = getD l 0 0
+
+-- §2.1: "A line containing no characters, or a line containing only spaces (U+0020) or tabs (U+0009), is called a blank line."
+unfoldable pub blank : List ℕ → Bool
+blank l = every spaceOrTab l
+
+-- Document 01: "the spaces and tabs that stand there, counted in bytes, up to a maximum".
+-- Amendment to §2.2, where a tab counts as the columns up to the next tab stop: it counts as one.
+unfoldable pub blanksUpTo : ℕ → List ℕ → ℕ
+blanksUpTo max l = leading spaceOrTab (take max l)
+
+-- all of them
+unfoldable pub blanks : List ℕ → ℕ
+blanks l = leading spaceOrTab l
+
+-- Document 01: "Options, summed": whether the option of a value (a power of two) is among them
+unfoldable pub on : ℕ → ℕ → Bool
+on options value = eqb (options / value % 2) 1
+
+-- "Indentation is at most 3, or free without option 32."
+unfoldable pub indentation : ℕ → List ℕ → ℕ
+indentation options l = choose (on options 32) (blanksUpTo 3 l) (blanks l)

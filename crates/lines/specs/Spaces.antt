@@ -1,0 +1,18 @@
+-- Space-or-tab. Document 01: "Space-or-tab takes the spaces and tabs that stand there, counted in bytes, up to a maximum; fewer than the
+-- minimum is the finding "too few", also where minimum exceeds maximum."
+-- Assumes nothing.
+use Prim.Native.Nat.{ℕ}
+use mathlib.Core.List.{List}
+use lib.Dec.{leb}
+use Rattle.record.specs.Choice.{choose}
+use Rattle.lines.specs.Run.{blanksUpTo}
+use Rattle.lines.specs.Line.{lineOf, checkedLine, reading}
+use Rattle.lines.specs.declared.spaces.Spaces.{Spaces}
+use Rattle.lines.specs.declared.spaces.Spaces.the-variants.{Taken, TooFew, Refused}
+
+-- on a line
+unfoldable pub spacesIn : List ℕ → ℕ → ℕ → Spaces
+spacesIn l min max = choose (leb min (blanksUpTo max l)) (Taken (blanksUpTo max l)) TooFew
+
+unfoldable pub spacesOf : List ℕ → ℕ → ℕ → ℕ → Spaces
+spacesOf s options min max = reading (checkedLine s options) Refused (spacesIn (lineOf s) min max)
