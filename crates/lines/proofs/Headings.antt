@@ -12,14 +12,15 @@ use borrow.Author.Tests.{le-leb, lt-leb, lt-ltb, le-ltb}
 use Rattle.record.specs.Choice.{choose, and}
 use Rattle.record.specs.Bytes.{Wrote, u32Bytes}
 use Rattle.record.specs.Event.{enter, exit, eventBytes, bytesOf, flat, sectionBytes}
+use Rattle.record.specs.Outcome.{sized, onto}
 use Rattle.record.specs.declared.event.Event.{Event}
 use Rattle.record.specs.declared.check.Refusal.{Refusal}
 use Rattle.record.proofs.Splice.{wrote-then}
 use Rattle.record.proofs.Sections.{length-flat, flat-append, section}
 use Rattle.lines.specs.Run.{spaceOrTab, hash, leading, indentation}
 use Rattle.lines.specs.Line.{lineOf, checkedLine, refusal, reading}
-use Rattle.lines.specs.Heading.{brokenOff, opening, isHeading, split, eventsFrom, headingEvents, Result, nothing, written, headedIn, headedOf}
-use Rattle.lines.specs.Promise.{onto, HeadedIn, HeadedBy}
+use Rattle.lines.specs.Heading.{brokenOff, opening, isHeading, split, eventsFrom, headingEvents, Result, nothing, headedIn, headedOf}
+use Rattle.lines.specs.Promise.{HeadedIn, HeadedBy}
 use Rattle.lines.specs.declared.line.Checked.the-variants.{Ends, Bad}
 use Rattle.lines.specs.declared.heading.Piece.{Piece}
 use Rattle.lines.specs.declared.heading.Headed.{Headed}
@@ -75,17 +76,17 @@ module _ (l : List ℕ) (options outs : ℕ) where
 
   module _ (e : isHeading l options ≡ true) (n : ℕ) (k : n ≡ 2 + 2 * length (split l)) where
     many-events : 8000 < n → headedIn l options outs ≡ nothing (Refused (refusal 7 0))
-    unfolding headedIn written choose
+    unfolding headedIn sized choose
     many-events h = rw (e, heading-length l, ← k, lt-ltb _ _ h)
 
     module _ (h : n ≤ 8000) where
       little-room : outs < 4 + 8 * n → headedIn l options outs ≡ nothing (Refused (refusal 8 0))
-      unfolding headedIn written choose
+      unfolding headedIn sized choose
       little-room r = rw (e, heading-length l, ← k, le-ltb _ _ h, lt-ltb _ _ r)
 
       all-there : 4 + 8 * n ≤ outs → headedIn l options outs ≡ record { answer = Heading n; bytes = sectionBytes (headingEvents l) }
-      unfolding headedIn written choose
-      all-there r = rw (e, heading-length l, ← k, le-ltb _ _ h, le-ltb _ _ r)
+      unfolding headedIn sized choose
+      all-there r = rw (e, heading-length l, ← k, le-ltb _ _ h, le-ltb _ _ r, heading-length l, ← k)
 
 -- an answer that writes nothing
 unchanged : (l : List ℕ) (options : ℕ) (out : List ℕ) (r : Headed) → headedIn l options (length out) ≡ nothing r → HeadedIn l options out r out

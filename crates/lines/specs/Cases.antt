@@ -1,2 +1,115 @@
--- Document 01's cases on lines, by computation.
+-- Document 01's cases on lines, by computation: the numbers and values that the definitions give.
 -- Assumes nothing.
+use Prim.Native.Nat.{ℕ}
+use mathlib.Core.Path.{_≡_, refl}
+use mathlib.Core.Bool.{Bool, true, false}
+use mathlib.Core.List.{List, [], _∷_, _++_}
+use lib.ListN.{replicate}
+use Rattle.record.specs.Choice.{choose, and}
+use Rattle.record.specs.Check.{firstReturn}
+use Rattle.record.specs.Event.{enter, exit}
+use Rattle.record.specs.Outcome.{sized}
+use Rattle.record.specs.declared.event.Event.{Event}
+use Rattle.lines.specs.Run.{or, spaceOrTab, filled, digit, hash, leading, every, count, blank, blanks, blanksUpTo, on, indentation}
+use Rattle.lines.specs.Line.{noFeed, endOf, lineOf, checkedLine, reading}
+use Rattle.lines.specs.Spaces.{spacesIn, spacesOf}
+use Rattle.lines.specs.Item.{breakMark, isMark, markOrBlank, marksOnly, thematicBreak, bulletMark, orderedMark, startsWithOne, mayStart, orderedOf, markerOf, padding, filledStart, startAfter, startFrom, startAt, startIn, startOf, container}
+use Rattle.lines.specs.Going.{blankGoing, filledGoing, goingIn, goingOf}
+use Rattle.lines.specs.Heading.{brokenOff, opening, isHeading, pieceOf, pieces, split, eventsFrom, headingEvents, headedIn, headedOf}
+use Rattle.lines.specs.declared.container.Kind.the-variants.{Bullet}
+use Rattle.lines.specs.Spaces.{numbersOf as spacesNumbers}
+use Rattle.lines.specs.Item.{numbersOf as itemNumbers}
+use Rattle.lines.specs.Going.{numbersOf as goingNumbers}
+use Rattle.lines.specs.Heading.{numbersOf as headingNumbers}
+
+-- number, place, found, taken
+spaces : List ℕ → ℕ → ℕ → ℕ → List ℕ
+spaces s options min max = let n = spacesNumbers (spacesOf s options min max) in n .number ∷ n .place ∷ n .found ∷ n .taken ∷ []
+
+-- number, place, found, taken, size, flag, mark
+start : List ℕ → ℕ → Bool → List ℕ
+start s options interrupting =
+    let n = itemNumbers (startOf s options interrupting) in
+    n .number ∷ n .place ∷ n .found ∷ n .taken ∷ n .size ∷ n .blank ∷ n .mark ∷ []
+
+-- number, place, found, taken, flag
+going : List ℕ → ℕ → ℕ → Bool → List ℕ
+going s options size blank =
+    let n = goingNumbers (goingOf s options (container (Bullet 45) size blank)) in
+    n .number ∷ n .place ∷ n .found ∷ n .taken ∷ n .blank ∷ []
+
+-- number, place, found, events
+headed : List ℕ → ℕ → ℕ → List ℕ
+headed s options outs = let n = headingNumbers (headedOf s options outs .answer) in n .number ∷ n .place ∷ n .found ∷ n .events ∷ []
+
+-- at most 2 of 3 taken; too few; min over max; a line feed first; 2 before 4; 4 past the line feed; 3 before 4
+on-spaces : (spaces (32 ∷ 9 ∷ 32 ∷ 97 ∷ []) 0 1 2 ≡ 0 ∷ 0 ∷ 1 ∷ 2 ∷ [])
+    × (spaces (32 ∷ 97 ∷ []) 63 2 9 ≡ 0 ∷ 0 ∷ 0 ∷ 0 ∷ [])
+    × (spaces (32 ∷ 32 ∷ []) 0 2 1 ≡ 0 ∷ 0 ∷ 0 ∷ 0 ∷ [])
+    × (spaces (10 ∷ 32 ∷ []) 0 0 9 ≡ 0 ∷ 0 ∷ 1 ∷ 0 ∷ [])
+    × (spaces (13 ∷ []) 64 0 9 ≡ 2 ∷ 0 ∷ 0 ∷ 0 ∷ [])
+    × (spaces (32 ∷ 10 ∷ 13 ∷ []) 0 0 9 ≡ 4 ∷ 2 ∷ 0 ∷ 0 ∷ [])
+    × (spaces (13 ∷ replicate 16384 32) 0 0 9 ≡ 3 ∷ 16384 ∷ 0 ∷ 0 ∷ [])
+unfolding spaces spacesOf spacesIn checkedLine reading lineOf endOf noFeed blanksUpTo leading spaceOrTab or choose firstReturn
+on-spaces = (refl, refl, refl, refl, refl, refl, refl)
+
+-- `123456789. a`; `-    a`; `-     a`; ten digits; `    - a` with and without 32; `2. a` interrupting; `1) a` interrupting; `- - -`; `+ + +`;
+-- a blank start, and one that interrupts; without option 16
+on-starts : (start (49 ∷ 50 ∷ 51 ∷ 52 ∷ 53 ∷ 54 ∷ 55 ∷ 56 ∷ 57 ∷ 46 ∷ 32 ∷ 97 ∷ []) 59 false ≡ 0 ∷ 0 ∷ 1 ∷ 11 ∷ 11 ∷ 0 ∷ 46 ∷ [])
+    × (start (45 ∷ 32 ∷ 32 ∷ 32 ∷ 32 ∷ 97 ∷ []) 59 false ≡ 0 ∷ 0 ∷ 1 ∷ 5 ∷ 5 ∷ 0 ∷ 45 ∷ [])
+    × (start (45 ∷ 32 ∷ 32 ∷ 32 ∷ 32 ∷ 32 ∷ 97 ∷ []) 59 false ≡ 0 ∷ 0 ∷ 1 ∷ 2 ∷ 2 ∷ 0 ∷ 45 ∷ [])
+    × (start (49 ∷ 50 ∷ 51 ∷ 52 ∷ 53 ∷ 54 ∷ 55 ∷ 56 ∷ 57 ∷ 48 ∷ 46 ∷ 32 ∷ 97 ∷ []) 59 false ≡ 0 ∷ 0 ∷ 0 ∷ 0 ∷ 0 ∷ 0 ∷ 0 ∷ [])
+    × (start (32 ∷ 32 ∷ 32 ∷ 32 ∷ 45 ∷ 32 ∷ 97 ∷ []) 59 false ≡ 0 ∷ 0 ∷ 0 ∷ 0 ∷ 0 ∷ 0 ∷ 0 ∷ [])
+    × (start (32 ∷ 32 ∷ 32 ∷ 32 ∷ 45 ∷ 32 ∷ 97 ∷ []) 16 false ≡ 0 ∷ 0 ∷ 1 ∷ 6 ∷ 6 ∷ 0 ∷ 45 ∷ [])
+    × (start (50 ∷ 46 ∷ 32 ∷ 97 ∷ []) 59 true ≡ 0 ∷ 0 ∷ 0 ∷ 0 ∷ 0 ∷ 0 ∷ 0 ∷ [])
+    × (start (49 ∷ 41 ∷ 32 ∷ 97 ∷ []) 59 true ≡ 0 ∷ 0 ∷ 1 ∷ 3 ∷ 3 ∷ 0 ∷ 41 ∷ [])
+    × (start (45 ∷ 32 ∷ 45 ∷ 32 ∷ 45 ∷ []) 59 false ≡ 0 ∷ 0 ∷ 0 ∷ 0 ∷ 0 ∷ 0 ∷ 0 ∷ [])
+    × (start (43 ∷ 32 ∷ 43 ∷ 32 ∷ 43 ∷ []) 59 false ≡ 0 ∷ 0 ∷ 1 ∷ 2 ∷ 2 ∷ 0 ∷ 43 ∷ [])
+    × (start (45 ∷ 32 ∷ 32 ∷ 10 ∷ 97 ∷ []) 59 false ≡ 0 ∷ 0 ∷ 1 ∷ 1 ∷ 2 ∷ 1 ∷ 45 ∷ [])
+    × (start (45 ∷ []) 59 true ≡ 0 ∷ 0 ∷ 0 ∷ 0 ∷ 0 ∷ 0 ∷ 0 ∷ [])
+    × (start (45 ∷ 32 ∷ 97 ∷ []) 47 false ≡ 0 ∷ 0 ∷ 0 ∷ 0 ∷ 0 ∷ 0 ∷ 0 ∷ [])
+unfolding start startOf startIn startAt startFrom startAfter filledStart padding markerOf orderedOf mayStart startsWithOne orderedMark bulletMark thematicBreak marksOnly markOrBlank isMark breakMark blank blanks blanksUpTo indentation on every count leading digit spaceOrTab or and choose checkedLine reading lineOf endOf noFeed firstReturn
+on-starts = (refl, refl, refl, refl, refl, refl, refl, refl, refl, refl, refl, refl, refl)
+
+-- a blank line with the flag set and clear; a filled line that goes on, has too few, has none; size 0
+on-goings : (going (32 ∷ 10 ∷ []) 0 2 true ≡ 0 ∷ 0 ∷ 0 ∷ 0 ∷ 1 ∷ [])
+    × (going (32 ∷ 32 ∷ 32 ∷ []) 0 2 false ≡ 0 ∷ 0 ∷ 1 ∷ 2 ∷ 0 ∷ [])
+    × (going (32 ∷ 32 ∷ 32 ∷ 97 ∷ []) 0 2 true ≡ 0 ∷ 0 ∷ 1 ∷ 2 ∷ 0 ∷ [])
+    × (going (32 ∷ 97 ∷ []) 0 2 true ≡ 0 ∷ 0 ∷ 0 ∷ 0 ∷ 0 ∷ [])
+    × (going (97 ∷ []) 0 0 false ≡ 0 ∷ 0 ∷ 0 ∷ 0 ∷ 0 ∷ [])
+    × (going (32 ∷ 97 ∷ []) 0 0 false ≡ 0 ∷ 0 ∷ 1 ∷ 0 ∷ 0 ∷ [])
+    × (going (13 ∷ []) 0 0 true ≡ 4 ∷ 0 ∷ 0 ∷ 0 ∷ 0 ∷ [])
+unfolding going goingOf goingIn blankGoing filledGoing blank blanks blanksUpTo every leading spaceOrTab or and choose checkedLine reading lineOf endOf noFeed firstReturn
+on-goings = (refl, refl, refl, refl, refl, refl, refl)
+
+-- ` # a#`: enter 11, 14 from 0 to 1, 12 from 1 to 2, 14 from 2 to 3, Data from 3 to 5, exit 11
+heading-case : headingEvents (32 ∷ 35 ∷ 32 ∷ 97 ∷ 35 ∷ []) ≡
+    enter 11 0
+    ∷ enter 14 0
+    ∷ exit 14 1
+    ∷ enter 12 1
+    ∷ exit 12 2
+    ∷ enter 14 2
+    ∷ exit 14 3
+    ∷ enter 0 3
+    ∷ exit 0 5
+    ∷ exit 11 5
+    ∷ []
+unfolding headingEvents eventsFrom split pieces pieceOf blanks leading spaceOrTab filled hash or choose
+heading-case = refl
+
+-- `# #a`: a `#` run followed directly by Data
+run-then-data : headingEvents (35 ∷ 32 ∷ 35 ∷ 97 ∷ []) ≡
+    enter 11 0 ∷ enter 12 0 ∷ exit 12 1 ∷ enter 14 1 ∷ exit 14 2 ∷ enter 12 2 ∷ exit 12 3 ∷ enter 0 3 ∷ exit 0 4 ∷ exit 11 4 ∷ []
+unfolding headingEvents eventsFrom split pieces pieceOf blanks leading spaceOrTab filled hash or choose
+run-then-data = refl
+
+-- `#` and the end; seven; `#a`; without option 8; one byte of output too few; none for a line that is no heading
+on-headings : (headed (35 ∷ 10 ∷ 97 ∷ []) 63 36 ≡ 0 ∷ 0 ∷ 1 ∷ 4 ∷ [])
+    × (headed (replicate 7 35) 63 999 ≡ 0 ∷ 0 ∷ 0 ∷ 0 ∷ [])
+    × (headed (35 ∷ 97 ∷ []) 63 999 ≡ 0 ∷ 0 ∷ 0 ∷ 0 ∷ [])
+    × (headed (35 ∷ []) 55 999 ≡ 0 ∷ 0 ∷ 0 ∷ 0 ∷ [])
+    × (headed (35 ∷ []) 8 35 ≡ 8 ∷ 0 ∷ 0 ∷ 0 ∷ [])
+    × (headed (97 ∷ []) 8 0 ≡ 0 ∷ 0 ∷ 0 ∷ 0 ∷ [])
+unfolding headed headedOf headedIn sized headingEvents eventsFrom split pieces pieceOf isHeading opening brokenOff indentation on blanks blanksUpTo leading spaceOrTab filled hash or and choose checkedLine reading lineOf endOf noFeed firstReturn
+on-headings = (refl, refl, refl, refl, refl, refl)

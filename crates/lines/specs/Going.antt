@@ -8,7 +8,7 @@ use mathlib.Core.List.{List}
 use lib.Dec.{leb}
 use Rattle.record.specs.Choice.{choose, and}
 use Rattle.lines.specs.Run.{blank, blanks, blanksUpTo}
-use Rattle.lines.specs.Line.{lineOf, checkedLine, reading}
+use Rattle.lines.specs.Line.{lineOf, checkedLine, reading, flag}
 use Rattle.lines.specs.declared.container.Container.{Container}
 use Rattle.lines.specs.declared.going.Going.{Going}
 use Rattle.lines.specs.declared.going.Going.the-variants.{Goes, Stops, Refused}
@@ -29,3 +29,16 @@ goingIn l held = choose (blank l) (blankGoing l held) (filledGoing l (cleared he
 
 unfoldable pub goingOf : List ℕ → ℕ → Container → Going
 goingOf s options held = reading (checkedLine s options) Refused (goingIn (lineOf s) held)
+
+-- "their other numbers are zero, but for the continuation's flag as it then stands"
+pub record Numbers : Type 0 where
+  pub number : ℕ
+  pub place : ℕ
+  pub found : ℕ
+  pub taken : ℕ
+  pub blank : ℕ
+
+abbrev pub numbersOf : Going → Numbers
+numbersOf (Goes taken held) = record { number = 0; place = 0; found = 1; taken = taken; blank = flag (held .blank) }
+numbersOf (Stops held) = record { number = 0; place = 0; found = 0; taken = 0; blank = flag (held .blank) }
+numbersOf (Refused r) = record { number = r .number; place = r .place; found = 0; taken = 0; blank = 0 }

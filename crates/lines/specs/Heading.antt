@@ -4,12 +4,13 @@ use Prim.Native.Nat.{ℕ, zero, suc, _+_, _*_}
 use mathlib.Core.Bool.{Bool, true, false}
 use mathlib.Core.List.{List, [], _∷_, _++_}
 use lib.ListN.{length, drop}
-use lib.Dec.{leb, ltb}
+use lib.Dec.{leb}
 use Rattle.record.specs.Choice.{choose, and}
 use Rattle.record.specs.Event.{enter, exit, sectionBytes}
+use Rattle.record.specs.Outcome.{Outcome, accepted, refused, sized}
 use Rattle.record.specs.declared.event.Event.{Event}
 use Rattle.lines.specs.Run.{spaceOrTab, filled, hash, leading, first, blanks, on, indentation}
-use Rattle.lines.specs.Line.{lineOf, checkedLine, reading, refusal}
+use Rattle.lines.specs.Line.{lineOf, checkedLine, reading}
 use Rattle.lines.specs.declared.heading.Piece.{Piece}
 use Rattle.lines.specs.declared.heading.Headed.{Headed}
 use Rattle.lines.specs.declared.heading.Headed.the-variants.{Heading, NotHeading, Refused}
@@ -65,17 +66,27 @@ pub record Result : Type 0 where
 abbrev pub nothing : Headed → Result
 nothing answer = record { answer = answer; bytes = [] }
 
--- numbers 7 and 8: "result over 8,000 events", "output shorter than 4 + 8 × result", of which there are `outs` bytes
-unfoldable pub written : ℕ → List Event → Result
-written outs es =
-    choose (ltb 8000 (length es)) (nothing (Refused (refusal 7 0)))
-    (choose (ltb outs (4 + 8 * length es)) (nothing (Refused (refusal 8 0)))
-    (record { answer = Heading (length es); bytes = sectionBytes es }))
+-- a section written, or a refusal and nothing written
+abbrev pub headed : Outcome → Result
+headed (accepted es) = record { answer = Heading (length es); bytes = sectionBytes es }
+headed (refused r) = nothing (Refused r)
 
--- on a line
+-- on a line, with an output of `outs` bytes: numbers 7 and 8 as for every call that writes a section
 unfoldable pub headedIn : List ℕ → ℕ → ℕ → Result
-headedIn l options outs = choose (isHeading l options) (written outs (headingEvents l)) (nothing NotHeading)
+headedIn l options outs = choose (isHeading l options) (headed (sized (headingEvents l) outs)) (nothing NotHeading)
 
 -- of the line, the options and the output's length alone
 unfoldable pub headedOf : List ℕ → ℕ → ℕ → Result
 headedOf s options outs = reading (checkedLine s options) (λ r. nothing (Refused r)) (headedIn (lineOf s) options outs)
+
+-- number, place and values of each answer
+pub record Numbers : Type 0 where
+  pub number : ℕ
+  pub place : ℕ
+  pub found : ℕ
+  pub events : ℕ
+
+abbrev pub numbersOf : Headed → Numbers
+numbersOf (Heading events) = record { number = 0; place = 0; found = 1; events = events }
+numbersOf NotHeading = record { number = 0; place = 0; found = 0; events = 0 }
+numbersOf (Refused r) = record { number = r .number; place = r .place; found = 0; events = 0 }

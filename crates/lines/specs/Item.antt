@@ -7,7 +7,7 @@ use lib.ListN.{getD, drop}
 use lib.Dec.{leb, eqb}
 use Rattle.record.specs.Choice.{choose, and}
 use Rattle.lines.specs.Run.{or, spaceOrTab, digit, leading, every, count, first, blank, blanks, on, indentation}
-use Rattle.lines.specs.Line.{lineOf, checkedLine, reading}
+use Rattle.lines.specs.Line.{lineOf, checkedLine, reading, flag}
 use Rattle.lines.specs.declared.container.Kind.{Kind}
 use Rattle.lines.specs.declared.container.Kind.the-variants.{Bullet, Ordered}
 use Rattle.lines.specs.declared.container.Container.{Container}
@@ -105,3 +105,24 @@ startIn l options interrupting =
 
 unfoldable pub startOf : List ℕ → ℕ → Bool → Start
 startOf s options interrupting = reading (checkedLine s options) Refused (startIn (lineOf s) options interrupting)
+
+-- the mark: the marker's byte, `.` or `)` where it is ordered
+abbrev pub markOf : Kind → ℕ
+markOf (Bullet mark) = mark
+markOf (Ordered mark) = mark
+
+-- "Answered: bytes taken .., size, flag, mark."
+pub record Numbers : Type 0 where
+  pub number : ℕ
+  pub place : ℕ
+  pub found : ℕ
+  pub taken : ℕ
+  pub size : ℕ
+  pub blank : ℕ
+  pub mark : ℕ
+
+abbrev pub numbersOf : Start → Numbers
+numbersOf (Item taken held) =
+    record { number = 0; place = 0; found = 1; taken = taken; size = held .size; blank = flag (held .blank); mark = markOf (held .kind) }
+numbersOf NotItem = record { number = 0; place = 0; found = 0; taken = 0; size = 0; blank = 0; mark = 0 }
+numbersOf (Refused r) = record { number = r .number; place = r .place; found = 0; taken = 0; size = 0; blank = 0; mark = 0 }

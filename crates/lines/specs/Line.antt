@@ -1,7 +1,7 @@
 -- Where a line ends, and numbers 2, 3 and 4, which all line readers give alike. specs/Rows.antt says the same as the table has it.
 -- Assumes nothing.
 use Prim.Native.Nat.{ℕ}
-use mathlib.Core.Bool.{Bool, not}
+use mathlib.Core.Bool.{Bool, true, false, not}
 use mathlib.Core.List.{List}
 use lib.ListN.{length, take}
 use lib.Dec.{ltb, eqb}
@@ -33,6 +33,11 @@ checkedLine s options =
     (choose (ltb 16384 (length s)) (Bad (refusal 3 16384))
     (choose (ltb (firstReturn (length s) s 0) (length s)) (Bad (refusal 4 (firstReturn (length s) s 0)))
     (Ends (endOf s))))
+
+-- Numbers given back: a flag is 0 or 1
+abbrev pub flag : Bool → ℕ
+flag true = 1
+flag false = 0
 
 -- the refusal as an answer, or else what is found on the line
 unfoldable pub reading : {A : Type 0} → Checked → (Refusal → A) → A → A

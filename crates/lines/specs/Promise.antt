@@ -2,14 +2,11 @@
 -- Assumes nothing.
 use Prim.Native.Nat.{ℕ}
 use mathlib.Core.Path.{_≡_}
-use mathlib.Core.List.{List, _++_}
-use lib.ListN.{length, drop}
+use mathlib.Core.List.{List}
+use lib.ListN.{length}
+use Rattle.record.specs.Outcome.{onto}
 use Rattle.lines.specs.Heading.{Result, headedIn, headedOf}
 use Rattle.lines.specs.declared.heading.Headed.{Headed}
-
--- bytes written over the start of what was there; where there are none, it stays
-unfoldable pub onto : List ℕ → List ℕ → List ℕ
-onto bytes out = bytes ++ drop (length bytes) out
 
 -- on a line: r is answered, and out′ is what the output then holds
 pub record HeadedIn (l : List ℕ) (options : ℕ) (out : List ℕ) (r : Headed) (out′ : List ℕ) : Type 0 where

@@ -16,3 +16,16 @@ spacesIn l min max = choose (leb min (blanksUpTo max l)) (Taken (blanksUpTo max 
 
 unfoldable pub spacesOf : List ℕ → ℕ → ℕ → ℕ → Spaces
 spacesOf s options min max = reading (checkedLine s options) Refused (spacesIn (lineOf s) min max)
+
+-- "a definition gives this paper's number and values for each case of the enum": number and place are 0 but for a refusal, which has all
+-- else 0; `found` is 0 for a finding
+pub record Numbers : Type 0 where
+  pub number : ℕ
+  pub place : ℕ
+  pub found : ℕ
+  pub taken : ℕ
+
+abbrev pub numbersOf : Spaces → Numbers
+numbersOf (Taken n) = record { number = 0; place = 0; found = 1; taken = n }
+numbersOf TooFew = record { number = 0; place = 0; found = 0; taken = 0 }
+numbersOf (Refused r) = record { number = r .number; place = r .place; found = 0; taken = 0 }
