@@ -8,3 +8,4 @@ pub mod Chosen
 pub mod Goings
 pub mod Pieces
 pub mod Headings
+pub mod Lawful

@@ -162,6 +162,7 @@ module _ (l : List ℕ) where
 -- what a marker tells: it stands within what it is looked for in, and that is not a thematic break
 pub record Told (z : Bool) (l : List ℕ) (width : ℕ) : Type 0 where
   pub some : 1 ≤ width
+  pub narrow : width ≤ 10
   pub fits : width ≤ length l
   pub no-break : thematicBreak l ≡ false
 
@@ -204,7 +205,7 @@ bullet-told z l kind width b q =
     (λ w.
     let e : width ≡ 1 = marked-width _ _ _ _ (w .1) in
     let h : 0 < length l = there l 0 (bullet-there (first l) b) in
-    record { some = omega arith; fits = omega arith; no-break = w .0 })
+    record { some = omega arith; narrow = omega arith; fits = omega arith; no-break = w .0 })
     (chosen _ _ _ _ q)
 
 ordered-told : (z : Bool) (l : List ℕ) (kind : Kind) (width : ℕ) → Marked kind width ≡ orderedOf z l → Told z l width
@@ -214,9 +215,10 @@ ordered-told z l kind width q =
     (λ w.
     let e : width ≡ leading digit l + 1 = marked-width _ _ _ _ (w .1) in
     let d : 1 ≤ leading digit l = leb-true _ _ (and-left _ _ (w .0)) in
+    let nine : leading digit l ≤ 9 = leb-true _ _ (and-left _ _ (and-right _ _ (w .0))) in
     let m = and-left _ _ (and-right _ _ (and-right _ _ (w .0))) in
     let h : leading digit l < length l = there l (leading digit l) (ordered-there _ m) in
-    record { some = omega arith; fits = omega arith; no-break = break-needs l (digit-no-break _ (first-of digit l d)) })
+    record { some = omega arith; narrow = omega arith; fits = omega arith; no-break = break-needs l (digit-no-break _ (first-of digit l d)) })
     (λ w. absurd (unmarked-not kind width (w .1)))
     (chosen _ _ _ _ q)
 

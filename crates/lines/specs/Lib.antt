@@ -5,4 +5,6 @@ pub mod Item
 pub mod Going
 pub mod Heading
 pub mod Promise
+pub mod Laws
+pub mod Rows
 pub mod Cases
