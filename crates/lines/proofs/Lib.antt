@@ -9,3 +9,4 @@ pub mod Goings
 pub mod Pieces
 pub mod Headings
 pub mod Lawful
+pub mod Covering

@@ -79,7 +79,7 @@ pub split-none : (l : List ℕ) (at : ℕ) → length l ≤ at → split (drop a
 unfolding split pieces
 split-none l at h = rw (drop-of-length-le l {i = at} h)
 
-split-cons : (l : List ℕ) → 0 < length l → split l ≡ pieceOf l ∷ split (drop (pieceOf l .size) l)
+pub split-cons : (l : List ℕ) → 0 < length l → split l ≡ pieceOf l ∷ split (drop (pieceOf l .size) l)
 unfolding split pieces
 split-cons [] h = absurd (omega arith)
 split-cons (b ∷ l) h =
