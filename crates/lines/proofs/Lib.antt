@@ -10,3 +10,4 @@ pub mod Pieces
 pub mod Headings
 pub mod Lawful
 pub mod Covering
+pub mod ExactlyRead

@@ -6,10 +6,13 @@ use mathlib.Core.Path.{_≡_}
 use mathlib.Core.Bool.{Bool, true, false}
 use mathlib.Core.List.{List}
 use lib.ListN.{length, getD}
+use Rattle.record.specs.Choice.{choose}
 use Rattle.record.specs.Rows.{Least}
 use Rattle.record.specs.declared.check.Refusal.{Refusal}
 use Rattle.lines.specs.Line.{lineOf, refusal}
 use Rattle.lines.specs.Heading.{isHeading, headingEvents}
+use Rattle.lines.specs.declared.heading.Headed.{Headed}
+use Rattle.lines.specs.declared.heading.Headed.the-variants.{Heading, NotHeading}
 
 -- the rows of every line reader: "options over 63"; "a line over 16,384 bytes", at 16,384; "a carriage return in the .. line", at its offset
 pub data Row (s : List ℕ) (options n p : ℕ) : Type 0 where
@@ -29,3 +32,7 @@ pub record Exactly {A : Type 0} (R : ℕ → ℕ → Type 0) (refuse : Refusal �
   pub refused : (n p : ℕ) → answer ≡ refuse (refusal n p) → Least R n p
   pub given : (n p : ℕ) → Least R n p → answer ≡ refuse (refusal n p)
   pub finds : ((n p : ℕ) → R n p → ⊥) → answer ≡ found
+
+-- what the heading reader finds where no row holds
+abbrev pub headingFound : List ℕ → ℕ → Headed
+headingFound l options = choose (isHeading l options) (Heading (length (headingEvents l))) NotHeading

@@ -94,7 +94,7 @@ strict a b h ne = go (leb (a + 1) b) refl
         absurd (ne (omega arith))
 
 -- the first carriage return: at or after the place, there, and before any other
-first-low : (n : ℕ) (s : List ℕ) (at : ℕ) → at ≤ firstReturn n s at
+pub first-low : (n : ℕ) (s : List ℕ) (at : ℕ) → at ≤ firstReturn n s at
 unfolding firstReturn choose
 first-low zero s at = omega arith
 first-low (suc n) s at = go (eqb (getD s at 0) 13) (first-low n s (at + 1))
@@ -103,7 +103,7 @@ first-low (suc n) s at = go (eqb (getD s at 0) 13) (first-low n s (at + 1))
     go true h = omega arith
     go false h = omega arith
 
-first-there : (n : ℕ) (s : List ℕ) (at : ℕ) → firstReturn n s at < at + n → getD s (firstReturn n s at) 0 ≡ 13
+pub first-there : (n : ℕ) (s : List ℕ) (at : ℕ) → firstReturn n s at < at + n → getD s (firstReturn n s at) 0 ≡ 13
 unfolding firstReturn choose
 first-there zero s at h = absurd (omega arith)
 first-there (suc n) s at h = go (eqb (getD s at 0) 13) refl (first-there n s (at + 1)) h
@@ -113,7 +113,7 @@ first-there (suc n) s at h = go (eqb (getD s at 0) 13) refl (first-there n s (at
     go true e f h = eqb-true _ _ e
     go false e f h = f (omega arith)
 
-first-least : (n : ℕ) (s : List ℕ) (at q : ℕ) → at ≤ q → getD s q 0 ≡ 13 → firstReturn n s at ≤ q ⊎ (at + n ≤ q)
+pub first-least : (n : ℕ) (s : List ℕ) (at q : ℕ) → at ≤ q → getD s q 0 ≡ 13 → firstReturn n s at ≤ q ⊎ (at + n ≤ q)
 unfolding firstReturn choose
 first-least zero s at q h e = inr (omega arith)
 first-least (suc n) s at q h e = go (eqb (getD s at 0) 13) refl (first-least n s (at + 1) q)
