@@ -2,11 +2,13 @@
 
 use record::check::Refusal;
 use record::check::first_return;
-use record::limits::MAX_DOCUMENT;
 use record::limits::MAX_OPTIONS;
 ghost use mathlib.Core.Path.{_≡_};
 ghost use lib.ListN.{length};
 ghost use Rattle.lines.specs.Line.{endOf, checkedLine};
+
+// The longest line.
+pub const MAX_LINE: usize = 16384;
 
 // What the check finds: the length of the line proper, or the refusal.
 pub enum Checked {
@@ -38,12 +40,13 @@ pub fn check_line(s: &[u8], options: u32) -> Checked
             place: 0,
         });
     }
-    if s.len() > MAX_DOCUMENT {
+    if s.len() > MAX_LINE {
         return Checked::Bad(Refusal {
             number: 3,
-            place: MAX_DOCUMENT,
+            place: MAX_LINE,
         });
     }
+    let end = line_end(s);
     let returned = first_return(s, 0, s.len());
     if returned < s.len() {
         return Checked::Bad(Refusal {
@@ -51,5 +54,5 @@ pub fn check_line(s: &[u8], options: u32) -> Checked
             place: returned,
         });
     }
-    Checked::Ends(line_end(s))
+    Checked::Ends(end)
 }

@@ -1,3 +1,5 @@
+-- `lines::going::going_in` meets its contract: each return is a case of the definition.
+-- Assumes nothing.
 use Rattle.lines.proofs.Goings.{blank-stops, blank-goes, none-stops, few-stops, enough-goes}
 use borrow.Author.Needs.{needs}
 use Rattle.lines.proofs.going.going_in.Statement.{statement}

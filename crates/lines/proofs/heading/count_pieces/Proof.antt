@@ -1,3 +1,6 @@
+-- `lines::heading::count_pieces` meets its contract. The invariant: n pieces are passed, and those from here on make up all; the measure
+-- is what is left of the line.
+-- Assumes nothing.
 use Prim.Native.Nat.{_-_}
 use lib.ListN.{length}
 use Rattle.lines.proofs.Pieces.{Split, split-start, split-step, split-turn, split-done}

@@ -1,3 +1,5 @@
+-- `lines::heading::headed_in` meets its contract: each return is a case of the definition; the four writes together are the section.
+-- Assumes nothing.
 use mathlib.Core.Path.{sym, _∙_}
 use borrow.Author.Tests.{not-true, not-false}
 use Rattle.lines.proofs.Headings.{answers-no, answers-seven, answers-eight, answers-heading}

@@ -1,3 +1,5 @@
+-- `lines::heading::heading` meets its contract: after the check, what is found on the part of the slice before its end.
+-- Assumes nothing.
 use mathlib.Core.Path.{sym, _∙_}
 use Rattle.lines.proofs.Checks.{lined}
 use Rattle.lines.proofs.Headings.{heading-refused, heading-found}

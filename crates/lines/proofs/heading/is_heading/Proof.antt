@@ -1,3 +1,5 @@
+-- `lines::heading::is_heading` meets its contract: each return is a case of the definition.
+-- Assumes nothing.
 use Rattle.lines.proofs.Taking.{indent-fits}
 use Rattle.lines.proofs.Headings.{headings-off, headings-on}
 use borrow.Author.Needs.{needs}

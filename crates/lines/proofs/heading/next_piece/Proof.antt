@@ -1,3 +1,5 @@
+-- `lines::heading::next_piece` meets its contract: each return is a case of the definition.
+-- Assumes nothing.
 use mathlib.Core.Path.{sym, _∙_}
 use Rattle.lines.proofs.Pieces.{blank-piece, hash-piece, data-piece}
 use borrow.Author.Needs.{needs}

@@ -1,3 +1,5 @@
+-- `lines::heading::opens` meets its contract: each return is a case of the definition.
+-- Assumes nothing.
 use Rattle.lines.proofs.Headings.{no-hashes, too-many-hashes, line-ends, line-goes-on}
 use borrow.Author.Needs.{needs}
 use Rattle.lines.proofs.heading.opens.Statement.{statement}

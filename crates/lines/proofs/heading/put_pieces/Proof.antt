@@ -1,3 +1,6 @@
+-- `lines::heading::put_pieces` meets its contract. The invariant: the events of the pieces passed are written, and those from here on
+-- make up all; the measure is what is left of the line.
+-- Assumes nothing.
 use Prim.Native.Nat.{_-_}
 use lib.ListN.{length}
 use Rattle.lines.proofs.Pieces.{Putting, put-start, put-step, put-room, put-turn, put-done}

@@ -1,3 +1,5 @@
+-- `lines::item::is_bullet` meets its contract: each return is a case of the definition.
+-- Assumes nothing.
 use Rattle.lines.specs.Run.{or}
 use borrow.Author.Tests.{eq-eqb, ne-eqb}
 use Rattle.lines.specs.Item.{bulletMark}

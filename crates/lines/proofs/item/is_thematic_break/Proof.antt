@@ -1,3 +1,5 @@
+-- `lines::item::is_thematic_break` meets its contract: each return is a case of the definition.
+-- Assumes nothing.
 use mathlib.Core.Path.{sym, _∙_}
 use borrow.Author.Tests.{not-true, not-false}
 use Rattle.lines.proofs.Marks.{no-break-mark, break-mark}

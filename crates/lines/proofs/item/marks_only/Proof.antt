@@ -1,3 +1,6 @@
+-- `lines::item::marks_only` meets its contract. The invariant: the marks counted so far and those left, and what is left to look at, find
+-- what the whole does; the measure is what is left of the slice.
+-- Assumes nothing.
 use mathlib.Core.Path.{sym, _∙_}
 use mathlib.Core.Logic.{⊎-elim}
 use Prim.Native.Nat.{_-_}

@@ -1,3 +1,5 @@
+-- `lines::item::start_after` meets its contract: each return is a case of the definition.
+-- Assumes nothing.
 use Rattle.lines.proofs.Starts.{blank-interrupts, blank-starts, no-padding, wide-padding, all-padding}
 use borrow.Author.Needs.{needs}
 use Rattle.lines.proofs.item.start_after.Statement.{statement}

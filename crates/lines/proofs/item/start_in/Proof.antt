@@ -1,3 +1,6 @@
+-- `lines::item::start_in` meets its contract: each return is a case of the definition; that the parts of the slice are there follows from
+-- what indentation and marker tell.
+-- Assumes nothing.
 use mathlib.Core.Path.{sym, _∙_}
 use Rattle.lines.proofs.Taking.{indent-fits}
 use Rattle.lines.proofs.Marks.{told}

@@ -1,3 +1,5 @@
+-- `lines::scan::indented` meets its contract: each return is a case of the definition.
+-- Assumes nothing.
 use Rattle.lines.proofs.Taking.{indent-three, indent-free}
 use borrow.Author.Needs.{needs}
 use Rattle.lines.proofs.scan.indented.Statement.{statement}

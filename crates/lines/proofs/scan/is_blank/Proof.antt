@@ -1,3 +1,5 @@
+-- `lines::scan::is_blank` meets its contract: each return is a case of the definition.
+-- Assumes nothing.
 use borrow.Author.Tests.{eq-eqb, ne-eqb}
 use Rattle.lines.specs.Run.{or, spaceOrTab}
 use borrow.Author.Needs.{needs}

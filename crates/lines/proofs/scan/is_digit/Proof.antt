@@ -1,3 +1,5 @@
+-- `lines::scan::is_digit` meets its contract: each return is a case of the definition.
+-- Assumes nothing.
 use mathlib.Core.Path.{sym}
 use Rattle.lines.proofs.ByteKinds.{below-digits, above-digits, a-digit}
 use borrow.Author.Needs.{needs}

@@ -1,3 +1,5 @@
+-- `lines::spaces::spaces_in` meets its contract: each return is a case of the definition.
+-- Assumes nothing.
 use Rattle.lines.proofs.Taking.{too-few, enough}
 use borrow.Author.Needs.{needs}
 use Rattle.lines.proofs.spaces.spaces_in.Statement.{statement}
