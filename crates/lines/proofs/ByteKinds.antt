@@ -1,11 +1,11 @@
 -- The kinds of bytes, case by case.
 -- Assumes nothing.
-use mathlib.Core.Path.{_≡_, refl, ap, _∙_}
-use mathlib.Core.Bool.{Bool, true, false, not}
+use mathlib.Core.Path.{_≡_, ap}
+use mathlib.Core.Bool.{true, false, not}
 use Prim.Native.Nat.{ℕ, _≤_, _<_}
 use borrow.Author.Tests.{eq-eqb, ne-eqb, le-leb, lt-leb}
 use Rattle.record.specs.Choice.{and}
-use Rattle.lines.specs.Run.{or, spaceOrTab, filled, digit, hash}
+use Rattle.lines.specs.Run.{spaceOrTab, filled, digit, hash}
 use Rattle.lines.specs.Line.{noFeed}
 
 module _ (b : ℕ) where

@@ -9,15 +9,14 @@ use Prim.Native.Nat.{ℕ, zero, suc, _+_, _-_, _≤_, _<_}
 use native.Mathlib.Omega.{arith}
 use lib.ListN.{length, getD, take, drop, length-drop}
 use lib.Seq.{getD-drop}
-use lib.Dec.{leb, ltb, eqb}
 use borrow.Author.Tests.{le-leb, lt-ltb, eq-eqb, leb-true, eqb-true}
 use Rattle.record.specs.Choice.{choose, and}
 use Rattle.record.specs.Event.{enter, exit}
 use Rattle.record.specs.Stack.{fitsOpen, after}
-use Rattle.record.specs.Sound.{placed, soundFrom, sound}
+use Rattle.record.specs.Sound.{placed, soundFrom}
 use Rattle.record.specs.declared.event.Event.{Event}
 use Rattle.record.proofs.Bools.{and-left, and-right}
-use Rattle.lines.specs.Run.{or, spaceOrTab, hash, filled, leading, first, blanks, blanksUpTo, on, indentation}
+use Rattle.lines.specs.Run.{or, spaceOrTab, hash, leading, first, blanks, blanksUpTo, on, indentation}
 use Rattle.lines.specs.Heading.{opening, isHeading, piece, pieceOf, pieces, split, eventsFrom, headingEvents}
 use Rattle.lines.specs.Laws.{gapless, HeadingLaws, HeadingShape}
 use Rattle.lines.specs.declared.heading.Piece.{Piece}

@@ -14,7 +14,6 @@ use Rattle.record.specs.Choice.{choose}
 use Rattle.record.specs.Check.{firstReturn}
 use Rattle.record.specs.Rows.{Least}
 use Rattle.record.specs.Outcome.{sized, accepted, refusing}
-use Rattle.record.specs.declared.event.Event.{Event}
 use Rattle.record.specs.declared.check.Refusal.{Refusal}
 use Rattle.record.proofs.Exactly.{least-only, first-there, first-least}
 use Rattle.lines.specs.Line.{endOf, lineOf, refusal, checkedLine, reading}
@@ -23,20 +22,16 @@ use Rattle.lines.specs.Rows.{reading as by-reading}
 use Rattle.lines.specs.Spaces.{spacesIn, spacesOf}
 use Rattle.lines.specs.Item.{filledStart, startAfter, startFrom, startAt, startIn, startOf}
 use Rattle.lines.specs.Going.{blankGoing, filledGoing, goingIn, goingOf}
-use Rattle.lines.specs.Heading.{isHeading, headingEvents, Result, nothing, headed, headedIn, headedOf}
+use Rattle.lines.specs.Heading.{isHeading, headingEvents, nothing, headed, headedIn, headedOf}
 use Rattle.lines.specs.declared.line.Checked.{Checked}
 use Rattle.lines.specs.declared.line.Checked.the-variants.{Ends, Bad}
 use Rattle.lines.specs.declared.container.Kind.{Kind}
 use Rattle.lines.specs.declared.container.Container.{Container}
 use Rattle.lines.specs.declared.item.Marker.{Marker}
 use Rattle.lines.specs.declared.item.Marker.the-variants.{Marked, Unmarked}
-use Rattle.lines.specs.declared.spaces.Spaces.{Spaces}
-use Rattle.lines.specs.declared.spaces.Spaces.the-variants.{Taken, TooFew, Refused as SpacesRefused}
-use Rattle.lines.specs.declared.item.Start.{Start}
+use Rattle.lines.specs.declared.spaces.Spaces.the-variants.{Refused as SpacesRefused}
 use Rattle.lines.specs.declared.item.Start.the-variants.{Item, NotItem, Refused as StartRefused}
-use Rattle.lines.specs.declared.going.Going.{Going}
 use Rattle.lines.specs.declared.going.Going.the-variants.{Goes, Stops, Refused as GoingRefused}
-use Rattle.lines.specs.declared.heading.Headed.{Headed}
 use Rattle.lines.specs.declared.heading.Headed.the-variants.{Heading, NotHeading, Refused as HeadedRefused}
 
 -- what an answer comes to, of the rows R

@@ -1,14 +1,14 @@
 -- Continuation, case by case.
 -- Assumes nothing.
-use mathlib.Core.Path.{_≡_, refl, sym, ap, _∙_}
-use mathlib.Core.Bool.{Bool, true, false}
+use mathlib.Core.Path.{_≡_}
+use mathlib.Core.Bool.{true, false}
 use mathlib.Core.List.{List}
 use Prim.Native.Nat.{ℕ, _-_, _≤_, _<_}
 use native.Mathlib.Omega.{arith}
 use lib.ListN.{length, take, drop}
 use borrow.Author.Tests.{le-leb, lt-leb}
 use Rattle.record.specs.Choice.{choose, and}
-use Rattle.lines.specs.Run.{blank, blanks, blanksUpTo}
+use Rattle.lines.specs.Run.{blank, blanksUpTo}
 use Rattle.lines.specs.Line.{checkedLine}
 use Rattle.lines.specs.Going.{cleared, blankGoing, filledGoing, goingIn, goingOf}
 use Rattle.lines.specs.declared.line.Checked.the-variants.{Ends}

@@ -2,12 +2,11 @@
 -- Assumes nothing.
 use mathlib.Core.Path.{_≡_, refl, sym, ap, _∙_}
 use mathlib.Core.Bool.{Bool, true, false}
-use mathlib.Core.List.{List, [], _∷_, _++_, append-assoc}
-use Prim.Native.Nat.{ℕ, suc, _+_, _*_, _-_, _≤_, _<_, _/_, _%_}
+use mathlib.Core.List.{List, [], _∷_, _++_}
+use Prim.Native.Nat.{ℕ, _+_, _*_, _-_, _≤_, _<_, _/_, _%_}
 use native.Mathlib.Omega.{arith}
 use lib.ListN.{length, getD, take, drop, length-append, drop-of-length-le}
 use lib.Seq.{drop-cons}
-use lib.Dec.{ltb}
 use borrow.Author.Tests.{le-leb, lt-leb, lt-ltb, le-ltb}
 use Rattle.record.specs.Choice.{choose, and}
 use Rattle.record.specs.Bytes.{Wrote, u32Bytes}
@@ -18,7 +17,7 @@ use Rattle.record.specs.declared.check.Refusal.{Refusal}
 use Rattle.record.proofs.Splice.{wrote-then}
 use Rattle.record.proofs.Sections.{length-flat, flat-append, section}
 use Rattle.lines.specs.Run.{spaceOrTab, hash, leading, indentation}
-use Rattle.lines.specs.Line.{lineOf, checkedLine, refusal, reading}
+use Rattle.lines.specs.Line.{lineOf, checkedLine, refusal}
 use Rattle.lines.specs.Heading.{brokenOff, opening, isHeading, split, eventsFrom, headingEvents, Result, nothing, headedIn, headedOf}
 use Rattle.lines.specs.Promise.{HeadedIn, HeadedBy}
 use Rattle.lines.specs.declared.line.Checked.the-variants.{Ends, Bad}

@@ -2,33 +2,30 @@
 -- Assumes nothing.
 use mathlib.Core.Path.{_≡_, refl, sym, ap, _∙_}
 use mathlib.Core.Bool.{Bool, true, false}
-use mathlib.Core.Logic.{_⊎_, inl, inr, ⊎-elim}
+use mathlib.Core.Logic.{_⊎_, ⊎-elim}
 use mathlib.Core.List.{List}
-use Prim.Native.Nat.{ℕ, _+_, _-_, _≤_, _<_}
+use Prim.Native.Nat.{ℕ, _+_, _-_, _≤_}
 use native.Mathlib.Omega.{arith}
 use lib.ListN.{length, drop, length-drop}
-use lib.Dec.{leb, eqb}
-use borrow.Author.Tests.{leb-true, leb-false, eqb-true, eqb-false}
+use lib.Dec.{leb}
+use borrow.Author.Tests.{leb-true, eqb-false}
 use Rattle.record.specs.Choice.{choose, and}
 use Rattle.record.specs.declared.check.Refusal.{Refusal}
-use Rattle.record.proofs.Bools.{and-left, and-right}
-use Rattle.lines.specs.Run.{blank, blanks, blanksUpTo, on, indentation}
+use Rattle.record.proofs.Bools.{and-right}
+use Rattle.lines.specs.Run.{blank, blanks, blanksUpTo, indentation}
 use Rattle.lines.specs.Line.{lineOf, checkedLine, reading}
 use Rattle.lines.specs.Spaces.{spacesIn, spacesOf}
-use Rattle.lines.specs.Item.{thematicBreak, markerOf, container, padding, filledStart, startAfter, startFrom, startAt, startIn, startOf}
+use Rattle.lines.specs.Item.{markerOf, container, padding, filledStart, startAfter, startFrom, startAt, startIn, startOf}
 use Rattle.lines.specs.Going.{cleared, blankGoing, filledGoing, goingIn, goingOf}
 use Rattle.lines.specs.Laws.{TakenLaws, ItemLaws, GoesLaws}
 use Rattle.lines.specs.declared.line.Checked.{Checked}
 use Rattle.lines.specs.declared.line.Checked.the-variants.{Ends, Bad}
 use Rattle.lines.specs.declared.container.Kind.{Kind}
 use Rattle.lines.specs.declared.container.Container.{Container}
-use Rattle.lines.specs.declared.spaces.Spaces.{Spaces}
 use Rattle.lines.specs.declared.spaces.Spaces.the-variants.{Taken, TooFew, Refused as SpacesRefused}
 use Rattle.lines.specs.declared.item.Marker.{Marker}
 use Rattle.lines.specs.declared.item.Marker.the-variants.{Marked, Unmarked}
-use Rattle.lines.specs.declared.item.Start.{Start}
 use Rattle.lines.specs.declared.item.Start.the-variants.{Item, NotItem, Refused as StartRefused}
-use Rattle.lines.specs.declared.going.Going.{Going}
 use Rattle.lines.specs.declared.going.Going.the-variants.{Goes, Stops, Refused as GoingRefused}
 use Rattle.lines.proofs.Chosen.{chosen}
 use Rattle.lines.proofs.Taking.{upTo-max, upTo-length, blanks-length, indent-length}

@@ -7,12 +7,11 @@ use mathlib.Core.List.{List, [], _∷_, _++_, append-nil, append-assoc}
 use Prim.Native.Nat.{ℕ, zero, suc, _+_, _*_, _-_, _≤_, _<_}
 use native.Mathlib.Nat.{zero-add}
 use native.Mathlib.Omega.{arith}
-use lib.ListN.{length, getD, take, drop, length-drop, length-append, drop-of-length-le}
-use lib.Seq.{drop-drop, drop-cons}
-use borrow.Author.Tests.{le-leb, lt-leb}
-use Rattle.record.specs.Choice.{choose, and}
+use lib.ListN.{length, take, drop, length-drop, length-append, drop-of-length-le}
+use lib.Seq.{drop-drop}
+use Rattle.record.specs.Choice.{choose}
 use Rattle.record.specs.Bytes.{Wrote}
-use Rattle.record.specs.Event.{enter, exit, eventBytes, bytesOf, flat}
+use Rattle.record.specs.Event.{enter, exit, eventBytes, flat}
 use Rattle.record.specs.declared.event.Event.{Event}
 use Rattle.record.proofs.Splice.{wrote-then, wrote-none, wrote-length}
 use Rattle.record.proofs.Sections.{length-flat, flat-append}

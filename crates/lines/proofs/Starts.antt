@@ -1,19 +1,17 @@
 -- List item start, case by case.
 -- Assumes nothing.
-use mathlib.Core.Path.{_≡_, refl, sym, ap, _∙_}
+use mathlib.Core.Path.{_≡_}
 use mathlib.Core.Bool.{Bool, true, false}
 use mathlib.Core.List.{List}
 use Prim.Native.Nat.{ℕ, _+_, _-_, _≤_, _<_, _/_, _%_}
-use native.Mathlib.Omega.{arith}
-use lib.ListN.{length, getD, take, drop}
+use lib.ListN.{length, take, drop}
 use borrow.Author.Tests.{le-leb, lt-leb, eq-eqb, ne-eqb}
-use Rattle.record.specs.Choice.{choose, and}
-use Rattle.lines.specs.Run.{blank, blanks, blanksUpTo, on, indentation}
+use Rattle.record.specs.Choice.{choose}
+use Rattle.lines.specs.Run.{blanksUpTo, indentation}
 use Rattle.lines.specs.Line.{checkedLine}
 use Rattle.lines.specs.Item.{markerOf, container, padding, filledStart, startAfter, startFrom, startAt, startIn, startOf}
 use Rattle.lines.specs.declared.line.Checked.the-variants.{Ends}
 use Rattle.lines.specs.declared.container.Kind.{Kind}
-use Rattle.lines.specs.declared.item.Marker.{Marker}
 use Rattle.lines.specs.declared.item.Marker.the-variants.{Marked, Unmarked}
 use Rattle.lines.specs.declared.item.Start.{Start}
 use Rattle.lines.specs.declared.item.Start.the-variants.{Item, NotItem, Refused}

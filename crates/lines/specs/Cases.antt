@@ -3,13 +3,12 @@
 use Prim.Native.Nat.{ℕ}
 use mathlib.Core.Path.{_≡_, refl}
 use mathlib.Core.Bool.{Bool, true, false}
-use mathlib.Core.List.{List, [], _∷_, _++_}
+use mathlib.Core.List.{List, [], _∷_}
 use lib.ListN.{replicate}
 use Rattle.record.specs.Choice.{choose, and}
 use Rattle.record.specs.Check.{firstReturn}
 use Rattle.record.specs.Event.{enter, exit}
 use Rattle.record.specs.Outcome.{sized}
-use Rattle.record.specs.declared.event.Event.{Event}
 use Rattle.lines.specs.Run.{or, spaceOrTab, filled, digit, hash, leading, every, count, blank, blanks, blanksUpTo, on, indentation}
 use Rattle.lines.specs.Line.{noFeed, endOf, lineOf, checkedLine, reading}
 use Rattle.lines.specs.Spaces.{spacesIn, spacesOf}

@@ -3,7 +3,7 @@
 -- (CommonMark 0.31 §5.2: "A list item can begin with at most one blank line", and rules 1 to 3 for the indentation of further lines.)
 -- Assumes nothing.
 use Prim.Native.Nat.{ℕ}
-use mathlib.Core.Bool.{Bool, true, false}
+use mathlib.Core.Bool.{false}
 use mathlib.Core.List.{List}
 use lib.Dec.{leb}
 use Rattle.record.specs.Choice.{choose, and}

@@ -1,7 +1,7 @@
 -- What a user reads the promises through: statements about the answers, each proved in proofs/ for every line and all arguments
 -- (proofs/Lawful.antt; proofs/Covering.antt for the heading reader).
 -- Assumes nothing.
-use Prim.Native.Nat.{ℕ, _+_, _≤_, _<_}
+use Prim.Native.Nat.{ℕ, _+_, _≤_}
 use mathlib.Core.Path.{_≡_}
 use mathlib.Core.Bool.{Bool, true, false}
 use mathlib.Core.Logic.{_⊎_}
@@ -12,7 +12,6 @@ use Rattle.record.specs.Choice.{and}
 use Rattle.record.specs.Sound.{sound}
 use Rattle.record.specs.declared.event.Event.{Event}
 use Rattle.lines.specs.Run.{indentation}
-use Rattle.lines.specs.Line.{lineOf}
 use Rattle.lines.specs.Item.{thematicBreak}
 use Rattle.lines.specs.Heading.{split, eventsFrom, headingEvents, piece}
 use Rattle.lines.specs.declared.container.Container.{Container}

@@ -1,10 +1,8 @@
 -- `lines::line::line_end` meets its contract. The invariant: n bytes without a line feed are passed, and what is left of their run makes
 -- up the whole; the measure is what is left of the slice.
 -- Assumes nothing.
-use mathlib.Core.Path.{sym, _∙_}
 use Prim.Native.Nat.{_-_}
 use lib.ListN.{length}
-use borrow.Author.Tests.{not-true, not-false}
 use Rattle.lines.proofs.Leading.{Counting, start, turn, stopped, ended}
 use Rattle.lines.specs.Line.{noFeed, endOf}
 use Rattle.lines.proofs.ByteKinds.{a-feed, no-feed}

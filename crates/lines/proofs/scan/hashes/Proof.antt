@@ -1,10 +1,8 @@
 -- `lines::scan::hashes` meets its contract. The invariant: n bytes of the run are passed, and what is left of it makes up the whole; the
 -- measure is what is left of the slice.
 -- Assumes nothing.
-use mathlib.Core.Path.{sym, _∙_}
 use Prim.Native.Nat.{_-_}
 use lib.ListN.{length}
-use borrow.Author.Tests.{not-true, not-false}
 use Rattle.lines.proofs.Leading.{Counting, start, turn, stopped, ended}
 use Rattle.lines.specs.Run.{hash}
 use Rattle.lines.proofs.ByteKinds.{a-hash, no-hash}

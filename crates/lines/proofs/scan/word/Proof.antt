@@ -4,7 +4,6 @@
 use mathlib.Core.Path.{sym, _∙_}
 use Prim.Native.Nat.{_-_}
 use lib.ListN.{length}
-use borrow.Author.Tests.{not-true, not-false}
 use Rattle.lines.proofs.Leading.{Counting, start, turn, stopped, ended}
 use Rattle.lines.specs.Run.{filled}
 use Rattle.lines.proofs.ByteKinds.{blank-filled, filled-otherwise}
