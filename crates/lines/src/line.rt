@@ -4,6 +4,7 @@ use record::check::Refusal;
 use record::check::first_return;
 use record::limits::MAX_OPTIONS;
 ghost use mathlib.Core.Path.{_≡_};
+ghost use Prim.Native.Nat.{_≤_};
 ghost use lib.ListN.{length};
 ghost use Rattle.lines.specs.Line.{endOf, checkedLine};
 
@@ -18,7 +19,7 @@ pub enum Checked {
 
 // The place of the first line feed, or the place after the last byte.
 pub fn line_end(s: &[u8]) -> usize
-    ensures { λ r. ⌜ r ≡ endOf (now (s .entry)) ⌝ }
+    ensures { λ r. ⌜ (r ≡ endOf (now (s .entry))) × (r ≤ length (now (s .entry))) ⌝ }
 {
     let mut n = 0;
     while n < s.len() {

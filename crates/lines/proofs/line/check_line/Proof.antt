@@ -25,7 +25,7 @@ returns-3 : tie.Need-returns-3
 returns-3 c = returned _ _ (search needs) (search needs) _ (c .before .first-return .ensures) (search needs)
 
 returns-4 : tie.Need-returns-4
-returns-4 c = passed _ _ (search needs) (search needs) _ (c .before .first-return .ensures) (search needs) _ (c .before .before .line-end .ensures)
+returns-4 c = passed _ _ (search needs) (search needs) _ (c .before .first-return .ensures) (search needs) _ (c .before .before .line-end .ensures .0)
 
 pub check-line-spec : {M : Type 1} → statement M
 check-line-spec =

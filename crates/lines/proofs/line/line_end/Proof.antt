@@ -26,7 +26,7 @@ shared-slice-read-if1 c = search needs
 
 returns : tie.Need-returns Inv-loop μ-loop
 unfolding endOf
-returns c = stopped (c .before .before .before .loop .inv) (search needs) (a-feed _ (c .if1 .taken))
+returns c = (stopped (c .before .before .before .loop .inv) (search needs) (a-feed _ (c .if1 .taken)), search needs)
 
 add-n : tie.Need-add-n Inv-loop μ-loop
 add-n c = search needs
@@ -39,7 +39,7 @@ loop-again c = turn (c .before .before .before .loop .inv) (search needs) (no-fe
 
 returns-2 : tie.Need-returns-2 Inv-loop μ-loop
 unfolding endOf
-returns-2 c = ended (c .before .loop .inv) (search needs)
+returns-2 c = (ended (c .before .loop .inv) (search needs), search needs)
 
 pub line-end-spec : {M : Type 1} → statement M
 line-end-spec =
