@@ -1,0 +1,14 @@
+pub mod Proper
+pub mod Tilings
+pub mod Walks
+pub mod Cut
+pub mod Weave
+pub mod Aligned
+pub mod Between
+pub mod Added
+pub mod Nesting
+pub mod MarkerBytes
+pub mod ResultSize
+pub mod Rising
+pub mod SoundOutput
+pub mod OthersStay

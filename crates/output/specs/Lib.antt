@@ -1,0 +1,5 @@
+pub mod Accepted
+pub mod Tiling
+pub mod Others
+pub mod Theorems
+pub mod Cases
