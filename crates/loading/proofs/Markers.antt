@@ -1,0 +1,136 @@
+-- The shape rule, test by test, as the code asks: the document's bytes where they stand in the record, the scan over a run's bytes, and each
+-- way in which the bytes between two places are a run or are not.
+-- Assumes nothing.
+use mathlib.Core.Path.{_≡_, refl, sym, ap, _∙_}
+use mathlib.Core.Bool.{Bool, true, false, not, _||_}
+use mathlib.Core.List.{List, [], _∷_}
+use mathlib.Core.Option.{Option, none, some}
+use Prim.Native.Nat.{ℕ, zero, suc, _+_, _-_, _≤_, _<_}
+use native.Mathlib.Omega.{arith}
+use lib.ListN.{length, getD}
+use lib.Dec.{eqb, ltb}
+use borrow.Author.Tests.{eq-eqb, ne-eqb, lt-ltb, le-ltb}
+use Rattle.record.specs.Choice.{choose, and}
+use Rattle.record.specs.Bytes.{u32At}
+use Rattle.record.specs.Event.{documentOf, eventAt, eventsAt}
+use Rattle.record.proofs.Parts.{length-document, document-byte}
+use Rattle.runs.specs.Runs.{optionOn, isMarker, isByte, byteAt, byteBefore, allAre, allowed, leftAtOnce, shaped}
+use Rattle.loading.specs.Between.{between, shaped-between}
+
+-- where the document's bytes stand
+module _ (s : List ℕ) (d : ℕ) (whole : 4 + d ≤ length s) where
+  pub byte-inside : (at : ℕ) → at < d → byteAt (documentOf s d) at ≡ some (getD s (4 + at) 0)
+  unfolding byteAt choose
+  byte-inside at h = rw (length-document s d whole, lt-ltb at d h, document-byte s d at h)
+
+  pub byte-past : (at : ℕ) → d ≤ at → byteAt (documentOf s d) at ≡ none
+  unfolding byteAt choose
+  byte-past at h = rw (length-document s d whole, le-ltb at d h)
+
+-- a scan over bytes that have to be one
+all-next : (n m marker : ℕ) (s : List ℕ) (at : ℕ) → n ≡ m + 1 → getD s at 0 ≡ marker → allAre n marker s at ≡ allAre m marker s (at + 1)
+unfolding allAre and
+all-next zero m marker s at h e = absurd (omega arith)
+all-next (suc n) m marker s at h e =
+    let k : n ≡ m = omega arith in
+    rw (eq-eqb _ _ e, k)
+
+all-broken : (n marker : ℕ) (s : List ℕ) (at : ℕ) → 0 < n → (getD s at 0 ≡ marker → ⊥) → allAre n marker s at ≡ false
+unfolding allAre and
+all-broken zero marker s at h e = absurd (omega arith)
+all-broken (suc n) marker s at h e = rw (ne-eqb _ _ e)
+
+all-none : (n marker : ℕ) (s : List ℕ) (at : ℕ) → n ≡ 0 → allAre n marker s at ≡ true
+unfolding allAre
+all-none n marker s at h = rw h
+
+-- what is left to look at is alike just where the whole is
+pub record Alike (s : List ℕ) (marker from to at : ℕ) : Type 0 where
+  pub low : from ≤ at
+  pub high : at ≤ to
+  pub rest : allAre (to - at) marker s at ≡ allAre (to - from) marker s from
+
+pub start : (s : List ℕ) (marker from to : ℕ) → from ≤ to → Alike s marker from to from
+start s marker from to h = record { low = omega arith; high = h; rest = refl }
+
+module _ {s : List ℕ} {marker from to at : ℕ} (i : Alike s marker from to at) where
+  pub differs : at < to → (getD s at 0 ≡ marker → ⊥) → false ≡ allAre (to - from) marker s from
+  differs h e = sym (all-broken (to - at) marker s at (omega arith) e) ∙ i .rest
+
+  pub passes : at < to → getD s at 0 ≡ marker → Alike s marker from to (at + 1)
+  passes h e =
+      record {
+        low = omega (arith, i .low);
+        high = omega arith;
+        rest = sym (all-next (to - at) (to - (at + 1)) marker s at (omega arith) e) ∙ i .rest;
+      }
+
+  pub alike : to ≤ at → true ≡ allAre (to - from) marker s from
+  alike h = sym (all-none (to - at) marker s at (omega arith)) ∙ i .rest
+
+-- the same scan in the document and in the record
+pub all-document : (n marker : ℕ) (s : List ℕ) (d at : ℕ) → at + n ≤ d → allAre n marker (documentOf s d) at ≡ allAre n marker s (4 + at)
+unfolding allAre
+all-document zero marker s d at h = refl
+all-document (suc n) marker s d at h =
+    let k : 4 + (at + 1) ≡ 4 + at + 1 = omega arith in
+    rw (document-byte s d at (omega arith), all-document n marker s d (at + 1) (omega arith), k)
+
+-- the bytes between two places of the document, each way
+module _ (s : List ℕ) (d options from to : ℕ) where
+  pub not-later : to ≤ from → false ≡ between (documentOf s d) options from to
+  unfolding between and
+  not-later h = rw (le-ltb from to h)
+
+  module _ (later : from < to) (inside : to ≤ d) (marker : ℕ) (m : marker ≡ getD s (4 + from) 0) where
+    pub first-byte : getD (documentOf s d) from 0 ≡ marker
+    first-byte = document-byte s d from (omega arith) ∙ sym m
+
+    scan-here : allAre (to - from) marker (documentOf s d) from ≡ allAre (4 + to - (4 + from)) marker s (4 + from)
+    scan-here =
+        let k : 4 + to - (4 + from) ≡ to - from = omega arith in
+        all-document (to - from) marker s d from (omega arith) ∙ rw k
+
+    pub unmarked : isMarker marker ≡ false → false ≡ between (documentOf s d) options from to
+    unfolding between and
+    unmarked e = rw (lt-ltb from to later, first-byte, e)
+
+    module _ (known : isMarker marker ≡ true) where
+      pub mixed : allAre (4 + to - (4 + from)) marker s (4 + from) ≡ false → false ≡ between (documentOf s d) options from to
+      unfolding between and
+      mixed f = rw (lt-ltb from to later, first-byte, known, scan-here, f)
+
+      module _ (all : allAre (4 + to - (4 + from)) marker s (4 + from) ≡ true) where
+        pub goes-on : isByte marker (byteAt (documentOf s d) to) ≡ true → false ≡ between (documentOf s d) options from to
+        unfolding between and
+        goes-on g = rw (lt-ltb from to later, first-byte, known, scan-here, all, g)
+
+        pub by-option : isByte marker (byteAt (documentOf s d) to) ≡ false → allowed options marker ≡ between (documentOf s d) options from to
+        unfolding between and
+        by-option g = rw (lt-ltb from to later, first-byte, known, scan-here, all, g)
+
+-- the run that an event enters, where another follows it
+module _ (s : List ℕ) (d options at : ℕ) where
+  pub not-left : (getD s (at + 8) 0 ≡ 1 → ⊥) → false ≡ shaped (documentOf s d) options (eventAt s at) (eventsAt 1 s (at + 8))
+  unfolding eventsAt shaped leftAtOnce and
+  not-left e = rw (ne-eqb _ _ e)
+
+  pub other-left : getD s (at + 8) 0 ≡ 1 → (getD s (at + 9) 0 ≡ 1 → ⊥) →
+      false ≡ shaped (documentOf s d) options (eventAt s at) (eventsAt 1 s (at + 8))
+  unfolding eventsAt shaped leftAtOnce and
+  other-left k e =
+      let n : at + 8 + 1 ≡ at + 9 = omega arith in
+      rw (eq-eqb _ _ k, n, ne-eqb _ _ e)
+
+  pub at-once-left : getD s (at + 8) 0 ≡ 1 → getD s (at + 9) 0 ≡ 1 → (from to : ℕ) → from ≡ u32At s (at + 4) → to ≡ u32At s (at + 12) →
+      between (documentOf s d) options from to ≡ shaped (documentOf s d) options (eventAt s at) (eventsAt 1 s (at + 8))
+  unfolding eventsAt leftAtOnce and
+  at-once-left k e from to f t =
+      let n : at + 8 + 1 ≡ at + 9 = omega arith in
+      let p : u32At s (at + 8 + 4) ≡ u32At s (at + 12) = places in
+      rw (shaped-between, f, t, eq-eqb _ _ k, n, eq-eqb _ _ e, p)
+    where
+      places : u32At s (at + 8 + 4) ≡ u32At s (at + 12)
+      places =
+          let n : at + 8 + 4 ≡ at + 12 = omega arith in
+          ap (λ (m : ℕ). u32At s m) n

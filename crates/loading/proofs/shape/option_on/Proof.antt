@@ -1,0 +1,18 @@
+-- `loading::shape::option_on` meets its contract: the same quotient, remainder and test.
+-- Assumes nothing.
+use Rattle.runs.specs.Runs.{optionOn}
+use borrow.Author.Needs.{needs}
+use Rattle.loading.proofs.shape.option_on.Statement.{statement}
+use Rattle.loading.proofs.shape.option_on.Tie as tie
+use Rattle.loading.proofs.shape.option_on.Reads as reads
+use Rattle.loading.proofs.shape.option_on.Lts as lts
+
+div-result : tie.Need-div-result
+div-result c = search needs
+
+returns : tie.Need-returns
+unfolding optionOn
+returns c = search needs
+
+pub option-on-spec : {M : Type 1} → statement M
+option-on-spec = tie.close (tie.spec div-result returns)

@@ -1,0 +1,107 @@
+// Document 01's shape rule, "name 1 is entered, then at once left, at a later place; all bytes between are one marker", asked of the record's
+// own bytes.
+
+use record::bytes::u32_at;
+use record::limits::ATTENTION_SEQUENCE;
+use record::limits::EXIT;
+use record::limits::OPTION_ATTENTION;
+use record::limits::OPTION_STRIKETHROUGH;
+ghost use mathlib.Core.Path.{_≡_};
+ghost use Prim.Native.Nat.{_+_, _-_, _≤_, _<_};
+ghost use lib.ListN.{length};
+ghost use Rattle.record.specs.Event.{documentOf, eventAt, eventsAt};
+ghost use Rattle.record.specs.Bytes.{u32At};
+ghost use Rattle.runs.specs.Runs.{optionOn, isMarker, isByte, byteAt, allAre, allowed as allowedBy, shaped};
+ghost use Rattle.loading.specs.Between.{between};
+
+// Whether the option of this value is among those that are summed.
+pub fn option_on(options: u32, value: u32) -> bool
+    requires { ⌜ 0 < value ⌝ }
+    ensures { λ r. ⌜ r ≡ optionOn options value ⌝ }
+{
+    options / value % 2 == 1
+}
+
+// Whether a byte is one of the three markers.
+fn is_marker(byte: u8) -> bool
+    ensures { λ r. ⌜ r ≡ isMarker byte ⌝ }
+{
+    if byte == 42 {
+        return true;
+    }
+    if byte == 95 {
+        return true;
+    }
+    byte == 126
+}
+
+// Whether a marker's option is on.
+fn allowed(options: u32, marker: u8) -> bool
+    ensures { λ r. ⌜ r ≡ allowedBy options marker ⌝ }
+{
+    if marker == 126 {
+        return option_on(options, OPTION_STRIKETHROUGH);
+    }
+    option_on(options, OPTION_ATTENTION)
+}
+
+// Whether the bytes from one place up to another are all this one.
+fn all_are(s: &[u8], from: usize, to: usize, marker: u8) -> bool
+    requires { ⌜ (from ≤ to) × (to ≤ length (now s)) ⌝ }
+    ensures { λ r. ⌜ r ≡ allAre (to - from) marker (now (s .entry)) from ⌝ }
+{
+    let mut at = from;
+    while at < to {
+        if s[at] != marker {
+            return false;
+        }
+        at += 1;
+    }
+    true
+}
+
+// Whether the document's byte at a place is this one; past its end none is.
+fn stands_at(s: &[u8], d: usize, place: usize, marker: u8) -> bool
+    requires { ⌜ 4 + d ≤ length (now s) ⌝ }
+    ensures { λ r. ⌜ r ≡ isByte marker (byteAt (documentOf (now (s .entry)) d) place) ⌝ }
+{
+    if place >= d {
+        return false;
+    }
+    s[4 + place] == marker
+}
+
+// Whether the document's bytes from one place up to another are a run.
+fn run_between(s: &[u8], d: usize, options: u32, from: usize, to: usize) -> bool
+    requires { ⌜ (to ≤ d) × (4 + d ≤ length (now s)) ⌝ }
+    ensures { λ r. ⌜ r ≡ between (documentOf (now (s .entry)) d) options from to ⌝ }
+{
+    if from >= to {
+        return false;
+    }
+    let marker = s[4 + from];
+    if !is_marker(marker) {
+        return false;
+    }
+    if !all_are(s, 4 + from, 4 + to, marker) {
+        return false;
+    }
+    if stands_at(s, d, to, marker) {
+        return false;
+    }
+    allowed(options, marker)
+}
+
+// Whether the run that the event at a place of the record enters has its shape; another event follows it.
+pub fn shaped_at(s: &[u8], d: usize, options: u32, at: usize) -> bool
+    requires { ⌜ (at + 16 ≤ length (now s)) × (u32At (now s) (at + 12) ≤ d) × (4 + d ≤ length (now s)) ⌝ }
+    ensures { λ r. ⌜ r ≡ shaped (documentOf (now (s .entry)) d) options (eventAt (now (s .entry)) at) (eventsAt 1 (now (s .entry)) (at + 8)) ⌝ }
+{
+    if s[at + 8] != EXIT {
+        return false;
+    }
+    if s[at + 9] != ATTENTION_SEQUENCE {
+        return false;
+    }
+    run_between(s, d, options, u32_at(s, at + 4), u32_at(s, at + 12))
+}
