@@ -1,1 +1,3 @@
 pub mod Markers
+pub mod Slotting
+pub mod Settles

@@ -1,2 +1,3 @@
 pub mod Between
 pub mod Chains
+pub mod Held

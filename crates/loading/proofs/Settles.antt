@@ -1,0 +1,81 @@
+-- A slot filled from what stands at the two places that a run's events name holds that run as the plain rule begins with it.
+-- Assumes nothing.
+use mathlib.Core.Path.{_≡_, refl, sym, ap, _∙_}
+use mathlib.Core.Bool.{Bool, true}
+use mathlib.Core.List.{List, _∷_}
+use mathlib.Core.Option.{some}
+use Prim.Native.Nat.{ℕ, _+_, _-_, _*_, _≤_, _<_}
+use native.Mathlib.Omega.{arith}
+use lib.ListN.{length, getD}
+use Rattle.record.specs.Bytes.{u32At}
+use Rattle.record.specs.Event.{documentOf, eventAt}
+use Rattle.record.specs.declared.event.Event.{Event}
+use Rattle.record.proofs.Parts.{document-byte}
+use Rattle.runs.specs.Runs.{optionOn, isMarker, byteAt, byteBefore, innermostOf, runOf}
+use Rattle.runs.specs.Flanking.{canOpen, canClose}
+use Rattle.runs.specs.Rule.{crate}
+use Rattle.runs.specs.Pieces.{standing}
+use Rattle.runs.proofs.Firsts.{orFeed, feed-opens, feed-closes}
+use Rattle.slots.specs.Layout.{headOf}
+use Rattle.loading.specs.Chains.{containerNumber, markerNumber, chainNumber}
+use Rattle.loading.specs.Held.{Slotted, Filled, Settling, Settled}
+
+-- what the code reads and works out at the event's place
+pub record Found (s : List ℕ) (d options at container from to marker before after : ℕ) (opens closes : Bool) (chain : ℕ) : Type 0 where
+  pub place : from ≡ u32At s (at + 4)
+  pub end : to ≡ u32At s (at + 12)
+  pub byte : marker ≡ getD s (4 + from) 0
+  pub byte-before : before ≡ orFeed (byteBefore (documentOf s d) from)
+  pub byte-after : after ≡ orFeed (byteAt (documentOf s d) to)
+  pub can-open : opens ≡ canOpen true (optionOn options 2) marker (some before) (some after)
+  pub can-close : closes ≡ canClose true (optionOn options 2) marker (some before) (some after)
+  pub number : chain ≡ 3 * container + markerNumber marker
+  pub known : chain < 6147
+
+module _ {s : List ℕ} {d options at container n from to marker before after chain : ℕ} {opens closes : Bool} {w w′ : List ℕ}
+    (p : Settling s d at container w n) (v : Found s d options at container from to marker before after opens closes chain)
+    (f : Filled w n (to - from) marker opens closes chain w′) where
+  -- the run's end, as its exit names it
+  end-place : to ≡ u32At s (at + 8 + 4)
+  end-place =
+      let k : at + 12 ≡ at + 8 + 4 = omega arith in
+      v .end ∙ ap (λ (m : ℕ). u32At s m) k
+
+  first-marker : marker ≡ getD (documentOf s d) from 0
+  first-marker =
+      let a : from ≡ u32At s (at + 4) = v .place in
+      let b : u32At s (at + 4) < u32At s (at + 12) = p .later in
+      let c : u32At s (at + 12) ≤ d = p .inside in
+      v .byte ∙ sym (document-byte s d from (omega arith))
+
+  flags-open : opens ≡ canOpen true (optionOn options 2) marker (byteBefore (documentOf s d) from) (byteAt (documentOf s d) to)
+  flags-open =
+      v .can-open
+      ∙ rw (v .byte-before, v .byte-after) (sym (feed-opens true (optionOn options 2) marker (byteBefore (documentOf s d) from) (byteAt (documentOf s d) to)))
+
+  flags-close : closes ≡ canClose true (optionOn options 2) marker (byteBefore (documentOf s d) from) (byteAt (documentOf s d) to)
+  flags-close =
+      v .can-close
+      ∙ rw (v .byte-before, v .byte-after) (sym (feed-closes true (optionOn options 2) marker (byteBefore (documentOf s d) from) (byteAt (documentOf s d) to)))
+
+  own : (es : List Event) (i : ℕ) (held : List ℕ) → containerNumber (innermostOf held) ≡ container →
+      isMarker (getD (documentOf s d) (u32At s (at + 4)) 0) ≡ true →
+      Slotted w′ n (standing crate options (runOf (documentOf s d) (eventAt s at) (eventAt s (at + 8) ∷ es) i held))
+  unfolding standing chainNumber
+  own es i held ec em =
+      record {
+        marked = em;
+        whole = rw (← end-place, ← v .place) (f .whole);
+        left = rw (← end-place, ← v .place) (f .left);
+        marker = rw (← v .place) (f .marker-byte ∙ first-marker);
+        opens = rw (← end-place, ← v .place, ← first-marker) (f .can-open ∙ flags-open);
+        closes = rw (← end-place, ← v .place, ← first-marker) (f .can-close ∙ flags-close);
+        chain = rw (ec, ← v .place, ← first-marker) (f .chain-number ∙ v .number);
+        chain-known = rw (f .chain-number) (v .known);
+        first-group = f .first-group;
+        latest-group = f .latest-group;
+        head = rw (f .chain-number) (f .head);
+      }
+
+  pub settled : Settled s d options at container w n w′
+  settled = record { own = own; kept = f .kept }

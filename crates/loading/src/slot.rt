@@ -1,0 +1,124 @@
+// One run put into its slot: its size and marker, whether it can open and close, and the number of its chain, whose head is emptied.
+//
+// Every field that a matcher reads is written here, so that nothing of lent memory is read before this call wrote it. A run's link is written
+// by the matcher when the run goes on its chain.
+
+use super::shape::option_on;
+use record::bytes::u32_at;
+use record::limits::OPTION_STRIKETHROUGH;
+use runs::can_close;
+use runs::can_open;
+use slots::layout::put_chain;
+use slots::layout::put_closes;
+use slots::layout::put_first_group;
+use slots::layout::put_head;
+use slots::layout::put_latest_group;
+use slots::layout::put_left;
+use slots::layout::put_marker;
+use slots::layout::put_opens;
+use slots::layout::put_whole;
+ghost use mathlib.Core.Path.{_≡_};
+ghost use Prim.Native.Nat.{_+_, _-_, _*_, _≤_, _<_};
+ghost use lib.ListN.{length};
+ghost use Rattle.record.specs.Bytes.{u32At};
+ghost use Rattle.record.specs.Event.{documentOf, eventAt, eventsAt};
+ghost use Rattle.runs.specs.Runs.{byteAt, byteBefore};
+ghost use Rattle.runs.proofs.Firsts.{orFeed};
+ghost use Rattle.slots.specs.Layout.{Room, withOpens, withCloses, withChain, withFirstGroup, withLatestGroup, withHead};
+ghost use Rattle.loading.specs.Chains.{markerNumber};
+ghost use Rattle.loading.specs.Held.{bit, Filled, Settling, Settled};
+
+// A flag as a byte.
+fn flag(on: bool) -> u8
+    ensures { λ r. ⌜ r ≡ bit on ⌝ }
+{
+    if on {
+        return 1;
+    }
+    0
+}
+
+// The byte before a place of the document; a line feed at its beginning.
+fn byte_before(s: &[u8], d: usize, place: usize) -> u8
+    requires { ⌜ (place ≤ d) × (4 + d ≤ length (now s)) ⌝ }
+    ensures { λ r. ⌜ r ≡ orFeed (byteBefore (documentOf (now (s .entry)) d) place) ⌝ }
+{
+    if place == 0 {
+        return 10;
+    }
+    s[3 + place]
+}
+
+// The byte at a place of the document; a line feed at its end.
+fn byte_after(s: &[u8], d: usize, place: usize) -> u8
+    requires { ⌜ 4 + d ≤ length (now s) ⌝ }
+    ensures { λ r. ⌜ r ≡ orFeed (byteAt (documentOf (now (s .entry)) d) place) ⌝ }
+{
+    if place >= d {
+        return 10;
+    }
+    s[4 + place]
+}
+
+// The number of the chain of a marker and a container, the latter as a number: that of its enter event plus 1, or 0 for none.
+fn chain_number(container: usize, marker: u8) -> usize
+    requires { ⌜ container ≤ 2048 ⌝ }
+    ensures { λ r. ⌜ (r ≡ 3 * container + markerNumber marker) × (r < 6147) ⌝ }
+{
+    if marker == 42 {
+        return 3 * container;
+    }
+    if marker == 95 {
+        return 3 * container + 1;
+    }
+    3 * container + 2
+}
+
+// Writes whether a run can open and whether it can close.
+fn put_flags(w: &mut [u8], n: usize, opens: bool, closes: bool)
+    requires { ⌜ (n < 1024) × Room (now w) ⌝ }
+    ensures { λ _. ⌜ now (w .exit) ≡ withCloses (withOpens (now (w .entry)) n (bit opens)) n (bit closes) ⌝ }
+{
+    put_opens(w, n, flag(opens));
+    put_closes(w, n, flag(closes));
+}
+
+// Writes the number of a run's chain, that the chain is empty, and that the run is in no group.
+fn put_fresh(w: &mut [u8], n: usize, chain: usize)
+    requires { ⌜ (n < 1024) × ((chain < 6147) × Room (now w)) ⌝ }
+    ensures { λ _. ⌜ now (w .exit) ≡ withHead (withLatestGroup (withFirstGroup (withChain (now (w .entry)) n chain) n 0) n 0) chain 0 ⌝ }
+{
+    put_chain(w, n, chain);
+    put_first_group(w, n, 0);
+    put_latest_group(w, n, 0);
+    put_head(w, chain, 0);
+}
+
+// Writes all of a slot but its link, and empties the chain.
+fn fill(w: &mut [u8], n: usize, size: usize, marker: u8, opens: bool, closes: bool, chain: usize)
+    requires { ⌜ (n < 1024) × ((size < 65536) × ((chain < 6147) × Room (now w))) ⌝ }
+    ensures { λ _. ⌜ Filled (now (w .entry)) n size marker opens closes chain (now (w .exit)) ⌝ }
+{
+    put_whole(w, n, size);
+    put_left(w, n, size);
+    put_marker(w, n, marker);
+    put_flags(w, n, opens, closes);
+    put_fresh(w, n, chain);
+}
+
+// Puts the run that the event at a place of the record enters, and the next one leaves, into the slot n.
+pub fn settle(s: &[u8], d: usize, options: u32, at: usize, container: usize, w: &mut [u8], n: usize)
+    requires { ⌜ Settling (now s) d at container (now w) n ⌝ }
+    ensures { λ _. ⌜ Settled (now (s .entry)) d options at container (now (w .entry)) n (now (w .exit)) ⌝ }
+{
+    let from = u32_at(s, at + 4);
+    let to = u32_at(s, at + 12);
+    let marker = s[4 + from];
+    let before = byte_before(s, d, from);
+    let after = byte_after(s, d, to);
+    let strike = option_on(options, OPTION_STRIKETHROUGH);
+    let opens = can_open(strike, marker, before, after);
+    let closes = can_close(strike, marker, before, after);
+    let chain = chain_number(container, marker);
+    fill(w, n, to - from, marker, opens, closes, chain);
+}
