@@ -4,3 +4,4 @@
 
 pub mod shape; // number 6: the shape of a run
 pub mod slot; // what one slot holds, written
+pub mod pass; // the pass over the events

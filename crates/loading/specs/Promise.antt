@@ -1,0 +1,39 @@
+-- What the load pass asks and what it promises.
+-- Assumes nothing.
+use Prim.Native.Nat.{ℕ, _+_, _*_, _≤_}
+use mathlib.Core.Path.{_≡_}
+use mathlib.Core.Bool.{true}
+use mathlib.Core.List.{List, map}
+use mathlib.Core.Option.{none, some}
+use lib.ListN.{length}
+use Rattle.record.specs.Event.{documentOf, eventsOf}
+use Rattle.record.specs.Sound.{sound}
+use Rattle.record.specs.declared.event.Event.{Event}
+use Rattle.runs.specs.Runs.{offender, runsOf}
+use Rattle.runs.specs.Rule.{crate}
+use Rattle.runs.specs.Pieces.{standing}
+use Rattle.slots.specs.Layout.{Room}
+use Rattle.loading.specs.declared.pass.Loaded.{Loaded}
+use Rattle.loading.specs.declared.pass.Loaded.the-variants.{Runs, Offends}
+use Rattle.loading.specs.Held.{Holds}
+
+-- a good record with these counts, and enough memory
+pub record Loadable (s : List ℕ) (d e : ℕ) (w : List ℕ) : Type 0 where
+  pub small : d ≤ 16384
+  pub few : e ≤ 2048
+  pub whole : length s ≡ 8 + d + 8 * e
+  pub sound-events : sound 64 d (eventsOf s d e) ≡ true
+  pub room : Room w
+
+-- no run breaks the shape rule, and the first n slots hold the runs
+pub record Ready (doc : List ℕ) (es : List Event) (options n : ℕ) (w′ : List ℕ) : Type 0 where
+  pub none-offends : offender doc options es ≡ none
+  pub count : n ≡ length (runsOf doc es)
+  pub few : n ≤ 1024
+  pub holds : Holds w′ (map (standing crate options) (runsOf doc es))
+
+-- the answer, and the memory w′ that w has become
+pub record Loads (s : List ℕ) (d e options : ℕ) (w : List ℕ) (r : Loaded) (w′ : List ℕ) : Type 0 where
+  pub offends : (k : ℕ) → r ≡ Offends k → offender (documentOf s d) options (eventsOf s d e) ≡ some k
+  pub runs : (n : ℕ) → r ≡ Runs n → Ready (documentOf s d) (eventsOf s d e) options n w′
+  pub same-length : length w′ ≡ length w
