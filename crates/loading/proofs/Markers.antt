@@ -2,19 +2,18 @@
 -- way in which the bytes between two places are a run or are not.
 -- Assumes nothing.
 use mathlib.Core.Path.{_≡_, refl, sym, ap, _∙_}
-use mathlib.Core.Bool.{Bool, true, false, not, _||_}
-use mathlib.Core.List.{List, [], _∷_}
-use mathlib.Core.Option.{Option, none, some}
+use mathlib.Core.Bool.{true, false}
+use mathlib.Core.List.{List}
+use mathlib.Core.Option.{none, some}
 use Prim.Native.Nat.{ℕ, zero, suc, _+_, _-_, _≤_, _<_}
 use native.Mathlib.Omega.{arith}
 use lib.ListN.{length, getD}
-use lib.Dec.{eqb, ltb}
 use borrow.Author.Tests.{eq-eqb, ne-eqb, lt-ltb, le-ltb}
 use Rattle.record.specs.Choice.{choose, and}
 use Rattle.record.specs.Bytes.{u32At}
 use Rattle.record.specs.Event.{documentOf, eventAt, eventsAt}
 use Rattle.record.proofs.Parts.{length-document, document-byte}
-use Rattle.runs.specs.Runs.{optionOn, isMarker, isByte, byteAt, byteBefore, allAre, allowed, leftAtOnce, shaped}
+use Rattle.runs.specs.Runs.{isMarker, isByte, byteAt, byteBefore, allAre, allowed, leftAtOnce, shaped}
 use Rattle.runs.proofs.Firsts.{orFeed}
 use Rattle.loading.specs.Between.{between, shaped-between}
 

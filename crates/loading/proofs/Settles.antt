@@ -1,12 +1,12 @@
 -- A slot filled from what stands at the two places that a run's events name holds that run as the plain rule begins with it.
 -- Assumes nothing.
-use mathlib.Core.Path.{_≡_, refl, sym, ap, _∙_}
+use mathlib.Core.Path.{_≡_, sym, ap, _∙_}
 use mathlib.Core.Bool.{Bool, true}
 use mathlib.Core.List.{List, _∷_}
 use mathlib.Core.Option.{some}
 use Prim.Native.Nat.{ℕ, _+_, _-_, _*_, _≤_, _<_}
 use native.Mathlib.Omega.{arith}
-use lib.ListN.{length, getD}
+use lib.ListN.{getD}
 use Rattle.record.specs.Bytes.{u32At}
 use Rattle.record.specs.Event.{documentOf, eventAt}
 use Rattle.record.specs.declared.event.Event.{Event}
@@ -16,9 +16,9 @@ use Rattle.runs.specs.Flanking.{canOpen, canClose}
 use Rattle.runs.specs.Rule.{crate}
 use Rattle.runs.specs.Pieces.{standing}
 use Rattle.runs.proofs.Firsts.{orFeed, feed-opens, feed-closes}
-use Rattle.slots.specs.Layout.{headOf}
 use Rattle.loading.specs.Chains.{containerNumber, markerNumber, chainNumber}
-use Rattle.loading.specs.Held.{Slotted, Filled, Settling, Settled}
+use Rattle.loading.specs.Held.{Slotted}
+use Rattle.loading.specs.Filling.{Filled, Settling, Settled}
 
 -- what the code reads and works out at the event's place
 pub record Found (s : List ℕ) (d options at container from to marker before after : ℕ) (opens closes : Bool) (chain : ℕ) : Type 0 where

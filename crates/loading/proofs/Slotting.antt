@@ -1,6 +1,6 @@
 -- One slot written, field after field, and the head of its chain: what each field then holds, and that no other slot changed.
 -- Assumes nothing.
-use mathlib.Core.Path.{_≡_, refl, sym, ap, _∙_}
+use mathlib.Core.Path.{_≡_, refl, ap, _∙_}
 use mathlib.Core.Bool.{Bool, true, false, not}
 use mathlib.Core.List.{List}
 use Prim.Native.Nat.{ℕ, _+_, _*_, _≤_, _<_}
@@ -9,11 +9,10 @@ use lib.Dec.{eqb}
 use lib.ListN.{length, getD, set, length-set}
 use lib.Seq.{getD-set-same, getD-set-other}
 use borrow.Author.Tests.{eqb-true, eqb-false}
-use Rattle.runs.specs.Plain.{Standing}
-use Rattle.slots.specs.Words.{get16, put16}
+use Rattle.slots.specs.Words.{get16}
 use Rattle.slots.specs.Layout.{Room, headOf, chainOf, withWhole, withLeft, withMarker, withOpens, withCloses, withChain, withFirstGroup, withLatestGroup, withHead}
 use Rattle.slots.proofs.Laws.{length-put, get-put-same, get-put-other, byte-put-other, get-set-other}
-use Rattle.loading.specs.Held.{bit, Slotted, Keeps, Filled}
+use Rattle.loading.specs.Filling.{bit, Keeps, Filled}
 
 -- the writes, in their order; o and c are the flags as bytes
 abbrev sized : List ℕ → ℕ → ℕ → List ℕ

@@ -2,23 +2,23 @@
 -- the whole gives after those found already.
 -- Assumes nothing.
 use mathlib.Core.Path.{_≡_, refl, sym, ap, _∙_}
-use mathlib.Core.Bool.{Bool, true, false, not}
+use mathlib.Core.Bool.{true, false}
 use mathlib.Core.List.{List, [], _∷_, _++_, append-assoc, append-nil}
-use mathlib.Core.Option.{Option, none, some}
-use Prim.Native.Nat.{ℕ, zero, suc, _+_, _-_, _*_, _≤_, _<_}
+use mathlib.Core.Option.{none, some}
+use Prim.Native.Nat.{ℕ, zero, suc, _+_, _-_, _≤_, _<_}
 use native.Mathlib.Omega.{arith}
-use lib.ListN.{length, getD}
-use borrow.Author.Tests.{eq-eqb, ne-eqb, eqb-true, ltb-true, ltb-false}
+use lib.ListN.{getD}
+use borrow.Author.Tests.{eq-eqb, ne-eqb, eqb-true, ltb-true}
 use Rattle.record.specs.Choice.{choose, and}
 use Rattle.record.specs.Bytes.{u32At}
 use Rattle.record.specs.Event.{documentOf, eventAt, eventsAt, eventsOf}
-use Rattle.record.specs.Stack.{none as noneOpen, outer, after}
+use Rattle.record.specs.Stack.{after}
 use Rattle.record.specs.Sound.{soundFrom}
 use Rattle.record.specs.declared.event.Event.{Event}
 use Rattle.record.proofs.Bools.{and-left, and-right, clash}
 use Rattle.record.proofs.Parts.{events-cons, events-none}
-use Rattle.record.proofs.Soundness.{Stands, stands, sound-rest, after-enter, after-exit}
-use Rattle.runs.specs.Runs.{Run, isMarker, entersRun, runOf, runsFrom, runsOf, leftAtOnce, firstPlace, shaped, offenderFrom, offender}
+use Rattle.record.proofs.Soundness.{Stands, stands, sound-rest, after-enter}
+use Rattle.runs.specs.Runs.{Run, isMarker, entersRun, runOf, runsFrom, runsOf, leftAtOnce, shaped, offenderFrom, offender}
 use Rattle.loading.specs.Between.{between, shaped-between}
 
 -- an event enters a run, or it does not

@@ -1,9 +1,9 @@
 -- The pass with its stack of numbers and its memory: where it stands, and what each turn makes of that.
 -- Assumes nothing.
 use mathlib.Core.Path.{_≡_, refl, sym, ap, _∙_}
-use mathlib.Core.Bool.{Bool, true, false, not}
+use mathlib.Core.Bool.{Bool, true, false}
 use mathlib.Core.List.{List, [], _∷_, _++_, map}
-use mathlib.Core.Option.{Option, none, some}
+use mathlib.Core.Option.{some}
 use Prim.Native.Nat.{ℕ, zero, suc, _+_, _-_, _*_, _≤_, _<_}
 use native.Mathlib.Omega.{arith}
 use lib.Dec.{eqb}
@@ -13,16 +13,16 @@ use borrow.Author.Tests.{eqb-true, eqb-false}
 use Rattle.record.specs.Bytes.{u32At}
 use Rattle.record.specs.Event.{documentOf, eventAt, eventsAt, eventsOf}
 use Rattle.record.specs.Stack.{upTo, outer, after}
-use Rattle.record.specs.declared.event.Event.{Event}
 use Rattle.record.proofs.Names.{pushed, popped, empty}
 use Rattle.record.proofs.Parts.{events-cons}
 use Rattle.record.proofs.Soundness.{Stands, after-enter, after-exit}
-use Rattle.runs.specs.Runs.{Run, innermostOf, runOf, runsFrom, runsOf, shaped, offenderFrom, offender}
+use Rattle.runs.specs.Runs.{Run, innermostOf, runOf, runsOf, shaped, offender}
 use Rattle.runs.specs.Rule.{crate}
 use Rattle.runs.specs.Plain.{Standing, at}
 use Rattle.runs.specs.Pieces.{standing}
 use Rattle.loading.specs.Chains.{containerNumber}
-use Rattle.loading.specs.Held.{Slotted, Holds, Keeps, Settling, Settled}
+use Rattle.loading.specs.Held.{Slotted, Holds}
+use Rattle.loading.specs.Filling.{Keeps, Settling, Settled}
 use Rattle.loading.specs.Promise.{Loadable, Ready, Loads}
 use Rattle.loading.specs.declared.pass.Loaded.the-variants.{Runs, Offends}
 use Rattle.loading.proofs.Steps.{Reached, Shape, enters, no-enter, other-enter, none-left, all-found, standing-here, passed, followed, next-inside, offends, run-entered, next-alone, shape-tells}

@@ -1,4 +1,6 @@
 pub mod Between
 pub mod Chains
 pub mod Held
+pub mod Filling
 pub mod Promise
+pub mod Cases

@@ -1,10 +1,11 @@
 -- What the load pass asks and what it promises.
 -- Assumes nothing.
 use Prim.Native.Nat.{ℕ, _+_, _*_, _≤_}
-use mathlib.Core.Path.{_≡_}
+use mathlib.Core.Path.{_≡_, refl}
 use mathlib.Core.Bool.{true}
 use mathlib.Core.List.{List, map}
 use mathlib.Core.Option.{none, some}
+use native.Mathlib.Omega.{arith}
 use lib.ListN.{length}
 use Rattle.record.specs.Event.{documentOf, eventsOf}
 use Rattle.record.specs.Sound.{sound}
@@ -37,3 +38,24 @@ pub record Loads (s : List ℕ) (d e options : ℕ) (w : List ℕ) (r : Loaded) 
   pub offends : (k : ℕ) → r ≡ Offends k → offender (documentOf s d) options (eventsOf s d e) ≡ some k
   pub runs : (n : ℕ) → r ≡ Runs n → Ready (documentOf s d) (eventsOf s d e) options n w′
   pub same-length : length w′ ≡ length w
+
+-- the answer is fixed: any two that the promise allows are equal
+pub one-answer : (s : List ℕ) (d e options : ℕ) (w w′ w″ : List ℕ) (r q : Loaded) → Loads s d e options w r w′ → Loads s d e options w q w″ → r ≡ q
+one-answer s d e options w w′ w″ (Runs n) (Runs m) a b =
+    let x : n ≡ length (runsOf (documentOf s d) (eventsOf s d e)) = a .runs n refl .count in
+    let y : m ≡ length (runsOf (documentOf s d) (eventsOf s d e)) = b .runs m refl .count in
+    cc
+one-answer s d e options w w′ w″ (Runs n) (Offends m) a b =
+    let x : offender (documentOf s d) options (eventsOf s d e) ≡ none = a .runs n refl .none-offends in
+    let y : offender (documentOf s d) options (eventsOf s d e) ≡ some m = b .offends m refl in
+    let z : _≡_ {A = ℕ} 0 1 = cc in
+    absurd (omega arith)
+one-answer s d e options w w′ w″ (Offends n) (Runs m) a b =
+    let x : offender (documentOf s d) options (eventsOf s d e) ≡ some n = a .offends n refl in
+    let y : offender (documentOf s d) options (eventsOf s d e) ≡ none = b .runs m refl .none-offends in
+    let z : _≡_ {A = ℕ} 0 1 = cc in
+    absurd (omega arith)
+one-answer s d e options w w′ w″ (Offends n) (Offends m) a b =
+    let x : offender (documentOf s d) options (eventsOf s d e) ≡ some n = a .offends n refl in
+    let y : offender (documentOf s d) options (eventsOf s d e) ≡ some m = b .offends m refl in
+    cc

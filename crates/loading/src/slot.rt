@@ -18,15 +18,14 @@ use slots::layout::put_marker;
 use slots::layout::put_opens;
 use slots::layout::put_whole;
 ghost use mathlib.Core.Path.{_≡_};
-ghost use Prim.Native.Nat.{_+_, _-_, _*_, _≤_, _<_};
+ghost use Prim.Native.Nat.{_+_, _*_, _≤_, _<_};
 ghost use lib.ListN.{length};
-ghost use Rattle.record.specs.Bytes.{u32At};
-ghost use Rattle.record.specs.Event.{documentOf, eventAt, eventsAt};
+ghost use Rattle.record.specs.Event.{documentOf};
 ghost use Rattle.runs.specs.Runs.{byteAt, byteBefore};
 ghost use Rattle.runs.proofs.Firsts.{orFeed};
 ghost use Rattle.slots.specs.Layout.{Room, withOpens, withCloses, withChain, withFirstGroup, withLatestGroup, withHead};
 ghost use Rattle.loading.specs.Chains.{markerNumber};
-ghost use Rattle.loading.specs.Held.{bit, Filled, Settling, Settled};
+ghost use Rattle.loading.specs.Filling.{bit, Filled, Settling, Settled};
 
 // A flag as a byte.
 fn flag(on: bool) -> u8

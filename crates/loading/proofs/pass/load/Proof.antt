@@ -2,19 +2,14 @@
 -- runs found so far, and the stack has the numbers of the enters that are open; the measure is the number of events left.
 -- Assumes nothing.
 use Prim.Native.Nat.{_-_}
-use mathlib.Core.Path.{_≡_, refl, sym, _∙_}
+use mathlib.Core.Path.{sym, _∙_}
 use mathlib.Core.Logic.{⊎-elim}
 use native.Mathlib.Omega.{arith}
 use borrow.Author.Tests.{not-true, not-false}
-use Rattle.loading.proofs.Walk.{Walking, Container, start, finished, container-none, container-top, inner, left-one, shallow, entered, not-last, next-place, broken, slot-free, settling, run-passed, answers-broken, answers-runs}
+use Rattle.loading.proofs.Walk.{Walking, start, container-none, container-top, inner, left-one, shallow, entered, not-last, next-place, broken, settling, run-passed, answers-broken, answers-runs}
 use borrow.Author.Needs.{needs}
 use Rattle.loading.proofs.pass.load.Statement.{statement}
 use Rattle.loading.proofs.pass.load.Tie as tie
-use Rattle.loading.proofs.pass.load.Reads as reads
-use Rattle.loading.proofs.pass.load.Lts as lts
-use Rattle.loading.proofs.pass.outside.Reads as outside-reads
-use Rattle.loading.proofs.shape.shaped_at.Reads as shaped-at-reads
-use Rattle.loading.proofs.slot.settle.Reads as settle-reads
 
 abbrev Inv-loop : tie.InvT-loop
 Inv-loop s d e options w₀ inside₀ i₀ n₀ w inside i n = Walking s d e options w₀ w (inside .numbers) (inside .depth) i n

@@ -6,8 +6,6 @@ use Rattle.loading.proofs.Markers.{Alike, start, differs, passes, alike
 use borrow.Author.Needs.{needs}
 use Rattle.loading.proofs.shape.all_are.Statement.{statement}
 use Rattle.loading.proofs.shape.all_are.Tie as tie
-use Rattle.loading.proofs.shape.all_are.Reads as reads
-use Rattle.loading.proofs.shape.all_are.Lts as lts
 
 abbrev Inv-loop : tie.InvT-loop
 Inv-loop s from to marker at₀ at = Alike s marker from to at

@@ -6,9 +6,6 @@ use Rattle.runs.specs.Runs.{allowed}
 use borrow.Author.Needs.{needs}
 use Rattle.loading.proofs.shape.allowed.Statement.{statement}
 use Rattle.loading.proofs.shape.allowed.Tie as tie
-use Rattle.loading.proofs.shape.allowed.Reads as reads
-use Rattle.loading.proofs.shape.allowed.Lts as lts
-use Rattle.loading.proofs.shape.option_on.Reads as option-on-reads
 
 option-on-requires : tie.Need-option-on-requires
 option-on-requires c κs = search needs

@@ -5,8 +5,6 @@ use Rattle.runs.specs.Runs.{isMarker}
 use borrow.Author.Needs.{needs}
 use Rattle.loading.proofs.shape.is_marker.Statement.{statement}
 use Rattle.loading.proofs.shape.is_marker.Tie as tie
-use Rattle.loading.proofs.shape.is_marker.Reads as reads
-use Rattle.loading.proofs.shape.is_marker.Lts as lts
 
 returns : tie.Need-returns
 unfolding isMarker

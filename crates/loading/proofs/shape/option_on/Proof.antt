@@ -4,8 +4,6 @@ use Rattle.runs.specs.Runs.{optionOn}
 use borrow.Author.Needs.{needs}
 use Rattle.loading.proofs.shape.option_on.Statement.{statement}
 use Rattle.loading.proofs.shape.option_on.Tie as tie
-use Rattle.loading.proofs.shape.option_on.Reads as reads
-use Rattle.loading.proofs.shape.option_on.Lts as lts
 
 div-result : tie.Need-div-result
 div-result c = search needs

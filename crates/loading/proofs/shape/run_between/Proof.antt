@@ -6,12 +6,6 @@ use Rattle.loading.proofs.Markers.{not-later, unmarked, mixed, goes-on,
 use borrow.Author.Needs.{needs}
 use Rattle.loading.proofs.shape.run_between.Statement.{statement}
 use Rattle.loading.proofs.shape.run_between.Tie as tie
-use Rattle.loading.proofs.shape.run_between.Reads as reads
-use Rattle.loading.proofs.shape.run_between.Lts as lts
-use Rattle.loading.proofs.shape.all_are.Reads as all-are-reads
-use Rattle.loading.proofs.shape.allowed.Reads as allowed-reads
-use Rattle.loading.proofs.shape.is_marker.Reads as is-marker-reads
-use Rattle.loading.proofs.shape.stands_at.Reads as stands-at-reads
 
 returns : tie.Need-returns
 returns c = not-later _ _ _ _ _ (c .if1 .taken)

@@ -5,10 +5,6 @@ use Rattle.loading.proofs.Markers.{not-left, other-left, at-once-left}
 use borrow.Author.Needs.{needs}
 use Rattle.loading.proofs.shape.shaped_at.Statement.{statement}
 use Rattle.loading.proofs.shape.shaped_at.Tie as tie
-use Rattle.loading.proofs.shape.shaped_at.Reads as reads
-use Rattle.loading.proofs.shape.shaped_at.Lts as lts
-use Rattle.loading.proofs.shape.run_between.Reads as run-between-reads
-use Rattle.record.proofs.bytes.u32_at.Reads as u32-at-reads
 
 add-if1 : tie.Need-add-if1
 add-if1 c = search needs

@@ -4,8 +4,6 @@ use Rattle.loading.proofs.Markers.{byte-inside, byte-past}
 use borrow.Author.Needs.{needs}
 use Rattle.loading.proofs.shape.stands_at.Statement.{statement}
 use Rattle.loading.proofs.shape.stands_at.Tie as tie
-use Rattle.loading.proofs.shape.stands_at.Reads as reads
-use Rattle.loading.proofs.shape.stands_at.Lts as lts
 
 returns : tie.Need-returns
 returns c = search (needs, byte-past)

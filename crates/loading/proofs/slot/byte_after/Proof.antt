@@ -4,8 +4,6 @@ use Rattle.loading.proofs.Markers.{no-byte-after, feed-after}
 use borrow.Author.Needs.{needs}
 use Rattle.loading.proofs.slot.byte_after.Statement.{statement}
 use Rattle.loading.proofs.slot.byte_after.Tie as tie
-use Rattle.loading.proofs.slot.byte_after.Reads as reads
-use Rattle.loading.proofs.slot.byte_after.Lts as lts
 
 returns : tie.Need-returns
 returns c = no-byte-after _ _ (search needs) _ (c .if1 .taken)

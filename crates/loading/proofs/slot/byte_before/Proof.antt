@@ -4,8 +4,6 @@ use Rattle.loading.proofs.Markers.{no-byte-before, feed-before}
 use borrow.Author.Needs.{needs}
 use Rattle.loading.proofs.slot.byte_before.Statement.{statement}
 use Rattle.loading.proofs.slot.byte_before.Tie as tie
-use Rattle.loading.proofs.slot.byte_before.Reads as reads
-use Rattle.loading.proofs.slot.byte_before.Lts as lts
 
 returns : tie.Need-returns
 returns c = no-byte-before _ _ (search needs) _ (c .if1 .taken)

@@ -7,8 +7,6 @@ use Rattle.loading.specs.Chains.{markerNumber}
 use borrow.Author.Needs.{needs}
 use Rattle.loading.proofs.slot.chain_number.Statement.{statement}
 use Rattle.loading.proofs.slot.chain_number.Tie as tie
-use Rattle.loading.proofs.slot.chain_number.Reads as reads
-use Rattle.loading.proofs.slot.chain_number.Lts as lts
 
 mul-result : tie.Need-mul-result
 mul-result c = search needs

@@ -4,13 +4,6 @@ use Rattle.loading.proofs.Slotting.{written}
 use borrow.Author.Needs.{needs}
 use Rattle.loading.proofs.slot.fill.Statement.{statement}
 use Rattle.loading.proofs.slot.fill.Tie as tie
-use Rattle.loading.proofs.slot.fill.Reads as reads
-use Rattle.loading.proofs.slot.fill.Lts as lts
-use Rattle.loading.proofs.slot.put_flags.Reads as put-flags-reads
-use Rattle.loading.proofs.slot.put_fresh.Reads as put-fresh-reads
-use Rattle.slots.proofs.layout.put_left.Reads as put-left-reads
-use Rattle.slots.proofs.layout.put_marker.Reads as put-marker-reads
-use Rattle.slots.proofs.layout.put_whole.Reads as put-whole-reads
 
 put-whole-requires : tie.Need-put-whole-requires
 put-whole-requires c κs = search needs

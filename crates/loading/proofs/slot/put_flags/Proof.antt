@@ -3,11 +3,6 @@
 use borrow.Author.Needs.{needs}
 use Rattle.loading.proofs.slot.put_flags.Statement.{statement}
 use Rattle.loading.proofs.slot.put_flags.Tie as tie
-use Rattle.loading.proofs.slot.put_flags.Reads as reads
-use Rattle.loading.proofs.slot.put_flags.Lts as lts
-use Rattle.loading.proofs.slot.flag.Reads as flag-reads
-use Rattle.slots.proofs.layout.put_closes.Reads as put-closes-reads
-use Rattle.slots.proofs.layout.put_opens.Reads as put-opens-reads
 
 flag-requires : tie.Need-flag-requires
 flag-requires c κs = search needs

@@ -3,12 +3,6 @@
 use borrow.Author.Needs.{needs}
 use Rattle.loading.proofs.slot.put_fresh.Statement.{statement}
 use Rattle.loading.proofs.slot.put_fresh.Tie as tie
-use Rattle.loading.proofs.slot.put_fresh.Reads as reads
-use Rattle.loading.proofs.slot.put_fresh.Lts as lts
-use Rattle.slots.proofs.layout.put_chain.Reads as put-chain-reads
-use Rattle.slots.proofs.layout.put_first_group.Reads as put-first-group-reads
-use Rattle.slots.proofs.layout.put_head.Reads as put-head-reads
-use Rattle.slots.proofs.layout.put_latest_group.Reads as put-latest-group-reads
 
 put-chain-requires : tie.Need-put-chain-requires
 put-chain-requires c κs = search needs

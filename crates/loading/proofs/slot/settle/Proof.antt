@@ -1,20 +1,10 @@
 -- `loading::slot::settle` meets its contract: what it reads and works out is the run, and the slot holds it.
 -- Assumes nothing.
 use mathlib.Core.Path.{refl}
-use Rattle.loading.proofs.Settles.{Found, settled}
+use Rattle.loading.proofs.Settles.{settled}
 use borrow.Author.Needs.{needs}
 use Rattle.loading.proofs.slot.settle.Statement.{statement}
 use Rattle.loading.proofs.slot.settle.Tie as tie
-use Rattle.loading.proofs.slot.settle.Reads as reads
-use Rattle.loading.proofs.slot.settle.Lts as lts
-use Rattle.loading.proofs.shape.option_on.Reads as option-on-reads
-use Rattle.loading.proofs.slot.byte_after.Reads as byte-after-reads
-use Rattle.loading.proofs.slot.byte_before.Reads as byte-before-reads
-use Rattle.loading.proofs.slot.chain_number.Reads as chain-number-reads
-use Rattle.loading.proofs.slot.fill.Reads as fill-reads
-use Rattle.record.proofs.bytes.u32_at.Reads as u32-at-reads
-use Rattle.runs.proofs.can_close.Reads as can-close-reads
-use Rattle.runs.proofs.can_open.Reads as can-open-reads
 
 add-u32-at : tie.Need-add-u32-at
 add-u32-at c = search needs
