@@ -14,6 +14,11 @@ use Rattle.slots.specs.Layout.{Room, headOf, chainOf, withWhole, withLeft, with
 use Rattle.slots.proofs.Laws.{length-put, get-put-same, get-put-other, byte-put-other, get-set-other}
 use Rattle.loading.specs.Filling.{bit, Keeps, Filled}
 
+-- a flag's byte is read back as the flag
+pub bit-flag : (b : Bool) → not (eqb (bit b) 0) ≡ b
+bit-flag true = refl
+bit-flag false = refl
+
 -- the writes, in their order; o and c are the flags as bytes
 abbrev sized : List ℕ → ℕ → ℕ → List ℕ
 sized w n size = withLeft (withWhole w n size) n size
@@ -23,10 +28,6 @@ marked w n size m = withMarker (sized w n size) n m
 
 abbrev opening : List ℕ → ℕ → ℕ → ℕ → ℕ → List ℕ
 opening w n size m o = withOpens (marked w n size m) n o
-
-pub bit-flag : (b : Bool) → not (eqb (bit b) 0) ≡ b
-bit-flag true = refl
-bit-flag false = refl
 
 abbrev pub filled : List ℕ → ℕ → ℕ → ℕ → ℕ → ℕ → ℕ → List ℕ
 filled w n size m o c k = withHead (withLatestGroup (withFirstGroup (withChain (withCloses (opening w n size m o) n c) n k) n 0) n 0) k 0

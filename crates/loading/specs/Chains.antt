@@ -12,7 +12,7 @@ use Rattle.record.proofs.Bools.{clash}
 use Rattle.runs.specs.Runs.{isMarker}
 use Rattle.runs.specs.Plain.{Standing, sameContainer}
 
--- "container = number of the enter event plus 1, or 0"
+-- a container as a number: that of its enter event plus 1, or 0 for none
 abbrev pub containerNumber : Option ℕ → ℕ
 containerNumber none = 0
 containerNumber (some k) = k + 1

@@ -5,11 +5,13 @@ use Prim.Native.Nat.{ℕ, _≤_, _<_}
 use mathlib.Core.Path.{_≡_}
 use mathlib.Core.Bool.{true}
 use mathlib.Core.List.{List}
+use lib.Dec.{eqb}
 use lib.ListN.{length}
+use Rattle.record.specs.Choice.{and}
 use Rattle.runs.specs.Runs.{isMarker}
-use Rattle.runs.specs.Plain.{Standing, at}
+use Rattle.runs.specs.Plain.{Standing, at, sameContainer}
 use Rattle.slots.specs.Layout.{wholeOf, leftOf, markerOf, opensOf, closesOf, chainOf, firstGroupOf, latestGroupOf, headOf}
-use Rattle.loading.specs.Chains.{chainNumber}
+use Rattle.loading.specs.Chains.{chainNumber, same-chain}
 
 -- the slot n holds this run, which is in no group yet and whose chain is empty
 pub record Slotted (w : List ℕ) (n : ℕ) (r : Standing) : Type 0 where
@@ -29,3 +31,11 @@ pub record Slotted (w : List ℕ) (n : ℕ) (r : Standing) : Type 0 where
 pub record Holds (w : List ℕ) (rs : List Standing) : Type 0 where
   pub few : length rs ≤ 1024
   pub slots : (j : ℕ) → j < length rs → Slotted w j (at rs j)
+
+-- two slots have one chain just where their runs have one marker and one container
+pub slots-together : (w : List ℕ) (rs : List Standing) (i j : ℕ) → Holds w rs → i < length rs → j < length rs →
+    eqb (chainOf w i) (chainOf w j) ≡ and (eqb (at rs i .marker) (at rs j .marker)) (sameContainer (at rs i .container) (at rs j .container))
+slots-together w rs i j h a b =
+    let x : Slotted w i (at rs i) = h .slots i a in
+    let y : Slotted w j (at rs j) = h .slots j b in
+    rw (x .chain, y .chain) (same-chain (at rs i) (at rs j) (x .marked) (y .marked))

@@ -1,6 +1,6 @@
-// The pass over the events of a good record. Every marker byte of the document is looked at once.
+// The pass over the events of a good record: one look at each event, and one at each byte of a run.
 //
-// Only the enters that hold others are put on the stack: a run is left at once, so its two events are passed together.
+// A run is left at once, so its two events are passed together and it never goes on the stack: of 2,048 events at most 1,024 are runs.
 
 use super::shape::shaped_at;
 use super::slot::settle;
