@@ -1,0 +1,157 @@
+-- Leaf pairs: what each says of its two events, and what a list of them holds. With a first Data there is a last, and no event of it is one of a heading.
+-- Assumes nothing.
+use mathlib.Core.Path.{_≡_, refl, sym, ap, _∙_}
+use mathlib.Core.Bool.{Bool, true, false}
+use mathlib.Core.Logic.{_⊎_, inl, inr}
+use mathlib.Core.List.{List, [], _∷_, _++_, reverse, reverse-cons}
+use Prim.Native.Nat.{ℕ, zero, suc, _+_, _-_, _≤_, _<_}
+use native.Mathlib.Omega.{arith}
+use lib.ListN.{length, length-append, length-reverse}
+use lib.Dec.{eqb}
+use borrow.Author.Tests.{eq-eqb, ne-eqb, eqb-true, eqb-false}
+use Rattle.record.specs.Choice.{choose, and}
+use Rattle.record.specs.declared.event.Event.{Event}
+use Rattle.record.proofs.Bools.{and-left, and-right, and-both}
+use Rattle.heading.specs.Headings.{isOf, beforeFirst, throughLast, leaf, leaves}
+use Rattle.heading.proofs.Seeking.{before-le, before-here, before-next}
+
+pub is-of : (kind name : ℕ) (e : Event) → e .kind ≡ kind → e .name ≡ name → isOf kind name e ≡ true
+unfolding isOf
+is-of kind name e p q = and-both _ _ (eq-eqb _ _ p) (eq-eqb _ _ q)
+
+pub of-is : (kind name : ℕ) (e : Event) → isOf kind name e ≡ true → (e .kind ≡ kind) × (e .name ≡ name)
+unfolding isOf
+of-is kind name e q = (eqb-true _ _ (and-left _ _ q), eqb-true _ _ (and-right _ _ q))
+
+pub not-of : (kind name : ℕ) (e : Event) → (e .kind ≡ kind → e .name ≡ name → ⊥) → isOf kind name e ≡ false
+not-of kind name e h = go (isOf kind name e) refl
+  where
+    go : (b : Bool) → isOf kind name e ≡ b → b ≡ false
+    go true q = absurd (h (of-is kind name e q .0) (of-is kind name e q .1))
+    go false q = refl
+
+-- what a leaf pair says
+pub record Leaf (e f : Event) : Type 0 where
+  pub enters : e .kind ≡ 0
+  pub exits : f .kind ≡ 1
+  pub same : f .name ≡ e .name
+  pub named : (e .name ≡ 0) ⊎ (e .name ≡ 12) ⊎ (e .name ≡ 14)
+
+names : (n : ℕ) → choose (eqb n 0) true (choose (eqb n 12) true (eqb n 14)) ≡ true → (n ≡ 0) ⊎ (n ≡ 12) ⊎ (n ≡ 14)
+unfolding choose
+names n q = go (eqb n 0) (eqb n 12) refl refl q
+  where
+    go : (a b : Bool) → eqb n 0 ≡ a → eqb n 12 ≡ b → choose a true (choose b true (eqb n 14)) ≡ true → (n ≡ 0) ⊎ (n ≡ 12) ⊎ (n ≡ 14)
+    go true b p r q = inl (eqb-true _ _ p)
+    go false true p r q = inr (inl (eqb-true _ _ r))
+    go false false p r q = inr (inr (eqb-true _ _ q))
+
+pub leaf-is : (e f : Event) → leaf e f ≡ true → Leaf e f
+unfolding leaf
+leaf-is e f q =
+    let o = of-is 1 (e .name) f (and-left _ _ (and-right _ _ q)) in
+    record {
+      enters = eqb-true _ _ (and-left _ _ q);
+      exits = o .0;
+      same = o .1;
+      named = names (e .name) (and-right _ _ (and-right _ _ q));
+    }
+
+pub first-leaf : (e f : Event) (es : List Event) → leaves (e ∷ f ∷ es) ≡ true → Leaf e f
+unfolding leaves
+first-leaf e f es q = leaf-is e f (and-left _ _ q)
+
+pub rest-leaves : (e f : Event) (es : List Event) → leaves (e ∷ f ∷ es) ≡ true → leaves es ≡ true
+unfolding leaves
+rest-leaves e f es q = and-right _ _ q
+
+-- its name is not a heading's
+pub leaf-name : (e f : Event) → Leaf e f → e .name ≡ 11 → ⊥
+leaf-name e f l h = go (l .named)
+  where
+    go : (e .name ≡ 0) ⊎ (e .name ≡ 12) ⊎ (e .name ≡ 14) → ⊥
+    go (inl z) = omega arith
+    go (inr (inl z)) = omega arith
+    go (inr (inr z)) = omega arith
+
+-- neither of its events is one of a heading, whether enter or exit
+pub leaf-apart : (kind : ℕ) (e f : Event) → Leaf e f → (isOf kind 11 e ≡ false) × (isOf kind 11 f ≡ false)
+leaf-apart kind e f l =
+    (not-of kind 11 e (λ k n. leaf-name e f l n), not-of kind 11 f (λ k n. leaf-name e f l (sym (l .same) ∙ n)))
+
+-- where the first of a kind and name stands in two lists, one behind the other
+pub before-in : (kind name : ℕ) (xs ys : List Event) → beforeFirst kind name xs < length xs → beforeFirst kind name (xs ++ ys) ≡ beforeFirst kind name xs
+unfolding beforeFirst choose
+before-in kind name [] ys h = absurd (omega arith)
+before-in kind name (a ∷ xs) ys h = go (isOf kind name a) refl (λ l. before-in kind name xs ys l)
+  where
+    go : (b : Bool) → isOf kind name a ≡ b → (beforeFirst kind name xs < length xs → beforeFirst kind name (xs ++ ys) ≡ beforeFirst kind name xs)
+        → choose (isOf kind name a) 0 (suc (beforeFirst kind name (xs ++ ys))) ≡ choose (isOf kind name a) 0 (suc (beforeFirst kind name xs))
+    go true q more = rw q
+    go false q more =
+        let h′ : suc (beforeFirst kind name xs) < suc (length xs) = rw q at h in
+        rw (q, more (omega arith))
+
+pub before-past : (kind name : ℕ) (xs ys : List Event) → length xs ≤ beforeFirst kind name xs → beforeFirst kind name (xs ++ ys) ≡ length xs + beforeFirst kind name ys
+unfolding beforeFirst choose
+before-past kind name [] ys h = omega arith
+before-past kind name (a ∷ xs) ys h = go (isOf kind name a) refl (λ l. before-past kind name xs ys l)
+  where
+    go : (b : Bool) → isOf kind name a ≡ b → (length xs ≤ beforeFirst kind name xs → beforeFirst kind name (xs ++ ys) ≡ length xs + beforeFirst kind name ys)
+        → choose (isOf kind name a) 0 (suc (beforeFirst kind name (xs ++ ys))) ≡ suc (length xs) + beforeFirst kind name ys
+    go true q more =
+        let h′ : suc (length xs) ≤ 0 = rw q at h in
+        absurd (omega arith)
+    go false q more =
+        let h′ : suc (length xs) ≤ suc (beforeFirst kind name xs) = rw q at h in
+        rw q (omega (arith, more (omega arith)))
+
+-- how far the last of a kind and name is, with one event more in front: as far behind it, where there is one among the others
+reversed : (kind name : ℕ) (e : Event) (es : List Event) → throughLast kind name (e ∷ es) ≡ suc (length es) - beforeFirst kind name (reverse es ++ (e ∷ []))
+unfolding throughLast
+reversed kind name e es = ap (λ (l : List Event). suc (length es) - beforeFirst kind name l) (reverse-cons e es)
+
+pub through-later : (kind name : ℕ) (e : Event) (es : List Event) → 0 < throughLast kind name es → throughLast kind name (e ∷ es) ≡ suc (throughLast kind name es)
+unfolding throughLast
+through-later kind name e es h =
+    let b = before-in kind name (reverse es) (e ∷ []) (omega (arith, length-reverse es)) in
+    reversed kind name e es ∙ omega (arith, b)
+
+pub through-here : (kind name : ℕ) (e : Event) (es : List Event) → isOf kind name e ≡ true → throughLast kind name es ≡ 0 → throughLast kind name (e ∷ es) ≡ 1
+unfolding throughLast
+through-here kind name e es q h =
+    let b = before-past kind name (reverse es) (e ∷ []) (omega (arith, length-reverse es)) in
+    reversed kind name e es ∙ omega (arith, b, before-here kind name e [] q, length-reverse es)
+
+-- an event of the kind and name, and there is a last
+positive : (n : ℕ) → (n ≡ 0) ⊎ (0 < n)
+positive zero = inl refl
+positive (suc n) = inr (omega arith)
+
+pub through-some : (kind name : ℕ) (e : Event) (es : List Event) → isOf kind name e ≡ true → 0 < throughLast kind name (e ∷ es)
+through-some kind name e es q = go (positive (throughLast kind name es))
+  where
+    go : (throughLast kind name es ≡ 0) ⊎ (0 < throughLast kind name es) → 0 < throughLast kind name (e ∷ es)
+    go (inl z) = omega (arith, through-here kind name e es q z)
+    go (inr p) = omega (arith, through-later kind name e es p)
+
+-- with a first Data's enter there is a last Data's exit
+pub data-ends : (es : List Event) → leaves es ≡ true → (beforeFirst 0 0 es ≡ length es → ⊥) → 0 < throughLast 1 0 es
+unfolding leaves beforeFirst
+data-ends [] q h = absurd (h refl)
+data-ends (e ∷ []) q h = let z : _≡_ {A = ℕ} 0 1 = cc in absurd (omega arith)
+data-ends (e ∷ f ∷ es) q h = go (isOf 0 0 e) refl (λ n. data-ends es (rest-leaves e f es q) n)
+  where
+    l : Leaf e f
+    l = first-leaf e f es q
+
+    go : (b : Bool) → isOf 0 0 e ≡ b → ((beforeFirst 0 0 es ≡ length es → ⊥) → 0 < throughLast 1 0 es) → 0 < throughLast 1 0 (e ∷ f ∷ es)
+    go true p more =
+        let here : 0 < throughLast 1 0 (f ∷ es) = through-some 1 0 f es (is-of 1 0 f (l .exits) (l .same ∙ of-is 0 0 e p .1)) in
+        omega (arith, through-later 1 0 e (f ∷ es) here)
+    go false p more =
+        let a = before-next 0 0 e (f ∷ es) p in
+        let b = before-next 0 0 f es (not-of 0 0 f (λ k n. omega (arith, l .exits))) in
+        let rest : 0 < throughLast 1 0 es = more (λ z. h (omega (arith, a, b))) in
+        let here : 0 < throughLast 1 0 (f ∷ es) = omega (arith, through-later 1 0 f es rest) in
+        omega (arith, through-later 1 0 e (f ∷ es) here)

@@ -1,0 +1,283 @@
+-- The two passes over the events: what is left gives, with what is done, what the whole gives.
+-- Assumes nothing.
+use mathlib.Core.Path.{_≡_, refl, sym, ap, _∙_}
+use mathlib.Core.Bool.{Bool, true, false, not}
+use mathlib.Core.List.{List, [], _∷_, _++_}
+use Prim.Native.Nat.{ℕ, zero, suc, _+_, _*_, _-_, _≤_, _<_}
+use native.Mathlib.Omega.{arith}
+use lib.ListN.{length, take, drop, length-append, take-append-drop}
+use lib.Seq.{length-take-le}
+use Rattle.record.specs.Choice.{choose, and}
+use Rattle.record.specs.Bytes.{Wrote}
+use Rattle.record.specs.Event.{bytesOf, flat, eventAt, eventsAt}
+use Rattle.record.specs.Outcome.{Resolution, offends, gives}
+use Rattle.record.specs.declared.event.Event.{Event}
+use Rattle.record.proofs.Bools.{and-right}
+use Rattle.record.proofs.Splice.{wrote-then, wrote-none, wrote-length}
+use Rattle.record.proofs.Sections.{length-eventsAt, length-flat, flat-append}
+use Rattle.heading.specs.Headings.{isOf, beforeFirst, innerOf, leaves, headed, shaped, withText, resolvedFrom, offending, earliest, headings}
+use Rattle.heading.specs.Promise.{judgedOf}
+use Rattle.heading.specs.declared.judge.Judged.{Judged}
+use Rattle.heading.specs.declared.judge.Judged.the-variants.{Offends, Sized}
+use Rattle.heading.proofs.Lists.{events-step, events-none, events-take, events-drop}
+use Rattle.heading.proofs.Seeking.{before-le}
+use Rattle.heading.proofs.Leaves.{first-leaf, rest-leaves, leaf-apart}
+
+-- inner events that have got their text are passed over
+pub resolved-past : (k : ℕ) (es : List Event) → resolvedFrom k es ≡ resolvedFrom 0 (drop k es)
+unfolding resolvedFrom
+resolved-past zero es = refl
+resolved-past (suc k) [] = refl
+resolved-past (suc k) (e ∷ es) = resolved-past k es
+
+-- none of a heading's inner events enters a heading
+pub leaves-passed : (es rest : List Event) (i : ℕ) (good : Resolution) → leaves es ≡ true → earliest i (es ++ rest) good ≡ earliest (i + length es) rest good
+unfolding leaves earliest offending choose and
+leaves-passed [] rest i good q =
+    let k : i ≡ i + 0 = omega arith in
+    ap (λ (m : ℕ). earliest m rest good) k
+leaves-passed (e ∷ []) rest i good q = let z : _≡_ {A = ℕ} 0 1 = cc in absurd (omega arith)
+leaves-passed (e ∷ f ∷ es) rest i good q =
+    let apart = leaf-apart 0 e f (first-leaf e f es q) in
+    let k : i + 1 + 1 + length es ≡ i + suc (suc (length es)) = omega arith in
+    rw (apart .0, apart .1) (leaves-passed es rest (i + 1 + 1) good (rest-leaves e f es q) ∙ ap (λ (m : ℕ). earliest m rest good) k)
+
+pub inner-leaves : (es : List Event) → shaped es ≡ true → leaves es ≡ true
+unfolding shaped
+inner-leaves es q = and-right _ _ q
+
+-- an event that enters no heading
+module _ (e : Event) (es : List Event) (q : isOf 0 11 e ≡ false) where
+  pub other-passed : (i : ℕ) (good : Resolution) → earliest i (e ∷ es) good ≡ earliest (i + 1) es good
+  unfolding earliest offending choose and
+  other-passed i good = rw q
+
+  pub other-resolved : resolvedFrom 0 (e ∷ es) ≡ e ∷ resolvedFrom 0 es
+  unfolding resolvedFrom choose
+  other-resolved = rw q
+
+-- one that does
+module _ (e : Event) (es : List Event) (q : isOf 0 11 e ≡ true) where
+  pub heading-refused : (i : ℕ) (good : Resolution) → shaped (innerOf es) ≡ false → earliest i (e ∷ es) good ≡ offends i
+  unfolding earliest offending choose and
+  heading-refused i good h = rw (q, h)
+
+  pub heading-passed : (i : ℕ) (good : Resolution) → shaped (innerOf es) ≡ true →
+      earliest i (e ∷ es) good ≡ earliest (i + 1 + beforeFirst 1 11 es) (drop (beforeFirst 1 11 es) es) good
+  unfolding earliest offending choose and innerOf
+  heading-passed i good h =
+      let l : leaves (take (beforeFirst 1 11 es) es) ≡ true = inner-leaves (take (beforeFirst 1 11 es) es) h in
+      rw (q, h)
+      (ap (λ (l : List Event). earliest (i + 1) l good) (sym (take-append-drop (beforeFirst 1 11 es) es))
+      ∙ leaves-passed (take (beforeFirst 1 11 es) es) (drop (beforeFirst 1 11 es) es) (i + 1) good l
+      ∙ ap (λ (m : ℕ). earliest (i + 1 + m) (drop (beforeFirst 1 11 es) es) good) (length-take-le (beforeFirst 1 11 es) es (before-le 1 11 es)))
+
+  pub heading-resolved : resolvedFrom 0 (e ∷ es) ≡ e ∷ (withText (innerOf es) ++ resolvedFrom 0 (drop (beforeFirst 1 11 es) es))
+  unfolding resolvedFrom choose
+  heading-resolved = rw (q, resolved-past (beforeFirst 1 11 es) es)
+
+  -- where no heading offends, this one has the right shape
+  pub heading-shaped : (i : ℕ) (r : List Event) → earliest i (e ∷ es) (gives r) ≡ gives r → shaped (innerOf es) ≡ true
+  unfolding earliest offending choose and
+  heading-shaped i r h = go (shaped (innerOf es)) refl
+    where
+      go : (b : Bool) → shaped (innerOf es) ≡ b → b ≡ true
+      go true p = refl
+      go false p =
+          let z : offends i ≡ gives r = rw (q, p) at h in
+          let y : _≡_ {A = ℕ} 0 1 = cc in
+          absurd (omega arith)
+
+-- a heading as it stands in a record: n inner events after its enter, which is event i of e
+module _ (s : List ℕ) (at i e n : ℕ) (l : i < e) (q : isOf 0 11 (eventAt s at) ≡ true)
+    (en : n ≡ beforeFirst 1 11 (eventsAt (e - i - 1) s (at + 8))) (ln : n ≤ e - i - 1) where
+  first : eventsAt (e - i) s at ≡ eventAt s at ∷ eventsAt (e - i - 1) s (at + 8)
+  first = events-step (e - i) (e - i - 1) s at (omega arith)
+
+  inner : innerOf (eventsAt (e - i - 1) s (at + 8)) ≡ eventsAt n s (at + 8)
+  unfolding innerOf
+  inner = rw (← en) (events-take n (e - i - 1) s (at + 8) ln)
+
+  behind : drop (beforeFirst 1 11 (eventsAt (e - i - 1) s (at + 8))) (eventsAt (e - i - 1) s (at + 8)) ≡ eventsAt (e - (i + (1 + n))) s (at + 8 + 8 * n)
+  behind = rw (← en) (events-drop n (e - i - 1) (e - (i + (1 + n))) s (at + 8) (at + 8 + 8 * n) (omega arith) refl)
+
+  refused-here : (good : Resolution) → shaped (eventsAt n s (at + 8)) ≡ false → earliest i (eventsAt (e - i) s at) good ≡ offends i
+  refused-here good h =
+      ap (λ (es : List Event). earliest i es good) first ∙ heading-refused (eventAt s at) (eventsAt (e - i - 1) s (at + 8)) q i good (ap shaped inner ∙ h)
+
+  passed-here : (good : Resolution) → shaped (eventsAt n s (at + 8)) ≡ true →
+      earliest i (eventsAt (e - i) s at) good ≡ earliest (i + (1 + n)) (eventsAt (e - (i + (1 + n))) s (at + 8 + 8 * n)) good
+  passed-here good h =
+      let k : i + 1 + beforeFirst 1 11 (eventsAt (e - i - 1) s (at + 8)) ≡ i + (1 + n) = omega (arith, en) in
+      ap (λ (es : List Event). earliest i es good) first
+      ∙ heading-passed (eventAt s at) (eventsAt (e - i - 1) s (at + 8)) q i good (ap shaped inner ∙ h)
+      ∙ ap (λ (m : ℕ). earliest m (drop (beforeFirst 1 11 (eventsAt (e - i - 1) s (at + 8))) (eventsAt (e - i - 1) s (at + 8))) good) k
+      ∙ ap (λ (es : List Event). earliest (i + (1 + n)) es good) behind
+
+  resolved-here : resolvedFrom 0 (eventsAt (e - i) s at)
+      ≡ eventAt s at ∷ (withText (eventsAt n s (at + 8)) ++ resolvedFrom 0 (eventsAt (e - (i + (1 + n))) s (at + 8 + 8 * n)))
+  resolved-here =
+      ap (λ (es : List Event). resolvedFrom 0 es) first
+      ∙ heading-resolved (eventAt s at) (eventsAt (e - i - 1) s (at + 8)) q
+      ∙ ap (λ (es : List Event). eventAt s at ∷ (withText es ++ resolvedFrom 0 (drop (beforeFirst 1 11 (eventsAt (e - i - 1) s (at + 8))) (eventsAt (e - i - 1) s (at + 8))))) inner
+      ∙ ap (λ (es : List Event). eventAt s at ∷ (withText (eventsAt n s (at + 8)) ++ resolvedFrom 0 es)) behind
+
+-- any other event
+module _ (s : List ℕ) (at i e : ℕ) (l : i < e) (q : isOf 0 11 (eventAt s at) ≡ false) where
+  other : eventsAt (e - i) s at ≡ eventAt s at ∷ eventsAt (e - (i + 1)) s (at + 8)
+  other = events-step (e - i) (e - (i + 1)) s at (omega arith)
+
+  passed-other : (good : Resolution) → earliest i (eventsAt (e - i) s at) good ≡ earliest (i + 1) (eventsAt (e - (i + 1)) s (at + 8)) good
+  passed-other good = ap (λ (es : List Event). earliest i es good) other ∙ other-passed (eventAt s at) (eventsAt (e - (i + 1)) s (at + 8)) q i good
+
+  resolved-other : resolvedFrom 0 (eventsAt (e - i) s at) ≡ eventAt s at ∷ resolvedFrom 0 (eventsAt (e - (i + 1)) s (at + 8))
+  resolved-other = ap (λ (es : List Event). resolvedFrom 0 es) other ∙ other-resolved (eventAt s at) (eventsAt (e - (i + 1)) s (at + 8)) q
+
+nothing-left : (s : List ℕ) (at i e : ℕ) → e ≤ i → eventsAt (e - i) s at ≡ []
+nothing-left s at i e h = events-none (e - i) s at (omega arith)
+
+-- the first pass: i events are judged, and come to `size` events
+pub record Judging (s : List ℕ) (from e at i size : ℕ) : Type 0 where
+  pub place : at ≡ from + 8 * i
+  pub low : i ≤ e
+  pub same : (good : Resolution) → earliest i (eventsAt (e - i) s at) good ≡ earliest 0 (eventsAt e s from) good
+  pub count : size + length (resolvedFrom 0 (eventsAt (e - i) s at)) ≡ length (resolvedFrom 0 (eventsAt e s from))
+  pub small : size ≤ 4 * i
+
+pub judging-start : (s : List ℕ) (from e : ℕ) → Judging s from e from 0 0
+judging-start s from e =
+    let k : e - 0 ≡ e = omega arith in
+    record {
+      place = omega arith;
+      low = omega arith;
+      same = λ good. rw k;
+      count = rw k (omega arith);
+      small = omega arith;
+    }
+
+module _ {s : List ℕ} {from e at i size : ℕ} (v : Judging s from e at i size) (l : i < e) where
+  pub judging-other : isOf 0 11 (eventAt s at) ≡ false → Judging s from e (at + 8) (i + 1) (size + 1)
+  judging-other q =
+      record {
+        place = omega (arith, v .place);
+        low = omega arith;
+        same = λ good. sym (passed-other s at i e l q good) ∙ v .same good;
+        count = omega (arith, v .count, ap length (resolved-other s at i e l q));
+        small = omega (arith, v .small);
+      }
+
+  module _ (n : ℕ) (q : isOf 0 11 (eventAt s at) ≡ true) (en : n ≡ beforeFirst 1 11 (eventsAt (e - i - 1) s (at + 8))) (ln : n ≤ e - i - 1) where
+    pub judging-refused : shaped (eventsAt n s (at + 8)) ≡ false → Offends i ≡ judgedOf (headings (eventsAt e s from))
+    unfolding headings
+    judging-refused h =
+        ap judgedOf
+        (sym (refused-here s at i e n l q en ln (gives (resolvedFrom 0 (eventsAt e s from))) h) ∙ v .same (gives (resolvedFrom 0 (eventsAt e s from))))
+
+    pub judging-heading : (t : ℕ) → shaped (eventsAt n s (at + 8)) ≡ true → t ≡ length (withText (eventsAt n s (at + 8))) → t ≤ 2 * n + 3 →
+        Judging s from e (at + 8 + 8 * n) (i + (1 + n)) (size + (1 + t))
+    judging-heading t h et lt =
+        let r = ap length (resolved-here s at i e n l q en ln) in
+        let a = length-append (withText (eventsAt n s (at + 8))) (resolvedFrom 0 (eventsAt (e - (i + (1 + n))) s (at + 8 + 8 * n))) in
+        record {
+          place = omega (arith, v .place);
+          low = omega arith;
+          same = λ good. sym (passed-here s at i e n l q en ln good h) ∙ v .same good;
+          count = omega (arith, v .count, r, a);
+          small = omega (arith, v .small);
+        }
+
+pub judging-done : {s : List ℕ} {from e at i size : ℕ} → Judging s from e at i size → e ≤ i → Sized size ≡ judgedOf (headings (eventsAt e s from))
+unfolding headings earliest resolvedFrom
+judging-done {s} {from} {e} {at} {i} {size} v h =
+    let r : List Event = resolvedFrom 0 (eventsAt e s from) in
+    let a : earliest i (eventsAt (e - i) s at) (gives r) ≡ gives r = ap (λ (es : List Event). earliest i es (gives r)) (nothing-left s at i e h) in
+    let b : length (resolvedFrom 0 (eventsAt (e - i) s at)) ≡ 0 = ap (λ (es : List Event). length (resolvedFrom 0 es)) (nothing-left s at i e h) in
+    let c : size ≡ length r = omega (arith, v .count, b) in
+    ap (λ (m : ℕ). Sized m) c ∙ ap judgedOf (sym a ∙ v .same (gives r))
+
+-- the second pass: what is written so far, with what is left behind it, is the whole
+pub record Writing (s : List ℕ) (from e : ℕ) (out₀ : List ℕ) (to at i : ℕ) (out : List ℕ) (next : ℕ) : Type 0 where
+  pub place : at ≡ from + 8 * i
+  pub low : i ≤ e
+  pub fine : earliest i (eventsAt (e - i) s at) (gives (resolvedFrom 0 (eventsAt e s from))) ≡ gives (resolvedFrom 0 (eventsAt e s from))
+  pub room : next + 8 * length (resolvedFrom 0 (eventsAt (e - i) s at)) ≡ to + 8 * length (resolvedFrom 0 (eventsAt e s from))
+  pub kept : length out ≡ length out₀
+  pub same : (d : List ℕ) → Wrote out next (flat (resolvedFrom 0 (eventsAt (e - i) s at))) d → Wrote out₀ to (flat (resolvedFrom 0 (eventsAt e s from))) d
+
+pub writing-start : (s : List ℕ) (from e : ℕ) (out : List ℕ) (to : ℕ) → headings (eventsAt e s from) ≡ gives (resolvedFrom 0 (eventsAt e s from)) →
+    Writing s from e out to from 0 out to
+unfolding headings
+writing-start s from e out to h =
+    let k : e - 0 ≡ e = omega arith in
+    record {
+      place = omega arith;
+      low = omega arith;
+      fine = rw k h;
+      room = rw k;
+      kept = refl;
+      same = λ d w. rw k at w;
+    }
+
+module _ {s : List ℕ} {from e : ℕ} {out₀ : List ℕ} {to at i : ℕ} {out : List ℕ} {next : ℕ} (v : Writing s from e out₀ to at i out next) (l : i < e) where
+  one-more : (r : List Event) → resolvedFrom 0 (eventsAt (e - i) s at) ≡ eventAt s at ∷ r → {d₁ d : List ℕ} →
+      Wrote out next (flat (eventsAt 1 s at)) d₁ → Wrote d₁ (next + 8) (flat r) d → Wrote out₀ to (flat (resolvedFrom 0 (eventsAt e s from))) d
+  unfolding flat eventsAt
+  one-more r q {d₁} {d} w₁ w₂ = v .same d (rw q (wrote-then w₁ w₂ refl))
+
+  pub writing-fits : next + 8 ≤ to + 8 * length (resolvedFrom 0 (eventsAt e s from))
+  writing-fits = go (isOf 0 11 (eventAt s at)) refl
+    where
+      go : (b : Bool) → isOf 0 11 (eventAt s at) ≡ b → next + 8 ≤ to + 8 * length (resolvedFrom 0 (eventsAt e s from))
+      go true q = omega (arith, v .room, ap length (resolved-here s at i e (beforeFirst 1 11 (eventsAt (e - i - 1) s (at + 8))) l q refl (omega (arith, before-le 1 11 (eventsAt (e - i - 1) s (at + 8)), length-eventsAt (e - i - 1) s (at + 8)))))
+      go false q = omega (arith, v .room, ap length (resolved-other s at i e l q))
+
+  pub writing-other : {d₁ : List ℕ} → isOf 0 11 (eventAt s at) ≡ false → Wrote out next (flat (eventsAt 1 s at)) d₁ →
+      Writing s from e out₀ to (at + 8) (i + 1) d₁ (next + 8)
+  writing-other {d₁} q w =
+      record {
+        place = omega (arith, v .place);
+        low = omega arith;
+        fine = sym (passed-other s at i e l q (gives (resolvedFrom 0 (eventsAt e s from)))) ∙ v .fine;
+        room = omega (arith, v .room, ap length (resolved-other s at i e l q));
+        kept = wrote-length w ∙ v .kept;
+        same = λ d w₂. one-more (resolvedFrom 0 (eventsAt (e - (i + 1)) s (at + 8))) (resolved-other s at i e l q) w w₂;
+      }
+
+  module _ (n : ℕ) (q : isOf 0 11 (eventAt s at) ≡ true) (en : n ≡ beforeFirst 1 11 (eventsAt (e - i - 1) s (at + 8))) (ln : n ≤ e - i - 1) where
+    pub writing-shaped : shaped (eventsAt n s (at + 8)) ≡ true
+    writing-shaped =
+        let r : List Event = resolvedFrom 0 (eventsAt e s from) in
+        ap shaped (sym (inner s at i e n l q en ln))
+        ∙ heading-shaped (eventAt s at) (eventsAt (e - i - 1) s (at + 8)) q i r (ap (λ (es : List Event). earliest i es (gives r)) (sym (first s at i e n l q en ln)) ∙ v .fine)
+
+    pub writing-leaves : leaves (eventsAt n s (at + 8)) ≡ true
+    writing-leaves = inner-leaves (eventsAt n s (at + 8)) writing-shaped
+
+    sizes : length (resolvedFrom 0 (eventsAt (e - i) s at))
+        ≡ 1 + length (withText (eventsAt n s (at + 8))) + length (resolvedFrom 0 (eventsAt (e - (i + (1 + n))) s (at + 8 + 8 * n)))
+    sizes =
+        omega
+        (arith, ap length (resolved-here s at i e n l q en ln), length-append (withText (eventsAt n s (at + 8))) (resolvedFrom 0 (eventsAt (e - (i + (1 + n))) s (at + 8 + 8 * n))))
+
+    pub writing-room : next + 8 + 8 * length (withText (eventsAt n s (at + 8))) ≤ to + 8 * length (resolvedFrom 0 (eventsAt e s from))
+    writing-room = omega (arith, v .room, sizes)
+
+    pub writing-heading : {d₁ d₂ : List ℕ} (next′ : ℕ) → Wrote out next (flat (eventsAt 1 s at)) d₁ → Wrote d₁ (next + 8) (flat (withText (eventsAt n s (at + 8)))) d₂ →
+        next′ ≡ next + 8 + 8 * length (withText (eventsAt n s (at + 8))) → Writing s from e out₀ to (at + 8 + 8 * n) (i + (1 + n)) d₂ next′
+    writing-heading {d₁} {d₂} next′ w₁ w₂ en′ =
+        let f = length-flat (withText (eventsAt n s (at + 8))) in
+        let r : List Event = resolvedFrom 0 (eventsAt (e - (i + (1 + n))) s (at + 8 + 8 * n)) in
+        record {
+          place = omega (arith, v .place);
+          low = omega arith;
+          fine = sym (passed-here s at i e n l q en ln (gives (resolvedFrom 0 (eventsAt e s from))) writing-shaped) ∙ v .fine;
+          room = omega (arith, v .room, sizes, en′);
+          kept = wrote-length w₂ ∙ wrote-length w₁ ∙ v .kept;
+          same = λ d w₃. one-more (withText (eventsAt n s (at + 8)) ++ r) (resolved-here s at i e n l q en ln) w₁ (rw (flat-append (withText (eventsAt n s (at + 8))) r) (wrote-then w₂ w₃ (omega (arith, en′, f))));
+        }
+
+pub writing-done : {s : List ℕ} {from e : ℕ} {out₀ : List ℕ} {to at i : ℕ} {out : List ℕ} {next : ℕ} → Writing s from e out₀ to at i out next → e ≤ i →
+    Wrote out₀ to (flat (resolvedFrom 0 (eventsAt e s from))) out
+unfolding resolvedFrom flat
+writing-done {s} {from} {e} {out₀} {to} {at} {i} {out} {next} v h =
+    v .same out (rw (nothing-left s at i e h) (wrote-none out next))

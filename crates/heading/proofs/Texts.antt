@@ -1,0 +1,106 @@
+-- The text rule against its definition: the four events of a text, and what a heading's inner events become, with or without Data.
+-- Assumes nothing.
+use mathlib.Core.Path.{_≡_, refl, sym, ap, _∙_}
+use mathlib.Core.Bool.{Bool, true, false}
+use mathlib.Core.List.{List, [], _∷_, _++_}
+use Prim.Native.Nat.{ℕ, zero, suc, _+_, _*_, _-_, _≤_, _<_}
+use native.Mathlib.Omega.{arith}
+use lib.ListN.{length, getD, take, drop, length-append, length-drop}
+use borrow.Author.Tests.{eq-eqb, ne-eqb}
+use Rattle.record.specs.Choice.{choose}
+use Rattle.record.specs.Bytes.{Wrote, u32At}
+use Rattle.record.specs.Event.{eventBytes, flat, eventAt, eventsAt}
+use Rattle.record.specs.Stack.{nth}
+use Rattle.record.specs.declared.event.Event.{Event}
+use Rattle.record.proofs.Splice.{wrote-then}
+use Rattle.record.proofs.Sections.{length-eventsAt, length-flat, flat-append}
+use Rattle.heading.specs.Headings.{beforeFirst, throughLast, leaves, textRound, withText}
+use Rattle.heading.proofs.Lists.{events-take, events-drop, events-nth}
+use Rattle.heading.proofs.Leaves.{data-ends}
+
+-- four events, one after the other
+pub rounded : {d d₁ d₂ d₃ d₄ : List ℕ} (s : List ℕ) (to first last : ℕ) {p q : ℕ} → p ≡ u32At s (first + 4) → q ≡ u32At s (last + 4)
+    → Wrote d to (eventBytes 0 13 p) d₁
+    → Wrote d₁ (to + 8) (eventBytes (getD s first 0) (getD s (first + 1) 0) p) d₂
+    → Wrote d₂ (to + 8 + 8) (eventBytes (getD s last 0) (getD s (last + 1) 0) q) d₃
+    → Wrote d₃ (to + 8 + 8 + 8) (eventBytes 1 13 q) d₄
+    → Wrote d to (flat (textRound (eventAt s first) (eventAt s last))) d₄
+unfolding flat
+rounded s to first last ep eq w₁ w₂ w₃ w₄ =
+    rw (← ep, ← eq) (wrote-then (wrote-then (wrote-then w₁ w₂ refl) w₃ (omega arith)) w₄ (omega arith))
+
+module _ (s : List ℕ) (from n : ℕ) where
+  -- no Data
+  pub without : beforeFirst 0 0 (eventsAt n s from) ≡ n → withText (eventsAt n s from) ≡ eventsAt n s from
+  unfolding withText choose
+  without q = rw (eq-eqb _ _ (q ∙ sym (length-eventsAt n s from)))
+
+  module _ (before through : ℕ) (eb : before ≡ beforeFirst 0 0 (eventsAt n s from)) (et : through ≡ throughLast 1 0 (eventsAt n s from))
+      (ne : before ≡ n → ⊥) (lb : before ≤ n) (lt : through ≤ n) where
+    -- three parts, each of them read out of the record
+    cut : withText (eventsAt n s from)
+        ≡ take before (eventsAt n s from) ++ textRound (nth (eventsAt n s from) before) (nth (eventsAt n s from) (through - 1)) ++ drop through (eventsAt n s from)
+    unfolding withText choose
+    cut = rw (← eb, ← et, ne-eqb before (length (eventsAt n s from)) (λ z. ne (z ∙ length-eventsAt n s from)))
+
+    pub length-text : length (withText (eventsAt n s from)) ≡ before + 4 + (n - through)
+    length-text =
+        let a : length (take before (eventsAt n s from)) ≡ before = ap length (events-take before n s from lb) ∙ length-eventsAt before s from in
+        let b : length (drop through (eventsAt n s from)) ≡ n - through = length-drop through (eventsAt n s from) ∙ ap (λ (k : ℕ). k - through) (length-eventsAt n s from) in
+        ap length cut ∙ omega (arith, length-append (take before (eventsAt n s from) ++ textRound (nth (eventsAt n s from) before) (nth (eventsAt n s from) (through - 1))) (drop through (eventsAt n s from)), length-append (take before (eventsAt n s from)) (textRound (nth (eventsAt n s from) before) (nth (eventsAt n s from) (through - 1))), a, b)
+
+    -- the same as events of the record, where there is a last Data
+    pub parts : 0 < through → withText (eventsAt n s from)
+        ≡ eventsAt before s from ++ textRound (eventAt s (from + 8 * before)) (eventAt s (from + 8 * through - 8)) ++ eventsAt (n - through) s (from + 8 * through)
+    parts h =
+        cut
+        ∙ rw (
+          events-take before n s from lb,
+          events-nth before n s from (from + 8 * before) (omega arith) refl,
+          events-nth (through - 1) n s from (from + 8 * through - 8) (omega arith) (omega arith),
+          events-drop through n (n - through) s from (from + 8 * through) (omega arith) refl,
+        )
+
+    pub written : {d d₁ d₂ d₃ : List ℕ} (to : ℕ) → 0 < through
+        → Wrote d to (flat (eventsAt before s from)) d₁
+        → Wrote d₁ (to + 8 * before) (flat (textRound (eventAt s (from + 8 * before)) (eventAt s (from + 8 * through - 8)))) d₂
+        → Wrote d₂ (to + 8 * before + 32) (flat (eventsAt (n - through) s (from + 8 * through))) d₃
+        → Wrote d to (flat (withText (eventsAt n s from))) d₃
+    written to h w₁ w₂ w₃ =
+        let a : length (flat (eventsAt before s from)) ≡ 8 * before = length-flat _ ∙ ap (λ (k : ℕ). 8 * k) (length-eventsAt before s from) in
+        let b : length (flat (textRound (eventAt s (from + 8 * before)) (eventAt s (from + 8 * through - 8)))) ≡ 32 = length-flat _ in
+        let c = length-append (flat (eventsAt before s from)) (flat (textRound (eventAt s (from + 8 * before)) (eventAt s (from + 8 * through - 8)))) in
+        let w = wrote-then (wrote-then w₁ w₂ (omega (arith, a))) w₃ (omega (arith, a, b, c)) in
+        rw (parts h, flat-append, flat-append) w
+
+-- nothing but the copy, where there is no Data
+pub unchanged : {d d′ : List ℕ} (s : List ℕ) (from n to : ℕ) → beforeFirst 0 0 (eventsAt n s from) ≡ n → Wrote d to (flat (eventsAt n s from)) d′
+    → Wrote d to (flat (withText (eventsAt n s from))) d′
+unchanged s from n to q w = rw (without s from n q) w
+
+pub length-unchanged : (s : List ℕ) (from n : ℕ) → beforeFirst 0 0 (eventsAt n s from) ≡ n → length (withText (eventsAt n s from)) ≡ n
+length-unchanged s from n q = ap length (without s from n q) ∙ length-eventsAt n s from
+
+below : (a b : ℕ) → a ≤ b → (a ≡ b → ⊥) → a < b
+below a zero l ne = absurd (ne (omega arith))
+below zero (suc b) l ne = omega arith
+below (suc a) (suc b) l ne = omega (arith, below a b (omega arith) (λ z. ne (ap suc z)))
+
+-- what is known of a text once both its ends are found
+pub record Found (s : List ℕ) (from n before through : ℕ) : Type 0 where
+  pub size : length (withText (eventsAt n s from)) ≡ before + 4 + (n - through)
+  pub some : 0 < through
+  pub front : before < n
+  pub whole : through ≤ n
+
+pub found : (s : List ℕ) (from n before through : ℕ)
+    → (before ≡ beforeFirst 0 0 (eventsAt n s from)) × (before ≤ n) → (through ≡ throughLast 1 0 (eventsAt n s from)) × (through ≤ n)
+    → (before ≡ n → ⊥) → leaves (eventsAt n s from) ≡ true → Found s from n before through
+found s from n before through b t ne q =
+    let ends : 0 < throughLast 1 0 (eventsAt n s from) = data-ends (eventsAt n s from) q (λ z. ne (b .0 ∙ z ∙ length-eventsAt n s from)) in
+    record {
+      size = length-text s from n before through (b .0) (t .0) ne (b .1) (t .1);
+      some = omega (arith, t .0);
+      front = below before n (b .1) ne;
+      whole = t .1;
+    }

@@ -1,0 +1,45 @@
+-- `heading::text::text_size` meets its contract: the length of what the text rule gives, with and without Data.
+-- Assumes nothing.
+use mathlib.Core.Path.{sym, _∙_}
+use native.Mathlib.Omega.{arith}
+use Rattle.heading.proofs.Texts.{length-unchanged, length-text}
+use borrow.Author.Needs.{needs}
+use Rattle.heading.proofs.text.text_size.Statement.{statement}
+use Rattle.heading.proofs.text.text_size.Tie as tie
+use Rattle.heading.proofs.text.text_size.Reads as reads
+use Rattle.heading.proofs.text.text_size.Lts as lts
+use Rattle.heading.proofs.seek.before_first.Reads as before-first-reads
+use Rattle.heading.proofs.seek.through_last.Reads as through-last-reads
+
+before-first-requires : tie.Need-before-first-requires
+before-first-requires c κs = search needs
+
+returns : tie.Need-returns
+returns c = (sym (length-unchanged _ _ _ (sym (c .before .before-first .ensures .0) ∙ c .if1 .taken)), omega arith)
+
+through-last-requires : tie.Need-through-last-requires
+through-last-requires c κs = search needs
+
+add-result : tie.Need-add-result
+add-result c = search needs
+
+sub-result : tie.Need-sub-result
+sub-result c = search needs
+
+add-result-2 : tie.Need-add-result-2
+add-result-2 c = search needs
+
+returns-2 : tie.Need-returns-2
+returns-2 c = (sym (length-text _ _ _ _ _ (c .before .before .before-first .ensures .0) (c .through-last .ensures .0) (c .before .if1 .left) (c .before .before .before-first .ensures .1) (c .through-last .ensures .1)), omega arith)
+
+pub text-size-spec : {M : Type 1} → statement M
+text-size-spec =
+    tie.close
+    (tie.spec
+    before-first-requires
+    returns
+    through-last-requires
+    add-result
+    sub-result
+    add-result-2
+    returns-2)

@@ -1,0 +1,68 @@
+// The text rule: Text (13) goes round the first Data's enter and the last Data's exit, and all events between these two go.
+
+use crate::seek::before_first;
+use crate::seek::through_last;
+use record::bytes::u32_at;
+use record::event::copy_events;
+use record::event::put_event;
+use record::limits::DATA;
+use record::limits::ENTER;
+use record::limits::EXIT;
+use record::limits::HEADING_TEXT;
+ghost use mathlib.Core.Path.{_≡_};
+ghost use Prim.Native.Nat.{_+_, _*_, _≤_};
+ghost use mathlib.Core.Bool.{true};
+ghost use lib.ListN.{length};
+ghost use Rattle.record.specs.Bytes.{Wrote};
+ghost use Rattle.record.specs.Event.{flat, eventAt, eventsAt};
+ghost use Rattle.heading.specs.Headings.{leaves, textRound, withText};
+
+// How many events a heading's n inner events become.
+pub fn text_size(s: &[u8], from: usize, n: usize) -> usize
+    requires { ⌜ (n ≤ 2048) × (from + 8 * n ≤ length (now s)) ⌝ }
+    ensures { λ r. ⌜ (r ≡ length (withText (eventsAt n (now (s .entry)) from))) × (r ≤ 2 * n + 3) ⌝ }
+{
+    let before = before_first(s, from, n, ENTER, DATA);
+    if before == n {
+        return n;
+    }
+    let through = through_last(s, from, n, EXIT, DATA);
+    before + 4 + (n - through)
+}
+
+// Writes a text's four events, round the events of a record that stand at `first` and `last`.
+pub fn put_round(out: &mut [u8], to: usize, s: &[u8], first: usize, last: usize)
+    requires { ⌜ (to + 32 ≤ length (now out)) × (first + 8 ≤ length (now s)) × (last + 8 ≤ length (now s)) ⌝ }
+    ensures { λ _. ⌜ Wrote (now (out .entry)) to (flat (textRound (eventAt (now (s .entry)) first) (eventAt (now (s .entry)) last))) (now (out .exit)) ⌝ }
+{
+    let from = u32_at(s, first + 4);
+    let end = u32_at(s, last + 4);
+    let inside = to + 8;
+    let behind = inside + 8;
+    let after = behind + 8;
+    put_event(out, to, ENTER, HEADING_TEXT, from);
+    put_event(out, inside, s[first], s[first + 1], from);
+    put_event(out, behind, s[last], s[last + 1], end);
+    put_event(out, after, EXIT, HEADING_TEXT, end);
+}
+
+// Writes what a heading's n inner events become, and gives the place after it.
+pub fn put_inner(out: &mut [u8], to: usize, s: &[u8], from: usize, n: usize) -> usize
+    requires { ⌜ (to + 8 * length (withText (eventsAt n (now s) from)) ≤ length (now out)) × (from + 8 * n ≤ length (now s)) × (leaves (eventsAt n (now s) from) ≡ true) ⌝ }
+    ensures { λ r. ⌜ Wrote (now (out .entry)) to (flat (withText (eventsAt n (now (s .entry)) from))) (now (out .exit)) × (r ≡ to + 8 * length (withText (eventsAt n (now (s .entry)) from))) ⌝ }
+{
+    let before = before_first(s, from, n, ENTER, DATA);
+    if before == n {
+        copy_events(out, to, s, from, n);
+        return to + 8 * n;
+    }
+    let through = through_last(s, from, n, EXIT, DATA);
+    let end = from + 8 * through;
+    let text = to + 8 * before;
+    let after = text + 32;
+    let behind = n - through;
+    copy_events(out, to, s, from, before);
+    put_round(out, text, s, from + 8 * before, end - 8);
+    copy_events(out, after, s, end, behind);
+    after + 8 * behind
+}
