@@ -5,3 +5,4 @@ pub mod Leaves
 pub mod Texts
 pub mod Passes
 pub mod Settling
+pub mod Offence

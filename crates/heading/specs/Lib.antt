@@ -1,3 +1,5 @@
 pub mod Headings
 pub mod Promise
 pub mod Cases
+pub mod Determined
+pub mod Shape
