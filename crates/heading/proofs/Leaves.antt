@@ -6,10 +6,11 @@ use mathlib.Core.Logic.{_⊎_, inl, inr}
 use mathlib.Core.List.{List, [], _∷_, _++_, reverse, reverse-cons}
 use Prim.Native.Nat.{ℕ, zero, suc, _+_, _-_, _≤_, _<_}
 use native.Mathlib.Omega.{arith}
-use lib.ListN.{length, length-append, length-reverse}
+use lib.ListN.{length, getD, length-append, length-reverse}
 use lib.Dec.{eqb}
 use borrow.Author.Tests.{eq-eqb, ne-eqb, eqb-true, eqb-false}
 use Rattle.record.specs.Choice.{choose, and}
+use Rattle.record.specs.Stack.{nth}
 use Rattle.record.specs.declared.event.Event.{Event}
 use Rattle.record.proofs.Bools.{and-left, and-right, and-both}
 use Rattle.heading.specs.Headings.{isOf, beforeFirst, throughLast, leaf, leaves}
@@ -135,8 +136,38 @@ through-some kind name e es q = go (positive (throughLast kind name es))
     go (inl z) = omega (arith, through-here kind name e es q z)
     go (inr p) = omega (arith, through-later kind name e es p)
 
--- with a first Data's enter there is a last Data's exit
-pub data-ends : (es : List Event) → leaves es ≡ true → (beforeFirst 0 0 es ≡ length es → ⊥) → 0 < throughLast 1 0 es
+pub through-none : (kind name : ℕ) (e : Event) (es : List Event) → isOf kind name e ≡ false → throughLast kind name es ≡ 0 → throughLast kind name (e ∷ es) ≡ 0
+unfolding throughLast beforeFirst
+through-none kind name e es q h =
+    let b = before-past kind name (reverse es) (e ∷ []) (omega (arith, length-reverse es)) in
+    reversed kind name e es ∙ omega (arith, b, before-next kind name e [] q, length-reverse es)
+
+empty : (kind name : ℕ) → 0 < throughLast kind name [] → ⊥
+unfolding throughLast
+empty kind name h = omega arith
+
+-- the last of a kind and name is one
+pub last-is : (kind name : ℕ) (es : List Event) → 0 < throughLast kind name es → isOf kind name (nth es (throughLast kind name es - 1)) ≡ true
+last-is kind name [] h = absurd (empty kind name h)
+last-is kind name (e ∷ es) h = go (positive (throughLast kind name es)) (isOf kind name e) refl (λ l. last-is kind name es l)
+  where
+    go : (throughLast kind name es ≡ 0) ⊎ (0 < throughLast kind name es) → (b : Bool) → isOf kind name e ≡ b →
+        (0 < throughLast kind name es → isOf kind name (nth es (throughLast kind name es - 1)) ≡ true) →
+        isOf kind name (nth (e ∷ es) (throughLast kind name (e ∷ es) - 1)) ≡ true
+    go (inl z) true q more =
+        let k : throughLast kind name (e ∷ es) - 1 ≡ 0 = omega (arith, through-here kind name e es q z) in
+        ap (λ (m : ℕ). isOf kind name (nth (e ∷ es) m)) k ∙ q
+    go (inl z) false q more = absurd (omega (arith, h, through-none kind name e es q z))
+    go (inr p) b q more =
+        let k : throughLast kind name (e ∷ es) - 1 ≡ suc (throughLast kind name es - 1) = omega (arith, through-later kind name e es p) in
+        ap (λ (m : ℕ). isOf kind name (nth (e ∷ es) m)) k ∙ more p
+
+pub through-le : (kind name : ℕ) (es : List Event) → throughLast kind name es ≤ length es
+unfolding throughLast
+through-le kind name es = omega arith
+
+-- with a first Data's enter there is a last Data's exit, and it stands behind it
+pub data-ends : (es : List Event) → leaves es ≡ true → (beforeFirst 0 0 es ≡ length es → ⊥) → beforeFirst 0 0 es + 2 ≤ throughLast 1 0 es
 unfolding leaves beforeFirst
 data-ends [] q h = absurd (h refl)
 data-ends (e ∷ []) q h = let z : _≡_ {A = ℕ} 0 1 = cc in absurd (omega arith)
@@ -145,13 +176,14 @@ data-ends (e ∷ f ∷ es) q h = go (isOf 0 0 e) refl (λ n. data-ends es (rest-
     l : Leaf e f
     l = first-leaf e f es q
 
-    go : (b : Bool) → isOf 0 0 e ≡ b → ((beforeFirst 0 0 es ≡ length es → ⊥) → 0 < throughLast 1 0 es) → 0 < throughLast 1 0 (e ∷ f ∷ es)
+    go : (b : Bool) → isOf 0 0 e ≡ b → ((beforeFirst 0 0 es ≡ length es → ⊥) → beforeFirst 0 0 es + 2 ≤ throughLast 1 0 es) →
+        beforeFirst 0 0 (e ∷ f ∷ es) + 2 ≤ throughLast 1 0 (e ∷ f ∷ es)
     go true p more =
         let here : 0 < throughLast 1 0 (f ∷ es) = through-some 1 0 f es (is-of 1 0 f (l .exits) (l .same ∙ of-is 0 0 e p .1)) in
-        omega (arith, through-later 1 0 e (f ∷ es) here)
+        omega (arith, through-later 1 0 e (f ∷ es) here, before-here 0 0 e (f ∷ es) p)
     go false p more =
         let a = before-next 0 0 e (f ∷ es) p in
         let b = before-next 0 0 f es (not-of 0 0 f (λ k n. omega (arith, l .exits))) in
-        let rest : 0 < throughLast 1 0 es = more (λ z. h (omega (arith, a, b))) in
-        let here : 0 < throughLast 1 0 (f ∷ es) = omega (arith, through-later 1 0 f es rest) in
-        omega (arith, through-later 1 0 e (f ∷ es) here)
+        let rest : beforeFirst 0 0 es + 2 ≤ throughLast 1 0 es = more (λ z. h (omega (arith, a, b))) in
+        let c = through-later 1 0 f es (omega arith) in
+        omega (arith, a, b, c, through-later 1 0 e (f ∷ es) (omega (arith, c)))

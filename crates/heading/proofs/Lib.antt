@@ -6,3 +6,4 @@ pub mod Texts
 pub mod Passes
 pub mod Settling
 pub mod Offence
+pub mod Resound

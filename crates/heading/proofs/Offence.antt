@@ -32,7 +32,7 @@ event-is : (e : Event) (k n : ℕ) → e .kind ≡ k → e .name ≡ n → e ≡
 event-is e k n p q = rw (← p, ← q)
 
 -- the shape as a test and as a predicate
-odd : (e : Event) → leaves (e ∷ []) ≡ true → ⊥
+pub odd : (e : Event) → leaves (e ∷ []) ≡ true → ⊥
 unfolding leaves
 odd e q = let z : _≡_ {A = ℕ} 0 1 = cc in omega arith
 
@@ -107,7 +107,7 @@ shape-of es q = go es (startsWith 14 es) refl (and-left _ _ q) (and-right _ _ q)
     go es true s h l = headed-spaced es s h l
 
 -- what follows a heading's enter, as a test and as a predicate
-before-is : (kind name : ℕ) (es : List Event) → beforeFirst kind name es < length es → isOf kind name (nth es (beforeFirst kind name es)) ≡ true
+pub before-is : (kind name : ℕ) (es : List Event) → beforeFirst kind name es < length es → isOf kind name (nth es (beforeFirst kind name es)) ≡ true
 unfolding beforeFirst choose
 before-is kind name [] h = absurd (omega arith)
 before-is kind name (e ∷ es) h = go (isOf kind name e) refl (λ l. before-is kind name es l)

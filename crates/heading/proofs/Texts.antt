@@ -97,7 +97,7 @@ pub found : (s : List ℕ) (from n before through : ℕ)
     → (before ≡ beforeFirst 0 0 (eventsAt n s from)) × (before ≤ n) → (through ≡ throughLast 1 0 (eventsAt n s from)) × (through ≤ n)
     → (before ≡ n → ⊥) → leaves (eventsAt n s from) ≡ true → Found s from n before through
 found s from n before through b t ne q =
-    let ends : 0 < throughLast 1 0 (eventsAt n s from) = data-ends (eventsAt n s from) q (λ z. ne (b .0 ∙ z ∙ length-eventsAt n s from)) in
+    let ends : beforeFirst 0 0 (eventsAt n s from) + 2 ≤ throughLast 1 0 (eventsAt n s from) = data-ends (eventsAt n s from) q (λ z. ne (b .0 ∙ z ∙ length-eventsAt n s from)) in
     record {
       size = length-text s from n before through (b .0) (t .0) ne (b .1) (t .1);
       some = omega (arith, t .0);
