@@ -7,3 +7,4 @@ pub mod Passes
 pub mod Settling
 pub mod Offence
 pub mod Resound
+pub mod Kept

@@ -134,7 +134,7 @@ follows-of es q h =
     }
 
 -- leaf pairs hold no exit of a heading
-none-before : (es : List Event) → leaves es ≡ true → beforeFirst 1 11 es ≡ length es
+pub none-before : (es : List Event) → leaves es ≡ true → beforeFirst 1 11 es ≡ length es
 unfolding beforeFirst
 none-before [] q = refl
 none-before (e ∷ []) q = absurd (odd e q)
@@ -172,7 +172,7 @@ never-closed (e ∷ f ∷ es) deep d last top held q s =
     let s₂ : soundFrom deep d (f .place) (top ∷ held) es ≡ true = rw (after-exit f (f .name) (e .name ∷ top ∷ held) (l .exits)) at (sound-rest deep d (e .place) (e .name ∷ top ∷ held) f es s₁) in
     never-closed es deep d (f .place) top held (rest-leaves e f es q) s₂
 
-at-most : (a b : ℕ) → a ≤ b → (a < b) ⊎ (a ≡ b)
+pub at-most : (a b : ℕ) → a ≤ b → (a < b) ⊎ (a ≡ b)
 at-most zero zero l = inr refl
 at-most zero (suc b) l = inl (omega arith)
 at-most (suc a) zero l = absurd (omega arith)

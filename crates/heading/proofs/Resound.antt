@@ -62,12 +62,12 @@ unfolding leaves
 both-leaves x y es fs q r = and-both _ _ (and-left _ _ q) r
 
 -- a list of leaf pairs cut before an enter, or behind an exit, is two of them
-leaves-front : (xs : List Event) (a : Event) (ys : List Event) → leaves (xs ++ (a ∷ ys)) ≡ true → a .kind ≡ 0 → leaves xs ≡ true
+pub leaves-front : (xs : List Event) (a : Event) (ys : List Event) → leaves (xs ++ (a ∷ ys)) ≡ true → a .kind ≡ 0 → leaves xs ≡ true
 leaves-front [] a ys q k = no-leaves
 leaves-front (x ∷ []) a ys q k = absurd (omega (arith, first-leaf x a ys q .exits))
 leaves-front (x ∷ y ∷ xs) a ys q k = both-leaves x y (xs ++ (a ∷ ys)) xs q (leaves-front xs a ys (rest-leaves x y (xs ++ (a ∷ ys)) q) k)
 
-leaves-through : (xs : List Event) (b : Event) (ys : List Event) → leaves (xs ++ (b ∷ ys)) ≡ true → b .kind ≡ 1 → (leaves (xs ++ (b ∷ [])) ≡ true) × (leaves ys ≡ true)
+pub leaves-through : (xs : List Event) (b : Event) (ys : List Event) → leaves (xs ++ (b ∷ ys)) ≡ true → b .kind ≡ 1 → (leaves (xs ++ (b ∷ [])) ≡ true) × (leaves ys ≡ true)
 leaves-through [] b [] q k = absurd (odd b q)
 leaves-through [] b (y ∷ ys) q k = absurd (omega (arith, first-leaf b y ys q .enters))
 leaves-through (x ∷ []) b ys q k = (both-leaves x b ys [] q no-leaves, rest-leaves x b ys q)

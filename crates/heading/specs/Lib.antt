@@ -3,3 +3,4 @@ pub mod Promise
 pub mod Cases
 pub mod Determined
 pub mod Shape
+pub mod Outside
