@@ -8,3 +8,4 @@ pub mod Settling
 pub mod Offence
 pub mod Resound
 pub mod Kept
+pub mod Called

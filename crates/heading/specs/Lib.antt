@@ -4,3 +4,4 @@ pub mod Cases
 pub mod Determined
 pub mod Shape
 pub mod Outside
+pub mod Accepted
