@@ -15,6 +15,7 @@ use Rattle.record.specs.declared.event.Event.{Event}
 use Rattle.record.proofs.Splice.{wrote-then}
 use Rattle.record.proofs.Sections.{length-eventsAt, length-flat, flat-append}
 use Rattle.heading.specs.Headings.{beforeFirst, throughLast, leaves, textRound, withText}
+use Rattle.heading.specs.Text.{Ends}
 use Rattle.heading.proofs.Lists.{events-take, events-drop, events-nth}
 use Rattle.heading.proofs.Leaves.{data-ends}
 
@@ -35,17 +36,16 @@ module _ (s : List ℕ) (from n : ℕ) where
   unfolding withText choose
   without q = rw (eq-eqb _ _ (q ∙ sym (length-eventsAt n s from)))
 
-  module _ (before through : ℕ) (eb : before ≡ beforeFirst 0 0 (eventsAt n s from)) (et : through ≡ throughLast 1 0 (eventsAt n s from))
-      (ne : before ≡ n → ⊥) (lb : before ≤ n) (lt : through ≤ n) where
+  module _ (before through : ℕ) (x : Ends (eventsAt n s from) n before through) (ne : before ≡ n → ⊥) where
     -- three parts, each of them read out of the record
     cut : withText (eventsAt n s from)
         ≡ take before (eventsAt n s from) ++ textRound (nth (eventsAt n s from) before) (nth (eventsAt n s from) (through - 1)) ++ drop through (eventsAt n s from)
     unfolding withText choose
-    cut = rw (← eb, ← et, ne-eqb before (length (eventsAt n s from)) (λ z. ne (z ∙ length-eventsAt n s from)))
+    cut = rw (← x .first, ← x .last, ne-eqb before (length (eventsAt n s from)) (λ z. ne (z ∙ length-eventsAt n s from)))
 
     pub length-text : length (withText (eventsAt n s from)) ≡ before + 4 + (n - through)
     length-text =
-        let a : length (take before (eventsAt n s from)) ≡ before = ap length (events-take before n s from lb) ∙ length-eventsAt before s from in
+        let a : length (take before (eventsAt n s from)) ≡ before = ap length (events-take before n s from (x .front)) ∙ length-eventsAt before s from in
         let b : length (drop through (eventsAt n s from)) ≡ n - through = length-drop through (eventsAt n s from) ∙ ap (λ (k : ℕ). k - through) (length-eventsAt n s from) in
         ap length cut ∙ omega (arith, length-append (take before (eventsAt n s from) ++ textRound (nth (eventsAt n s from) before) (nth (eventsAt n s from) (through - 1))) (drop through (eventsAt n s from)), length-append (take before (eventsAt n s from)) (textRound (nth (eventsAt n s from) before) (nth (eventsAt n s from) (through - 1))), a, b)
 
@@ -55,7 +55,7 @@ module _ (s : List ℕ) (from n : ℕ) where
     parts h =
         cut
         ∙ rw (
-          events-take before n s from lb,
+          events-take before n s from (x .front),
           events-nth before n s from (from + 8 * before) (omega arith) refl,
           events-nth (through - 1) n s from (from + 8 * through - 8) (omega arith) (omega arith),
           events-drop through n (n - through) s from (from + 8 * through) (omega arith) refl,
@@ -81,11 +81,6 @@ unchanged s from n to q w = rw (without s from n q) w
 pub length-unchanged : (s : List ℕ) (from n : ℕ) → beforeFirst 0 0 (eventsAt n s from) ≡ n → length (withText (eventsAt n s from)) ≡ n
 length-unchanged s from n q = ap length (without s from n q) ∙ length-eventsAt n s from
 
-below : (a b : ℕ) → a ≤ b → (a ≡ b → ⊥) → a < b
-below a zero l ne = absurd (ne (omega arith))
-below zero (suc b) l ne = omega arith
-below (suc a) (suc b) l ne = omega (arith, below a b (omega arith) (λ z. ne (ap suc z)))
-
 -- what is known of a text once both its ends are found
 pub record Found (s : List ℕ) (from n before through : ℕ) : Type 0 where
   pub size : length (withText (eventsAt n s from)) ≡ before + 4 + (n - through)
@@ -93,14 +88,13 @@ pub record Found (s : List ℕ) (from n before through : ℕ) : Type 0 where
   pub front : before < n
   pub whole : through ≤ n
 
-pub found : (s : List ℕ) (from n before through : ℕ)
-    → (before ≡ beforeFirst 0 0 (eventsAt n s from)) × (before ≤ n) → (through ≡ throughLast 1 0 (eventsAt n s from)) × (through ≤ n)
-    → (before ≡ n → ⊥) → leaves (eventsAt n s from) ≡ true → Found s from n before through
-found s from n before through b t ne q =
-    let ends : beforeFirst 0 0 (eventsAt n s from) + 2 ≤ throughLast 1 0 (eventsAt n s from) = data-ends (eventsAt n s from) q (λ z. ne (b .0 ∙ z ∙ length-eventsAt n s from)) in
+pub found : (s : List ℕ) (from n before through : ℕ) → Ends (eventsAt n s from) n before through → (before ≡ n → ⊥) → leaves (eventsAt n s from) ≡ true →
+    Found s from n before through
+found s from n before through x ne q =
+    let ends : beforeFirst 0 0 (eventsAt n s from) + 2 ≤ throughLast 1 0 (eventsAt n s from) = data-ends (eventsAt n s from) q (λ z. ne (x .first ∙ z ∙ length-eventsAt n s from)) in
     record {
-      size = length-text s from n before through (b .0) (t .0) ne (b .1) (t .1);
-      some = omega (arith, t .0);
-      front = below before n (b .1) ne;
-      whole = t .1;
+      size = length-text s from n before through x ne;
+      some = omega (arith, x .last);
+      front = omega (arith, x .first, x .last, x .whole);
+      whole = x .whole;
     }

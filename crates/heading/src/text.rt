@@ -16,18 +16,36 @@ ghost use lib.ListN.{length};
 ghost use Rattle.record.specs.Bytes.{Wrote};
 ghost use Rattle.record.specs.Event.{flat, eventAt, eventsAt};
 ghost use Rattle.heading.specs.Headings.{leaves, textRound, withText};
+ghost use Rattle.heading.specs.Text.{Ends};
+
+// Where a text lies among a heading's inner events: how many stand before it, and how many up to its end. Where there is none, all stand
+// before it.
+pub struct Text {
+    pub before: usize,
+    pub through: usize,
+}
+
+// The text of a heading's n inner events: from the first Data's enter to the last Data's exit.
+pub fn text_of(s: &[u8], from: usize, n: usize) -> Text
+    requires { ⌜ from + 8 * n ≤ length (now s) ⌝ }
+    ensures { λ r. ⌜ Ends (eventsAt n (now (s .entry)) from) n (r .before) (r .through) ⌝ }
+{
+    let before = before_first(s, from, n, ENTER, DATA);
+    let through = through_last(s, from, n, EXIT, DATA);
+    Text { before, through }
+}
 
 // How many events a heading's n inner events become.
 pub fn text_size(s: &[u8], from: usize, n: usize) -> usize
     requires { ⌜ (n ≤ 2048) × (from + 8 * n ≤ length (now s)) ⌝ }
     ensures { λ r. ⌜ (r ≡ length (withText (eventsAt n (now (s .entry)) from))) × (r ≤ 2 * n + 3) ⌝ }
 {
-    let before = before_first(s, from, n, ENTER, DATA);
+    let text = text_of(s, from, n);
+    let before = text.before;
     if before == n {
         return n;
     }
-    let through = through_last(s, from, n, EXIT, DATA);
-    before + 4 + (n - through)
+    before + 4 + (n - text.through)
 }
 
 // Writes a text's four events, round the events of a record that stand at `first` and `last`.
@@ -51,12 +69,13 @@ pub fn put_inner(out: &mut [u8], to: usize, s: &[u8], from: usize, n: usize) -> 
     requires { ⌜ (to + 8 * length (withText (eventsAt n (now s) from)) ≤ length (now out)) × (from + 8 * n ≤ length (now s)) × (leaves (eventsAt n (now s) from) ≡ true) ⌝ }
     ensures { λ r. ⌜ Wrote (now (out .entry)) to (flat (withText (eventsAt n (now (s .entry)) from))) (now (out .exit)) × (r ≡ to + 8 * length (withText (eventsAt n (now (s .entry)) from))) ⌝ }
 {
-    let before = before_first(s, from, n, ENTER, DATA);
+    let found = text_of(s, from, n);
+    let before = found.before;
+    let through = found.through;
     if before == n {
         copy_events(out, to, s, from, n);
         return to + 8 * n;
     }
-    let through = through_last(s, from, n, EXIT, DATA);
     let end = from + 8 * through;
     let text = to + 8 * before;
     let after = text + 32;

@@ -9,16 +9,15 @@ use Rattle.heading.proofs.text.put_inner.Statement.{statement}
 use Rattle.heading.proofs.text.put_inner.Tie as tie
 use Rattle.heading.proofs.text.put_inner.Reads as reads
 use Rattle.heading.proofs.text.put_inner.Lts as lts
-use Rattle.heading.proofs.seek.before_first.Reads as before-first-reads
-use Rattle.heading.proofs.seek.through_last.Reads as through-last-reads
 use Rattle.heading.proofs.text.put_round.Reads as put-round-reads
+use Rattle.heading.proofs.text.text_of.Reads as text-of-reads
 use Rattle.record.proofs.event.copy_events.Reads as copy-events-reads
 
-before-first-requires : tie.Need-before-first-requires
-before-first-requires c κs = search needs
+text-of-requires : tie.Need-text-of-requires
+text-of-requires c κs = search needs
 
 copy-events-requires : tie.Need-copy-events-requires
-copy-events-requires c κs = let f = length-unchanged _ _ _ (sym (c .before .before .before-first .ensures .0) ∙ c .before .if1 .taken) in search needs
+copy-events-requires c κs = let f = length-unchanged _ _ _ (sym (c .before .before .text-of .ensures .first) ∙ c .before .if1 .taken) in search needs
 
 mul-result : tie.Need-mul-result
 mul-result c = search needs
@@ -30,10 +29,7 @@ same-length : tie.Need-same-length
 same-length c = search needs
 
 returns : tie.Need-returns
-returns c = let f = length-unchanged _ _ _ (sym (c .before .before .before .before .before .before-first .ensures .0) ∙ c .before .before .before .before .if1 .taken) in (unchanged _ _ _ _ (sym (c .before .before .before .before .before .before-first .ensures .0) ∙ c .before .before .before .before .if1 .taken) (c .before .before .copy-events .ensures), omega arith)
-
-through-last-requires : tie.Need-through-last-requires
-through-last-requires c κs = search needs
+returns c = let f = length-unchanged _ _ _ (sym (c .before .before .before .before .before .text-of .ensures .first) ∙ c .before .before .before .before .if1 .taken) in (unchanged _ _ _ _ (sym (c .before .before .before .before .before .text-of .ensures .first) ∙ c .before .before .before .before .if1 .taken) (c .before .before .copy-events .ensures), omega arith)
 
 mul-end : tie.Need-mul-end
 mul-end c = search needs
@@ -48,13 +44,13 @@ add-text : tie.Need-add-text
 add-text c = search needs
 
 add-after : tie.Need-add-after
-add-after c = let f = found _ _ _ _ _ (c .before .before .before-first .ensures) (c .through-last .ensures) (c .before .if1 .left) (c .before .before .before .before .before .pre .2) in search needs
+add-after c = let f = found _ _ _ _ _ (c .before .text-of .ensures) (c .if1 .left) (c .before .before .before .before .pre .2) in search needs
 
 sub-behind : tie.Need-sub-behind
 sub-behind c = search needs
 
 copy-events-requires-2 : tie.Need-copy-events-requires-2
-copy-events-requires-2 c κs = let f = found _ _ _ _ _ (c .before .before .before .before-first .ensures) (c .before .through-last .ensures) (c .before .before .if1 .left) (c .before .before .before .before .before .before .pre .2) in search needs
+copy-events-requires-2 c κs = let f = found _ _ _ _ _ (c .before .before .text-of .ensures) (c .before .if1 .left) (c .before .before .before .before .before .pre .2) in search needs
 
 mul-put-round : tie.Need-mul-put-round
 mul-put-round c = search needs
@@ -63,37 +59,36 @@ add-put-round : tie.Need-add-put-round
 add-put-round c = search needs
 
 sub-put-round : tie.Need-sub-put-round
-sub-put-round c = let f = found _ _ _ _ _ (c .before .before .before .before .before .before .before .before-first .ensures) (c .before .before .before .before .before .through-last .ensures) (c .before .before .before .before .before .before .if1 .left) (c .before .before .before .before .before .before .before .before .before .before .pre .2) in search needs
+sub-put-round c = let f = found _ _ _ _ _ (c .before .before .before .before .before .before .text-of .ensures) (c .before .before .before .before .before .if1 .left) (c .before .before .before .before .before .before .before .before .before .pre .2) in search needs
 
 put-round-requires : tie.Need-put-round-requires
-put-round-requires c κs = let f = found _ _ _ _ _ (c .before .before .before .before .before .before .before .before-first .ensures) (c .before .before .before .before .before .through-last .ensures) (c .before .before .before .before .before .before .if1 .left) (c .before .before .before .before .before .before .before .before .before .before .pre .2) in search needs
+put-round-requires c κs = let f = found _ _ _ _ _ (c .before .before .before .before .before .before .text-of .ensures) (c .before .before .before .before .before .if1 .left) (c .before .before .before .before .before .before .before .before .before .pre .2) in search needs
 
 copy-events-requires-3 : tie.Need-copy-events-requires-3
-copy-events-requires-3 c κs = let f = found _ _ _ _ _ (c .before .before .before .before .before .before .before .before .before .before .before .before-first .ensures) (c .before .before .before .before .before .before .before .before .before .through-last .ensures) (c .before .before .before .before .before .before .before .before .before .before .if1 .left) (c .before .before .before .before .before .before .before .before .before .before .before .before .before .before .pre .2) in search needs
+copy-events-requires-3 c κs = let f = found _ _ _ _ _ (c .before .before .before .before .before .before .before .before .before .before .text-of .ensures) (c .before .before .before .before .before .before .before .before .before .if1 .left) (c .before .before .before .before .before .before .before .before .before .before .before .before .before .pre .2) in search needs
 
 mul-result-2 : tie.Need-mul-result-2
 mul-result-2 c = search needs
 
 add-result-2 : tie.Need-add-result-2
-add-result-2 c = let f = found _ _ _ _ _ (c .before .before .before .before .before .before .before .before .before .before .before .before .before .before .before-first .ensures) (c .before .before .before .before .before .before .before .before .before .before .before .before .through-last .ensures) (c .before .before .before .before .before .before .before .before .before .before .before .before .before .if1 .left) (c .before .before .before .before .before .before .before .before .before .before .before .before .before .before .before .before .before .pre .2) in search needs
+add-result-2 c = let f = found _ _ _ _ _ (c .before .before .before .before .before .before .before .before .before .before .before .before .before .text-of .ensures) (c .before .before .before .before .before .before .before .before .before .before .before .before .if1 .left) (c .before .before .before .before .before .before .before .before .before .before .before .before .before .before .before .before .pre .2) in search needs
 
 same-length-2 : tie.Need-same-length-2
 same-length-2 c = search needs
 
 returns-2 : tie.Need-returns-2
-returns-2 c = let f = found _ _ _ _ _ (c .before .before .before .before .before .before .before .before .before .before .before .before .before .before .before-first .ensures) (c .before .before .before .before .before .before .before .before .before .before .before .before .through-last .ensures) (c .before .before .before .before .before .before .before .before .before .before .before .before .before .if1 .left) (c .before .before .before .before .before .before .before .before .before .before .before .before .before .before .before .before .before .pre .2) in (written _ _ _ _ _ (c .before .before .before .before .before .before .before .before .before .before .before .before .before .before .before-first .ensures .0) (c .before .before .before .before .before .before .before .before .before .before .before .before .through-last .ensures .0) (c .before .before .before .before .before .before .before .before .before .before .before .before .before .if1 .left) (c .before .before .before .before .before .before .before .before .before .before .before .before .before .before .before-first .ensures .1) (c .before .before .before .before .before .before .before .before .before .before .before .before .through-last .ensures .1) _ (f .some) (c .before .before .before .before .before .before .before .before .before .before .copy-events2 .ensures) (c .before .before .before .before .before .before .put-round .ensures) (c .before .before .copy-events3 .ensures), omega arith)
+returns-2 c = let f = found _ _ _ _ _ (c .before .before .before .before .before .before .before .before .before .before .before .before .before .text-of .ensures) (c .before .before .before .before .before .before .before .before .before .before .before .before .if1 .left) (c .before .before .before .before .before .before .before .before .before .before .before .before .before .before .before .before .pre .2) in (written _ _ _ _ _ (c .before .before .before .before .before .before .before .before .before .before .before .before .before .text-of .ensures) (c .before .before .before .before .before .before .before .before .before .before .before .before .if1 .left) _ (f .some) (c .before .before .before .before .before .before .before .before .before .before .copy-events2 .ensures) (c .before .before .before .before .before .before .put-round .ensures) (c .before .before .copy-events3 .ensures), omega arith)
 
 pub put-inner-spec : {M : Type 1} → statement M
 put-inner-spec =
     tie.close
     (tie.spec
-    before-first-requires
+    text-of-requires
     copy-events-requires
     mul-result
     add-result
     same-length
     returns
-    through-last-requires
     mul-end
     add-end
     mul-text

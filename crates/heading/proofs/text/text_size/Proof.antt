@@ -8,17 +8,13 @@ use Rattle.heading.proofs.text.text_size.Statement.{statement}
 use Rattle.heading.proofs.text.text_size.Tie as tie
 use Rattle.heading.proofs.text.text_size.Reads as reads
 use Rattle.heading.proofs.text.text_size.Lts as lts
-use Rattle.heading.proofs.seek.before_first.Reads as before-first-reads
-use Rattle.heading.proofs.seek.through_last.Reads as through-last-reads
+use Rattle.heading.proofs.text.text_of.Reads as text-of-reads
 
-before-first-requires : tie.Need-before-first-requires
-before-first-requires c κs = search needs
+text-of-requires : tie.Need-text-of-requires
+text-of-requires c κs = search needs
 
 returns : tie.Need-returns
-returns c = (sym (length-unchanged _ _ _ (sym (c .before .before-first .ensures .0) ∙ c .if1 .taken)), omega arith)
-
-through-last-requires : tie.Need-through-last-requires
-through-last-requires c κs = search needs
+returns c = (sym (length-unchanged _ _ _ (sym (c .before .text-of .ensures .first) ∙ c .if1 .taken)), omega arith)
 
 add-result : tie.Need-add-result
 add-result c = search needs
@@ -30,16 +26,8 @@ add-result-2 : tie.Need-add-result-2
 add-result-2 c = search needs
 
 returns-2 : tie.Need-returns-2
-returns-2 c = (sym (length-text _ _ _ _ _ (c .before .before .before-first .ensures .0) (c .through-last .ensures .0) (c .before .if1 .left) (c .before .before .before-first .ensures .1) (c .through-last .ensures .1)), omega arith)
+returns-2 c = (sym (length-text _ _ _ _ _ (c .before .before .text-of .ensures) (c .before .if1 .left)), omega arith)
 
 pub text-size-spec : {M : Type 1} → statement M
 text-size-spec =
-    tie.close
-    (tie.spec
-    before-first-requires
-    returns
-    through-last-requires
-    add-result
-    sub-result
-    add-result-2
-    returns-2)
+    tie.close (tie.spec text-of-requires returns add-result sub-result add-result-2 returns-2)
