@@ -1,6 +1,6 @@
 -- What the public call's promise says of its two kinds of answer: what an accepted call says, and that a broken shape is refused.
 -- Assumes nothing.
-use mathlib.Core.Path.{_≡_, refl, sym, ap, _∙_}
+use mathlib.Core.Path.{_≡_, refl, ap, _∙_}
 use mathlib.Core.Bool.{Bool, true, false}
 use mathlib.Core.List.{List}
 use Prim.Native.Nat.{ℕ, _+_, _*_}
@@ -8,16 +8,16 @@ use native.Mathlib.Omega.{arith}
 use lib.ListN.{length}
 use lib.Dec.{ltb}
 use Rattle.record.specs.Choice.{choose}
-use Rattle.record.specs.Event.{sectionBytes, eventsOf}
+use Rattle.record.specs.Event.{eventsOf}
 use Rattle.record.specs.Check.{admitted}
-use Rattle.record.specs.Outcome.{Resolution, offends, gives, Outcome, accepted, refused, refusing, sized, settled, outcome, onto, bytesWritten}
+use Rattle.record.specs.Outcome.{Resolution, offends, gives, Outcome, accepted, refusing, sized, settled, outcome, onto, bytesWritten}
 use Rattle.record.specs.declared.event.Event.{Event}
 use Rattle.record.specs.declared.check.Reading.{Reading}
 use Rattle.record.specs.declared.check.Reading.the-variants as readings
 use Rattle.record.proofs.Good.{admission}
 use Rattle.heading.specs.Headings.{headings}
 use Rattle.heading.specs.Promise.{answerOf, resolution, Promise}
-use Rattle.heading.specs.Shape.{Broken, Earliest}
+use Rattle.heading.specs.Shape.{Earliest}
 use Rattle.heading.specs.Accepted.{Accepted}
 use Rattle.heading.specs.declared.resolve.Answer.{Answer}
 use Rattle.heading.specs.declared.resolve.Answer.the-variants.{Resolved, Refused}

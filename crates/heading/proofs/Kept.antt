@@ -8,12 +8,12 @@ use mathlib.Core.Logic.{_⊎_, inl, inr}
 use mathlib.Core.List.{List, [], _∷_, _++_}
 use Prim.Native.Nat.{ℕ, zero, suc, _+_, _*_, _-_, _≤_, _<_}
 use native.Mathlib.Omega.{arith}
-use lib.ListN.{length, getD, take, drop, length-append, length-drop}
+use lib.ListN.{length, take, drop, length-append, length-drop}
 use lib.Seq.{split-at, drop-append-seam, drop-cons, length-take-le}
 use lib.Dec.{eqb, ltb}
-use borrow.Author.Tests.{eqb-true, eqb-false, le-ltb}
+use borrow.Author.Tests.{eqb-false, le-ltb}
 use Rattle.record.specs.Choice.{choose}
-use Rattle.record.specs.Event.{event, enter, exit, eventsAt, eventsOf}
+use Rattle.record.specs.Event.{event, enter, exit, eventsOf}
 use Rattle.record.specs.Stack.{nth}
 use Rattle.record.specs.Check.{admitted}
 use Rattle.record.specs.Outcome.{Resolution, offends, gives, Outcome, accepted, refused, refusing, sized, settled}
@@ -24,7 +24,7 @@ use Rattle.record.proofs.Sections.{length-eventsAt}
 use Rattle.heading.specs.Headings.{isOf, beforeFirst, throughLast, innerOf, leaves, shaped, textRound, withText, resolvedFrom, earliest, headings}
 use Rattle.heading.specs.Outside.{outsideFrom, outside}
 use Rattle.heading.proofs.Seeking.{before-le, before-here, before-next}
-use Rattle.heading.proofs.Leaves.{is-of, of-is, not-of, before-past, data-ends, last-is, through-le}
+use Rattle.heading.proofs.Leaves.{of-is, not-of, before-past, data-ends, last-is, through-le}
 use Rattle.heading.proofs.Passes.{inner-leaves, other-passed, other-resolved, heading-passed, heading-resolved, heading-shaped}
 use Rattle.heading.proofs.Settling.{either}
 use Rattle.heading.proofs.Offence.{before-is, none-before, at-most}

@@ -6,15 +6,15 @@ use mathlib.Core.Logic.{_⊎_, inl, inr}
 use mathlib.Core.List.{List, [], _∷_, _++_, reverse, reverse-cons}
 use Prim.Native.Nat.{ℕ, zero, suc, _+_, _-_, _≤_, _<_}
 use native.Mathlib.Omega.{arith}
-use lib.ListN.{length, getD, length-append, length-reverse}
+use lib.ListN.{length, length-reverse}
 use lib.Dec.{eqb}
-use borrow.Author.Tests.{eq-eqb, ne-eqb, eqb-true, eqb-false}
-use Rattle.record.specs.Choice.{choose, and}
+use borrow.Author.Tests.{eq-eqb, eqb-true}
+use Rattle.record.specs.Choice.{choose}
 use Rattle.record.specs.Stack.{nth}
 use Rattle.record.specs.declared.event.Event.{Event}
 use Rattle.record.proofs.Bools.{and-left, and-right, and-both}
 use Rattle.heading.specs.Headings.{isOf, beforeFirst, throughLast, leaf, leaves}
-use Rattle.heading.proofs.Seeking.{before-le, before-here, before-next}
+use Rattle.heading.proofs.Seeking.{before-here, before-next}
 
 pub is-of : (kind name : ℕ) (e : Event) → e .kind ≡ kind → e .name ≡ name → isOf kind name e ≡ true
 unfolding isOf

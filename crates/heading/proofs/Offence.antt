@@ -8,14 +8,12 @@ use mathlib.Core.Logic.{_⊎_, inl, inr}
 use mathlib.Core.List.{List, [], _∷_, _++_}
 use Prim.Native.Nat.{ℕ, zero, suc, _+_, _≤_, _<_}
 use native.Mathlib.Omega.{arith}
-use native.Mathlib.Nat.{add-zero}
-use lib.ListN.{length, getD, take, drop}
+use lib.ListN.{length, take, drop}
 use lib.Seq.{split-at, take-all, take-append-seam}
-use lib.Dec.{eqb}
-use borrow.Author.Tests.{eq-eqb, eqb-true}
+use borrow.Author.Tests.{eqb-true}
 use Rattle.record.specs.Choice.{choose, and}
 use Rattle.record.specs.Event.{event, enter, exit}
-use Rattle.record.specs.Stack.{nth, outer, after}
+use Rattle.record.specs.Stack.{nth, after}
 use Rattle.record.specs.Sound.{soundFrom, sound}
 use Rattle.record.specs.Outcome.{Resolution, offends, gives}
 use Rattle.record.specs.declared.event.Event.{Event}
@@ -24,7 +22,7 @@ use Rattle.record.proofs.Soundness.{sound-rest, after-enter, after-exit}
 use Rattle.heading.specs.Headings.{isOf, beforeFirst, innerOf, leaf, leaves, startsWith, headed, shaped, resolvedFrom, offending, earliest, headings}
 use Rattle.heading.specs.Shape.{Pairs, none, pair, Shape, bare, spaced, Follows, Broken, Earliest}
 use Rattle.heading.proofs.Seeking.{before-le, before-here, before-next}
-use Rattle.heading.proofs.Leaves.{Leaf, is-of, of-is, first-leaf, rest-leaves, leaf-apart, before-past}
+use Rattle.heading.proofs.Leaves.{is-of, of-is, first-leaf, rest-leaves, leaf-apart, before-past}
 use Rattle.heading.proofs.Settling.{either}
 
 -- an event is its three numbers

@@ -1,7 +1,7 @@
 -- The two passes over the events: what is left gives, with what is done, what the whole gives.
 -- Assumes nothing.
 use mathlib.Core.Path.{_≡_, refl, sym, ap, _∙_}
-use mathlib.Core.Bool.{Bool, true, false, not}
+use mathlib.Core.Bool.{Bool, true, false}
 use mathlib.Core.List.{List, [], _∷_, _++_}
 use Prim.Native.Nat.{ℕ, zero, suc, _+_, _*_, _-_, _≤_, _<_}
 use native.Mathlib.Omega.{arith}
@@ -9,15 +9,14 @@ use lib.ListN.{length, take, drop, length-append, take-append-drop}
 use lib.Seq.{length-take-le}
 use Rattle.record.specs.Choice.{choose, and}
 use Rattle.record.specs.Bytes.{Wrote}
-use Rattle.record.specs.Event.{bytesOf, flat, eventAt, eventsAt}
+use Rattle.record.specs.Event.{flat, eventAt, eventsAt}
 use Rattle.record.specs.Outcome.{Resolution, offends, gives}
 use Rattle.record.specs.declared.event.Event.{Event}
 use Rattle.record.proofs.Bools.{and-right}
 use Rattle.record.proofs.Splice.{wrote-then, wrote-none, wrote-length}
 use Rattle.record.proofs.Sections.{length-eventsAt, length-flat, flat-append}
-use Rattle.heading.specs.Headings.{isOf, beforeFirst, innerOf, leaves, headed, shaped, withText, resolvedFrom, offending, earliest, headings}
+use Rattle.heading.specs.Headings.{isOf, beforeFirst, innerOf, leaves, shaped, withText, resolvedFrom, offending, earliest, headings}
 use Rattle.heading.specs.Promise.{judgedOf}
-use Rattle.heading.specs.declared.judge.Judged.{Judged}
 use Rattle.heading.specs.declared.judge.Judged.the-variants.{Offends, Sized}
 use Rattle.heading.proofs.Lists.{events-step, events-none, events-take, events-drop}
 use Rattle.heading.proofs.Seeking.{before-le}

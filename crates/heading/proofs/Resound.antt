@@ -6,20 +6,19 @@ use mathlib.Core.Logic.{_⊎_, inl, inr}
 use mathlib.Core.List.{List, [], _∷_, _++_, append-assoc}
 use Prim.Native.Nat.{ℕ, zero, suc, _+_, _-_, _≤_, _<_}
 use native.Mathlib.Omega.{arith}
-use lib.ListN.{length, getD, take, drop, length-append, length-drop, take-append-drop, List·getD-append}
-use lib.Seq.{split-at, getD-drop}
+use lib.ListN.{length, take, drop, length-append, length-drop, take-append-drop, List·getD-append}
+use lib.Seq.{split-at}
 use lib.Dec.{eqb, ltb}
-use borrow.Author.Tests.{eq-eqb, ne-eqb, eqb-true, eqb-false, ltb-true, lt-ltb}
-use Rattle.record.specs.Choice.{choose, and}
+use borrow.Author.Tests.{eqb-false, ltb-true, lt-ltb}
+use Rattle.record.specs.Choice.{choose}
 use Rattle.record.specs.Event.{event, enter, exit}
-use Rattle.record.specs.Stack.{nth, outer, innermost, fitsOpen, after}
-use Rattle.record.specs.Sound.{placed, soundFrom, sound}
-use Rattle.record.specs.Outcome.{Resolution, offends, gives}
+use Rattle.record.specs.Stack.{nth, innermost, fitsOpen, after}
+use Rattle.record.specs.Sound.{soundFrom, sound}
+use Rattle.record.specs.Outcome.{offends, gives}
 use Rattle.record.specs.declared.event.Event.{Event}
 use Rattle.record.proofs.Bools.{and-left, and-right, and-both}
-use Rattle.record.proofs.Soundness.{Stands, stands, sound-rest, sound-enter, sound-exit, after-enter, after-exit}
+use Rattle.record.proofs.Soundness.{stands, sound-rest, sound-enter, sound-exit, after-enter, after-exit}
 use Rattle.heading.specs.Headings.{isOf, beforeFirst, throughLast, innerOf, leaves, shaped, textRound, withText, resolvedFrom, earliest, headings}
-use Rattle.heading.proofs.Seeking.{before-le}
 use Rattle.heading.proofs.Leaves.{of-is, first-leaf, rest-leaves, data-ends, last-is, through-le}
 use Rattle.heading.proofs.Passes.{inner-leaves, other-passed, other-resolved, heading-passed, heading-resolved, heading-shaped}
 use Rattle.heading.proofs.Settling.{either}

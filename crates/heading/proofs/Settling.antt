@@ -10,9 +10,9 @@ use lib.ListN.{length}
 use borrow.Author.Tests.{lt-ltb, le-ltb}
 use Rattle.record.specs.Choice.{choose}
 use Rattle.record.specs.Bytes.{Wrote, u32Bytes}
-use Rattle.record.specs.Event.{flat, sectionBytes, eventsAt, eventsOf}
+use Rattle.record.specs.Event.{flat, eventsAt, eventsOf}
 use Rattle.record.specs.Check.{admitted}
-use Rattle.record.specs.Outcome.{Resolution, offends, gives, sized, settled, onto}
+use Rattle.record.specs.Outcome.{Resolution, offends, gives, sized, settled}
 use Rattle.record.specs.declared.event.Event.{Event}
 use Rattle.record.specs.declared.check.Refusal.{Refusal}
 use Rattle.record.specs.declared.check.Reading.the-variants.{Good, Refused}

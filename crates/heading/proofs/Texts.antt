@@ -1,9 +1,9 @@
 -- The text rule against its definition: the four events of a text, and what a heading's inner events become, with or without Data.
 -- Assumes nothing.
 use mathlib.Core.Path.{_≡_, refl, sym, ap, _∙_}
-use mathlib.Core.Bool.{Bool, true, false}
-use mathlib.Core.List.{List, [], _∷_, _++_}
-use Prim.Native.Nat.{ℕ, zero, suc, _+_, _*_, _-_, _≤_, _<_}
+use mathlib.Core.Bool.{true}
+use mathlib.Core.List.{List, _++_}
+use Prim.Native.Nat.{ℕ, _+_, _*_, _-_, _≤_, _<_}
 use native.Mathlib.Omega.{arith}
 use lib.ListN.{length, getD, take, drop, length-append, length-drop}
 use borrow.Author.Tests.{eq-eqb, ne-eqb}
@@ -11,7 +11,6 @@ use Rattle.record.specs.Choice.{choose}
 use Rattle.record.specs.Bytes.{Wrote, u32At}
 use Rattle.record.specs.Event.{eventBytes, flat, eventAt, eventsAt}
 use Rattle.record.specs.Stack.{nth}
-use Rattle.record.specs.declared.event.Event.{Event}
 use Rattle.record.proofs.Splice.{wrote-then}
 use Rattle.record.proofs.Sections.{length-eventsAt, length-flat, flat-append}
 use Rattle.heading.specs.Headings.{beforeFirst, throughLast, leaves, textRound, withText}

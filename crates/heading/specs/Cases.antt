@@ -2,11 +2,10 @@
 -- Assumes nothing.
 use Prim.Native.Nat.{ℕ}
 use mathlib.Core.Path.{_≡_, refl}
-use mathlib.Core.Bool.{Bool, true, false}
 use mathlib.Core.List.{List, [], _∷_, _++_}
 use Rattle.record.specs.Choice.{choose, and}
 use Rattle.record.specs.Event.{enter, exit}
-use Rattle.record.specs.Outcome.{Resolution, offends, gives}
+use Rattle.record.specs.Outcome.{offends, gives}
 use Rattle.record.specs.declared.event.Event.{Event}
 use Rattle.heading.specs.Headings.{isOf, beforeFirst, throughLast, innerOf, leaf, leaves, startsWith, headed, shaped, withText, resolvedFrom, offending, earliest, headings}
 

@@ -9,7 +9,7 @@ use Rattle.record.specs.declared.check.Refusal.{Refusal}
 use Rattle.record.proofs.Output.{onto-bytes, onto-rest, onto-none}
 use Rattle.heading.specs.Promise.{answerOf, resolution, Promise}
 use Rattle.heading.specs.declared.resolve.Answer.{Answer}
-use Rattle.heading.specs.declared.resolve.Answer.the-variants.{Resolved, Refused}
+use Rattle.heading.specs.declared.resolve.Answer.the-variants.{Refused}
 use native.Mathlib.Omega.{arith}
 
 -- any two results that the promise allows are equal

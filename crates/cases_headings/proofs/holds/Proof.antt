@@ -5,8 +5,6 @@ use lib.ListN.{length}
 use borrow.Author.Needs.{needs}
 use Rattle.cases_headings.proofs.holds.Statement.{statement}
 use Rattle.cases_headings.proofs.holds.Tie as tie
-use Rattle.cases_headings.proofs.holds.Reads as reads
-use Rattle.cases_headings.proofs.holds.Lts as lts
 
 abbrev Inv-loop : tie.InvT-loop
 Inv-loop buffer from byte at₀ at = from ≤ at

@@ -6,9 +6,6 @@ use mathlib.Core.Path.{_≡_}
 use borrow.Author.Needs.{needs}
 use Rattle.cases_headings.proofs.put_document.Statement.{statement}
 use Rattle.cases_headings.proofs.put_document.Tie as tie
-use Rattle.cases_headings.proofs.put_document.Reads as reads
-use Rattle.cases_headings.proofs.put_document.Lts as lts
-use Rattle.cases_headings.proofs.put_count.Reads as put-count-reads
 
 abbrev Inv-loop : tie.InvT-loop
 Inv-loop rec₀ document i₀ rec i = (i ≤ length document) × (length rec ≡ length rec₀)

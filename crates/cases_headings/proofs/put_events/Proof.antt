@@ -6,9 +6,6 @@ use mathlib.Core.Path.{_≡_}
 use borrow.Author.Needs.{needs}
 use Rattle.cases_headings.proofs.put_events.Statement.{statement}
 use Rattle.cases_headings.proofs.put_events.Tie as tie
-use Rattle.cases_headings.proofs.put_events.Reads as reads
-use Rattle.cases_headings.proofs.put_events.Lts as lts
-use Rattle.cases_headings.proofs.put.Reads as put-reads
 
 abbrev Inv-loop : tie.InvT-loop
 Inv-loop rec₀ from events at₀ i₀ kind₀ name₀ number₀ rec at i kind name number = (i ≤ length events) × (length rec ≡ length rec₀)

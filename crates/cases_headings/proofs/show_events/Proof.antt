@@ -4,12 +4,6 @@ use Prim.Native.Nat.{_-_, _≤_}
 use borrow.Author.Needs.{needs}
 use Rattle.cases_headings.proofs.show_events.Statement.{statement}
 use Rattle.cases_headings.proofs.show_events.Tie as tie
-use Rattle.cases_headings.proofs.show_events.Reads as reads
-use Rattle.cases_headings.proofs.show_events.Lts as lts
-use Rattle.cases_headings.proofs.say.Reads as say-reads
-use Rattle.cases_headings.proofs.say_number.Reads as say-number-reads
-use Rattle.record.proofs.bytes.u32_at.Reads as u32-at-reads
-use Rattle.record.proofs.bytes.wide.Reads as wide-reads
 
 abbrev Inv-loop : tie.InvT-loop
 Inv-loop out n i₀ at₀ t5 t6 t7 i at = i ≤ n

@@ -3,18 +3,11 @@
 -- Assumes nothing.
 use mathlib.Core.Path.{sym, _∙_}
 use Prim.Native.Nat.{_-_}
-use native.Mathlib.Omega.{arith}
 use borrow.Author.Tests.{not-true, not-false}
 use Rattle.heading.proofs.Passes.{Judging, judging-start, judging-other, judging-refused, judging-heading, judging-done}
 use borrow.Author.Needs.{needs}
 use Rattle.heading.proofs.judge.judge.Statement.{statement}
 use Rattle.heading.proofs.judge.judge.Tie as tie
-use Rattle.heading.proofs.judge.judge.Reads as reads
-use Rattle.heading.proofs.judge.judge.Lts as lts
-use Rattle.heading.proofs.seek.before_first.Reads as before-first-reads
-use Rattle.heading.proofs.seek.is_of.Reads as is-of-reads
-use Rattle.heading.proofs.shape.is_shaped.Reads as is-shaped-reads
-use Rattle.heading.proofs.text.text_size.Reads as text-size-reads
 
 abbrev Inv-loop : tie.InvT-loop
 Inv-loop s from e at₀ i₀ size₀ at i size = Judging s from e at i size

@@ -6,10 +6,6 @@ use Rattle.heading.proofs.Settling.{not-admitted, good-record}
 use borrow.Author.Needs.{needs}
 use Rattle.heading.proofs.resolve.answer_for.Statement.{statement}
 use Rattle.heading.proofs.resolve.answer_for.Tie as tie
-use Rattle.heading.proofs.resolve.answer_for.Reads as reads
-use Rattle.heading.proofs.resolve.answer_for.Lts as lts
-use Rattle.heading.proofs.resolve.settle.Reads as settle-reads
-use Rattle.record.proofs.check.admit.Reads as admit-reads
 
 admit-requires : tie.Need-admit-requires
 admit-requires c κs = search needs

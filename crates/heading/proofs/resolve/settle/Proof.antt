@@ -6,11 +6,6 @@ use Rattle.heading.proofs.Settling.{offender-below, shape-broken, too-m
 use borrow.Author.Needs.{needs}
 use Rattle.heading.proofs.resolve.settle.Statement.{statement}
 use Rattle.heading.proofs.resolve.settle.Tie as tie
-use Rattle.heading.proofs.resolve.settle.Reads as reads
-use Rattle.heading.proofs.resolve.settle.Lts as lts
-use Rattle.heading.proofs.judge.judge.Reads as judge-reads
-use Rattle.heading.proofs.write.put_resolved.Reads as put-resolved-reads
-use Rattle.record.proofs.bytes.put_u32.Reads as put-u32-reads
 
 add-from : tie.Need-add-from
 add-from c = search needs

@@ -7,9 +7,6 @@ use Rattle.heading.proofs.Seeking.{Onward, onward-start, onward-found, 
 use borrow.Author.Needs.{needs}
 use Rattle.heading.proofs.seek.before_first.Statement.{statement}
 use Rattle.heading.proofs.seek.before_first.Tie as tie
-use Rattle.heading.proofs.seek.before_first.Reads as reads
-use Rattle.heading.proofs.seek.before_first.Lts as lts
-use Rattle.heading.proofs.seek.is_of.Reads as is-of-reads
 
 abbrev Inv-loop : tie.InvT-loop
 Inv-loop s from n kind name at₀ i₀ at i = Onward s from n kind name at i

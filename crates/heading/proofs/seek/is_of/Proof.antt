@@ -6,8 +6,6 @@ use Rattle.heading.specs.Headings.{isOf}
 use borrow.Author.Needs.{needs}
 use Rattle.heading.proofs.seek.is_of.Statement.{statement}
 use Rattle.heading.proofs.seek.is_of.Tie as tie
-use Rattle.heading.proofs.seek.is_of.Reads as reads
-use Rattle.heading.proofs.seek.is_of.Lts as lts
 
 shared-slice-read-if1 : tie.Need-shared-slice-read-if1
 shared-slice-read-if1 c = search needs

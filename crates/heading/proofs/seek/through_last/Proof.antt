@@ -6,9 +6,6 @@ use Rattle.heading.proofs.Seeking.{Backward, backward-start, backward-f
 use borrow.Author.Needs.{needs}
 use Rattle.heading.proofs.seek.through_last.Statement.{statement}
 use Rattle.heading.proofs.seek.through_last.Tie as tie
-use Rattle.heading.proofs.seek.through_last.Reads as reads
-use Rattle.heading.proofs.seek.through_last.Lts as lts
-use Rattle.heading.proofs.seek.is_of.Reads as is-of-reads
 
 abbrev Inv-loop : tie.InvT-loop
 Inv-loop s from n kind name end₀ left₀ end left = Backward s from n kind name end left

@@ -8,9 +8,6 @@ use Rattle.heading.proofs.Shapes.{Leafing, leafing-start, leafing-odd, 
 use borrow.Author.Needs.{needs}
 use Rattle.heading.proofs.shape.all_leaves.Statement.{statement}
 use Rattle.heading.proofs.shape.all_leaves.Tie as tie
-use Rattle.heading.proofs.shape.all_leaves.Reads as reads
-use Rattle.heading.proofs.shape.all_leaves.Lts as lts
-use Rattle.heading.proofs.shape.is_leaf.Reads as is-leaf-reads
 
 abbrev Inv-loop : tie.InvT-loop
 Inv-loop s from n at₀ left₀ at left = Leafing s from n at left

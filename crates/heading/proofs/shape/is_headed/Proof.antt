@@ -4,8 +4,6 @@ use Rattle.heading.proofs.Shapes.{headed-none, headed-first, headed-sho
 use borrow.Author.Needs.{needs}
 use Rattle.heading.proofs.shape.is_headed.Statement.{statement}
 use Rattle.heading.proofs.shape.is_headed.Tie as tie
-use Rattle.heading.proofs.shape.is_headed.Reads as reads
-use Rattle.heading.proofs.shape.is_headed.Lts as lts
 
 returns : tie.Need-returns
 returns c = headed-none _ _ _ (c .if1 .taken)

@@ -7,9 +7,6 @@ use Rattle.heading.specs.Headings.{leaf}
 use borrow.Author.Needs.{needs}
 use Rattle.heading.proofs.shape.is_leaf.Statement.{statement}
 use Rattle.heading.proofs.shape.is_leaf.Tie as tie
-use Rattle.heading.proofs.shape.is_leaf.Reads as reads
-use Rattle.heading.proofs.shape.is_leaf.Lts as lts
-use Rattle.heading.proofs.seek.is_of.Reads as is-of-reads
 
 add-name : tie.Need-add-name
 add-name c = search needs

@@ -7,10 +7,6 @@ use Rattle.heading.specs.Headings.{shaped}
 use borrow.Author.Needs.{needs}
 use Rattle.heading.proofs.shape.is_shaped.Statement.{statement}
 use Rattle.heading.proofs.shape.is_shaped.Tie as tie
-use Rattle.heading.proofs.shape.is_shaped.Reads as reads
-use Rattle.heading.proofs.shape.is_shaped.Lts as lts
-use Rattle.heading.proofs.shape.all_leaves.Reads as all-leaves-reads
-use Rattle.heading.proofs.shape.is_headed.Reads as is-headed-reads
 
 is-headed-requires : tie.Need-is-headed-requires
 is-headed-requires c κs = search needs

@@ -3,15 +3,10 @@
 -- Assumes nothing.
 use mathlib.Core.Path.{sym, _∙_}
 use native.Mathlib.Omega.{arith}
-use Rattle.heading.proofs.Texts.{Found, found, unchanged, length-unchanged, written}
+use Rattle.heading.proofs.Texts.{found, unchanged, length-unchanged, written}
 use borrow.Author.Needs.{needs}
 use Rattle.heading.proofs.text.put_inner.Statement.{statement}
 use Rattle.heading.proofs.text.put_inner.Tie as tie
-use Rattle.heading.proofs.text.put_inner.Reads as reads
-use Rattle.heading.proofs.text.put_inner.Lts as lts
-use Rattle.heading.proofs.text.put_round.Reads as put-round-reads
-use Rattle.heading.proofs.text.text_of.Reads as text-of-reads
-use Rattle.record.proofs.event.copy_events.Reads as copy-events-reads
 
 text-of-requires : tie.Need-text-of-requires
 text-of-requires c κs = search needs

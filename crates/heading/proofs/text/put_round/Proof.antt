@@ -4,10 +4,6 @@ use Rattle.heading.proofs.Texts.{rounded}
 use borrow.Author.Needs.{needs}
 use Rattle.heading.proofs.text.put_round.Statement.{statement}
 use Rattle.heading.proofs.text.put_round.Tie as tie
-use Rattle.heading.proofs.text.put_round.Reads as reads
-use Rattle.heading.proofs.text.put_round.Lts as lts
-use Rattle.record.proofs.bytes.u32_at.Reads as u32-at-reads
-use Rattle.record.proofs.event.put_event.Reads as put-event-reads
 
 add-u32-at : tie.Need-add-u32-at
 add-u32-at c = search needs

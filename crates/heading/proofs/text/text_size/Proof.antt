@@ -6,9 +6,6 @@ use Rattle.heading.proofs.Texts.{length-unchanged, length-text}
 use borrow.Author.Needs.{needs}
 use Rattle.heading.proofs.text.text_size.Statement.{statement}
 use Rattle.heading.proofs.text.text_size.Tie as tie
-use Rattle.heading.proofs.text.text_size.Reads as reads
-use Rattle.heading.proofs.text.text_size.Lts as lts
-use Rattle.heading.proofs.text.text_of.Reads as text-of-reads
 
 text-of-requires : tie.Need-text-of-requires
 text-of-requires c κs = search needs

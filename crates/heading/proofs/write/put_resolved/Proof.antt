@@ -3,18 +3,11 @@
 -- Assumes nothing.
 use mathlib.Core.Path.{sym, _∙_}
 use Prim.Native.Nat.{_-_}
-use native.Mathlib.Omega.{arith}
 use borrow.Author.Tests.{not-true, not-false}
 use Rattle.heading.proofs.Passes.{Writing, writing-start, writing-fits, writing-other, writing-leaves, writing-room, writing-heading, writing-done}
 use borrow.Author.Needs.{needs}
 use Rattle.heading.proofs.write.put_resolved.Statement.{statement}
 use Rattle.heading.proofs.write.put_resolved.Tie as tie
-use Rattle.heading.proofs.write.put_resolved.Reads as reads
-use Rattle.heading.proofs.write.put_resolved.Lts as lts
-use Rattle.heading.proofs.seek.before_first.Reads as before-first-reads
-use Rattle.heading.proofs.seek.is_of.Reads as is-of-reads
-use Rattle.heading.proofs.text.put_inner.Reads as put-inner-reads
-use Rattle.record.proofs.event.copy_events.Reads as copy-events-reads
 
 abbrev Inv-loop : tie.InvT-loop
 Inv-loop out₀ to s from e next₀ at₀ i₀ out next at i = Writing s from e out₀ to at i out next
