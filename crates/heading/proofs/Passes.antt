@@ -16,7 +16,7 @@ use Rattle.record.proofs.Bools.{and-right}
 use Rattle.record.proofs.Splice.{wrote-then, wrote-none, wrote-length}
 use Rattle.record.proofs.Sections.{length-eventsAt, length-flat, flat-append}
 use Rattle.heading.specs.Headings.{isOf, beforeFirst, innerOf, leaves, shaped, withText, resolvedFrom, offending, earliest, headings}
-use Rattle.heading.specs.Promise.{judgedOf}
+use Rattle.heading.specs.Steps.{judgedOf}
 use Rattle.heading.specs.declared.judge.Judged.the-variants.{Offends, Sized}
 use Rattle.heading.proofs.Lists.{events-step, events-none, events-take, events-drop}
 use Rattle.heading.proofs.Seeking.{before-le}

@@ -19,7 +19,8 @@ use Rattle.record.specs.declared.check.Reading.the-variants.{Good, Refused}
 use Rattle.record.proofs.Sections.{length-eventsAt, section}
 use Rattle.record.proofs.Output.{onto-none}
 use Rattle.heading.specs.Headings.{resolvedFrom, offending, earliest, headings}
-use Rattle.heading.specs.Promise.{judgedOf, resolution, Wrought}
+use Rattle.heading.specs.Promise.{resolution, Wrought}
+use Rattle.heading.specs.Steps.{judgedOf}
 use Rattle.heading.specs.declared.judge.Judged.the-variants.{Offends, Sized}
 use Rattle.heading.specs.declared.resolve.Answer.{Answer}
 use Rattle.heading.specs.declared.resolve.Answer.the-variants as answers

@@ -14,7 +14,7 @@ use Rattle.record.specs.Stack.{nth}
 use Rattle.record.proofs.Splice.{wrote-then}
 use Rattle.record.proofs.Sections.{length-eventsAt, length-flat, flat-append}
 use Rattle.heading.specs.Headings.{beforeFirst, throughLast, leaves, textRound, withText}
-use Rattle.heading.specs.Text.{Ends}
+use Rattle.heading.specs.Steps.{Ends}
 use Rattle.heading.proofs.Lists.{events-take, events-drop, events-nth}
 use Rattle.heading.proofs.Leaves.{data-ends}
 

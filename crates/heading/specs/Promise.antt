@@ -6,17 +6,10 @@ use mathlib.Core.List.{List}
 use lib.ListN.{length, replicate}
 use Rattle.record.specs.Event.{eventsOf}
 use Rattle.record.specs.Check.{admitted}
-use Rattle.record.specs.Outcome.{Resolution, offends, gives, Outcome, accepted, refused, outcome, onto, bytesWritten}
+use Rattle.record.specs.Outcome.{Outcome, accepted, refused, outcome, onto, bytesWritten}
 use Rattle.heading.specs.Headings.{headings}
-use Rattle.heading.specs.declared.judge.Judged.{Judged}
-use Rattle.heading.specs.declared.judge.Judged.the-variants.{Offends, Sized}
 use Rattle.heading.specs.declared.resolve.Answer.{Answer}
 use Rattle.heading.specs.declared.resolve.Answer.the-variants.{Resolved, Refused}
-
--- what the first pass finds of a resolution: the number of the enter event that offends, or how many events there will be
-abbrev pub judgedOf : Resolution → Judged
-judgedOf (offends k) = Offends k
-judgedOf (gives es) = Sized (length es)
 
 -- the answer that an outcome gets: how many events are written, or the refusal
 abbrev pub answerOf : Outcome → Answer

@@ -12,7 +12,7 @@ ghost use Prim.Native.Nat.{_+_, _*_, _≤_};
 ghost use lib.ListN.{length};
 ghost use Rattle.record.specs.Event.{eventsAt};
 ghost use Rattle.heading.specs.Headings.{headings};
-ghost use Rattle.heading.specs.Promise.{judgedOf};
+ghost use Rattle.heading.specs.Steps.{judgedOf};
 
 // The number of the enter event of the earliest heading that offends, or the number of events of the result.
 pub enum Judged {

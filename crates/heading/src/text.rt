@@ -16,7 +16,7 @@ ghost use lib.ListN.{length};
 ghost use Rattle.record.specs.Bytes.{Wrote};
 ghost use Rattle.record.specs.Event.{flat, eventAt, eventsAt};
 ghost use Rattle.heading.specs.Headings.{leaves, textRound, withText};
-ghost use Rattle.heading.specs.Text.{Ends};
+ghost use Rattle.heading.specs.Steps.{Ends};
 
 // Where a text lies among a heading's inner events: how many stand before it, and how many up to its end. Where there is none, all stand
 // before it.
