@@ -64,10 +64,10 @@ accepted-call {s} {options} {n} {out} {work} {out′} p = go (admitted s options
             }
 
 -- a good record with a heading that breaks the shape rule is refused with 6, at the earliest one's enter event
-pub broken-refused : {s : List ℕ} {options : ℕ} {out work : List ℕ} {r : Answer} {out′ work′ : List ℕ} (d e k : ℕ) → admitted s options (length work) ≡ readings.Good d e →
+pub broken-refused : (s : List ℕ) (options : ℕ) {out work : List ℕ} {r : Answer} {out′ work′ : List ℕ} (d e k : ℕ) → admitted s options (length work) ≡ readings.Good d e →
     Earliest (eventsOf s d e) k → Promise s options out work r out′ work′ → r ≡ Refused (record { number = 6; place = 8 + d + 8 * k })
 unfolding resolution
-broken-refused {s} {options} {out} {work} d e k q b p =
+broken-refused s options {out} {work} d e k q b p =
     let s₁ = admission s options (length work) d e q .good .sound-events in
     let h = offends-earliest (eventsOf s d e) 64 d k s₁ b in
     p .answer

@@ -9,3 +9,4 @@ pub mod Offence
 pub mod Resound
 pub mod Kept
 pub mod Called
+pub mod Exactly

@@ -2,7 +2,6 @@ pub mod Headings
 pub mod Steps
 pub mod Promise
 pub mod Cases
-pub mod Determined
 pub mod Shape
 pub mod Outside
 pub mod Accepted

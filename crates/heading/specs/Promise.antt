@@ -3,9 +3,10 @@
 use Prim.Native.Nat.{ℕ}
 use mathlib.Core.Path.{_≡_}
 use mathlib.Core.List.{List}
-use lib.ListN.{length, replicate}
+use lib.ListN.{length}
 use Rattle.record.specs.Event.{eventsOf}
 use Rattle.record.specs.Check.{admitted}
+use Rattle.record.specs.Promise.{Writes}
 use Rattle.record.specs.Outcome.{Outcome, accepted, refused, outcome, onto, bytesWritten}
 use Rattle.heading.specs.Headings.{headings}
 use Rattle.heading.specs.declared.resolve.Answer.{Answer}
@@ -25,8 +26,16 @@ pub record Wrought (o : Outcome) (out : List ℕ) (r : Answer) (out′ : List �
   pub answer : r ≡ answerOf o
   pub output : out′ ≡ onto (bytesWritten o) out
 
--- the whole promise: r is answered, and out′ and work′ are what the two buffers hold then
-pub record Promise (s : List ℕ) (options : ℕ) (out work : List ℕ) (r : Answer) (out′ work′ : List ℕ) : Type 0 where
-  pub answer : r ≡ answerOf (resolution s options (length out) (length work))
-  pub output : out′ ≡ onto (bytesWritten (resolution s options (length out) (length work))) out
-  pub wiped : work′ ≡ replicate (length work) 0
+-- the whole promise, that of every call that writes: r is answered, and out′ and work′ are what the two buffers hold then
+abbrev pub Promise : List ℕ → ℕ → List ℕ → List ℕ → Answer → List ℕ → List ℕ → Type 0
+Promise s options out work r out′ work′ = Writes (resolution s options) answerOf out work r out′ work′
+
+-- document 01's numbers of an answer: "A refusal returns its number and place, all else zero"
+pub record Numbers : Type 0 where
+  pub number : ℕ
+  pub place : ℕ
+  pub events : ℕ
+
+abbrev pub numbersOf : Answer → Numbers
+numbersOf (Resolved n) = record { number = 0; place = 0; events = n }
+numbersOf (Refused r) = record { number = r .number; place = r .place; events = 0 }

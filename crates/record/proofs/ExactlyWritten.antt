@@ -91,7 +91,7 @@ module _ (s : List ℕ) (options works : ℕ) (none : (n p : ℕ) → Row s opti
   came-settled (gives es) j = came-gives es j
 
 came : (s : List ℕ) (options works : ℕ) (Offends : ℕ → Type 0) (resolve : ℕ → ℕ → Resolution) (outs : ℕ) →
-    Judges Offends (resolve (documentCount s) (eventCount s)) →
+    (admitted s options works ≡ Good (documentCount s) (eventCount s) → Judges Offends (resolve (documentCount s) (eventCount s))) →
     Came (WrittenRow s options works Offends (resolve (documentCount s) (eventCount s)) outs) (resolve (documentCount s) (eventCount s)) (outcome (admitted s options works) resolve outs)
 came s options works Offends resolve outs j = by (found s options works)
   where
@@ -106,7 +106,7 @@ came s options works Offends resolve outs j = by (found s options works)
         go m q (row-6 i e a b) = let y = low (l .holds) in inl (omega arith)
         go m q (row-7 fs e h a b) = let y = low (l .holds) in inl (omega arith)
         go m q (row-8 fs e h a b) = let y = low (l .holds) in inl (omega arith)
-    by (no-row r f) = rw r (came-settled s options works f Offends outs made j)
+    by (no-row r f) = rw r (came-settled s options works f Offends outs made (j r))
 
 same-refusing : (n p m q : ℕ) → refusing n p ≡ refusing m q → (n ≡ m) × (p ≡ q)
 same-refusing n p m q e =
@@ -121,7 +121,8 @@ same-accepted es fs q = cc
 
 -- "Given exactly when"
 pub exactly-written : (s : List ℕ) (options works : ℕ) (Offends : ℕ → Type 0) (resolve : ℕ → ℕ → Resolution) (outs : ℕ) →
-    Judges Offends (resolve (documentCount s) (eventCount s)) → ExactlyWritten s options works Offends resolve outs
+    (admitted s options works ≡ Good (documentCount s) (eventCount s) → Judges Offends (resolve (documentCount s) (eventCount s))) →
+    ExactlyWritten s options works Offends resolve outs
 exactly-written s options works Offends resolve outs j = by (came s options works Offends resolve outs j)
   where
     made : Resolution

@@ -7,7 +7,8 @@ use mathlib.Core.List.{List}
 use lib.ListN.{length, take, drop, replicate}
 use lib.Seq.{take-append-seam, drop-append-seam}
 use Rattle.record.specs.Check.{admitted}
-use Rattle.record.specs.Outcome.{Outcome, bytesWritten, onto}
+use Rattle.record.specs.Outcome.{Outcome, refused, bytesWritten, onto}
+use Rattle.record.specs.declared.check.Refusal.{Refusal}
 use Rattle.record.specs.declared.check.Reading.{Reading}
 use Rattle.record.specs.declared.check.Reading.the-variants.{Good, Refused}
 
@@ -76,3 +77,9 @@ module _ {A : Type 0} {comes : ℕ → ℕ → Outcome} {answers : Outcome → A
   unfolding onto
   writes-keep-rest bs e =
       ap (λ (l : List ℕ). drop (length bs) l) (p .output ∙ ap (λ (l : List ℕ). onto l out₁) (sym e)) ∙ drop-append-seam bs (drop (length bs) out₁)
+
+-- "A refusal returns its number and place, all else zero, and the output is unchanged."
+pub refusal-keeps-output : {A : Type 0} {comes : ℕ → ℕ → Outcome} {answers : Outcome → A} {out work : List ℕ} {r : A} {o w : List ℕ} (f : Refusal) →
+    comes (length out) (length work) ≡ refused f → Writes comes answers out work r o w → o ≡ out
+unfolding onto
+refusal-keeps-output {out = out} f e p = p .output ∙ ap (λ (c : Outcome). onto (bytesWritten c) out) e

@@ -23,8 +23,8 @@ pub data WrittenRow (s : List ℕ) (options works : ℕ) (Offends : ℕ → Type
   row-7 : (es : List Event) → made ≡ gives es → 8000 < length es → n ≡ 7 → p ≡ 0 → WrittenRow s options works Offends made outs n p
   row-8 : (es : List Event) → made ≡ gives es → outs < 4 + 8 * length es → n ≡ 8 → p ≡ 0 → WrittenRow s options works Offends made outs n p
 
--- "Given exactly when": proved in proofs/ExactlyWritten.antt, for every resolver that judges by its shape rule, every record, option number and
--- pair of lengths
+-- "Given exactly when": proved in proofs/ExactlyWritten.antt, for every resolver that judges good records by its shape rule, and for every
+-- record, option number and pair of lengths
 pub record ExactlyWritten (s : List ℕ) (options works : ℕ) (Offends : ℕ → Type 0) (resolve : ℕ → ℕ → Resolution) (outs : ℕ) : Type 0 where
   pub refused : (n p : ℕ) → outcome (admitted s options works) resolve outs ≡ refusing n p →
       Least (WrittenRow s options works Offends (resolve (documentCount s) (eventCount s)) outs) n p
