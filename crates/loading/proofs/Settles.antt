@@ -74,7 +74,7 @@ module _ {s : List ℕ} {d options at container n from to marker before after ch
         chain-known = rw (f .chain-number) (v .known);
         first-group = f .first-group;
         latest-group = f .latest-group;
-        head = rw (f .chain-number) (f .head);
+        link = f .link;
       }
 
   pub settled : Settled s d options at container w n w′

@@ -1,4 +1,4 @@
--- One slot written, field after field, and the head of its chain: what each field then holds, and that no other slot changed.
+-- One slot written, field after field: what each field then holds, and that no other slot changed.
 -- Assumes nothing.
 use mathlib.Core.Path.{_≡_, refl, ap, _∙_}
 use mathlib.Core.Bool.{Bool, true, false, not}
@@ -8,9 +8,8 @@ use native.Mathlib.Omega.{arith}
 use lib.Dec.{eqb}
 use lib.ListN.{length, getD, set, length-set}
 use lib.Seq.{getD-set-same, getD-set-other}
-use borrow.Author.Tests.{eqb-true, eqb-false}
 use Rattle.slots.specs.Words.{get16}
-use Rattle.slots.specs.Layout.{Room, headOf, chainOf, withWhole, withLeft, withMarker, withOpens, withCloses, withChain, withFirstGroup, withLatestGroup, withHead}
+use Rattle.slots.specs.Layout.{Room, chainOf, withWhole, withLeft, withMarker, withOpens, withCloses, withChain, withFirstGroup, withLatestGroup, withLink}
 use Rattle.slots.proofs.Laws.{length-put, get-put-same, get-put-other, byte-put-other, get-set-other}
 use Rattle.loading.specs.Filling.{bit, Keeps, Filled}
 
@@ -30,7 +29,7 @@ abbrev opening : List ℕ → ℕ → ℕ → ℕ → ℕ → List ℕ
 opening w n size m o = withOpens (marked w n size m) n o
 
 abbrev pub filled : List ℕ → ℕ → ℕ → ℕ → ℕ → ℕ → ℕ → List ℕ
-filled w n size m o c k = withHead (withLatestGroup (withFirstGroup (withChain (withCloses (opening w n size m o) n c) n k) n 0) n 0) k 0
+filled w n size m o c k = withLatestGroup (withFirstGroup (withLink (withChain (withCloses (opening w n size m o) n c) n k) n 0) n 0) n 0
 
 pub length-filled : (w : List ℕ) (n size m o c k : ℕ) → length (filled w n size m o c k) ≡ length w
 length-filled w n size m o c k = simp (length-put, length-set)
@@ -39,11 +38,10 @@ byte-set-other : (s : List ℕ) (at v b : ℕ) → (b ≡ at → ⊥) → getD (
 byte-set-other s at v b n = getD-set-other s at b v 0 n
 
 module _ (w : List ℕ) (n size m o c k : ℕ) where
-  -- a byte that stands neither in the slot nor in the head
-  byte-kept : (b : ℕ) → (n * 16 ≤ b → b < n * 16 + 16 → ⊥) → (16384 + k * 2 ≤ b → b < 16384 + k * 2 + 2 → ⊥) →
-      getD (filled w n size m o c k) b 0 ≡ getD w b 0
-  byte-kept b f g =
-      byte-put-other _ _ _ _ (λ e. g (omega arith) (omega arith)) (λ e. g (omega arith) (omega arith))
+  -- a byte that does not stand in the slot
+  byte-kept : (b : ℕ) → (n * 16 ≤ b → b < n * 16 + 16 → ⊥) → getD (filled w n size m o c k) b 0 ≡ getD w b 0
+  byte-kept b f =
+      byte-put-other _ _ _ _ (λ e. f (omega arith) (omega arith)) (λ e. f (omega arith) (omega arith))
       ∙ byte-put-other _ _ _ _ (λ e. f (omega arith) (omega arith)) (λ e. f (omega arith) (omega arith))
       ∙ byte-put-other _ _ _ _ (λ e. f (omega arith) (omega arith)) (λ e. f (omega arith) (omega arith))
       ∙ byte-put-other _ _ _ _ (λ e. f (omega arith) (omega arith)) (λ e. f (omega arith) (omega arith))
@@ -54,45 +52,31 @@ module _ (w : List ℕ) (n size m o c k : ℕ) where
       ∙ byte-put-other _ _ _ _ (λ e. f (omega arith) (omega arith)) (λ e. f (omega arith) (omega arith))
 
   -- two bytes
-  pair-kept : (b : ℕ) → (n * 16 ≤ b + 1 → b < n * 16 + 16 → ⊥) → (16384 + k * 2 ≤ b + 1 → b < 16384 + k * 2 + 2 → ⊥) →
-      get16 (filled w n size m o c k) b ≡ get16 w b
+  pair-kept : (b : ℕ) → (n * 16 ≤ b + 1 → b < n * 16 + 16 → ⊥) → get16 (filled w n size m o c k) b ≡ get16 w b
   unfolding get16
-  pair-kept b f g =
-      let low : getD (filled w n size m o c k) b 0 ≡ getD w b 0 = byte-kept b (λ x y. f (omega arith) y) (λ x y. g (omega arith) y) in
-      let high : getD (filled w n size m o c k) (b + 1) 0 ≡ getD w (b + 1) 0 = byte-kept (b + 1) (λ x y. f x (omega arith)) (λ x y. g x (omega arith)) in
+  pair-kept b f =
+      let low : getD (filled w n size m o c k) b 0 ≡ getD w b 0 = byte-kept b (λ x y. f (omega arith) y) in
+      let high : getD (filled w n size m o c k) (b + 1) 0 ≡ getD w (b + 1) 0 = byte-kept (b + 1) (λ x y. f x (omega arith)) in
       cc
 
   module _ (slot : n < 1024) (known : k < 6147) (room : Room w) where
-    -- the head of the slot's own chain, and those of others
-    own-head : headOf (filled w n size m o c k) k ≡ 0
-    own-head = get-put-same _ _ _ (simp (length-put, length-set) (omega arith))
-
-    head-kept : (q : ℕ) → q < 6147 → headOf w q ≡ 0 → headOf (filled w n size m o c k) q ≡ 0
-    head-kept q h e = go (eqb q k) refl
-      where
-        go : (z : Bool) → eqb q k ≡ z → headOf (filled w n size m o c k) q ≡ 0
-        go true t = ap (λ (x : ℕ). headOf (filled w n size m o c k) x) (eqb-true q k t) ∙ own-head
-        go false t =
-            let ne : q ≡ k → ⊥ = eqb-false q k t in
-            pair-kept (16384 + q * 2) (λ x y. omega arith) (λ x y. ne (omega arith)) ∙ e
-
     pub keeps : Keeps w n (filled w n size m o c k)
     keeps =
         record {
           others = λ j h ne r i.
-              let same-chain : chainOf (filled w n size m o c k) j ≡ chainOf w j = pair-kept (j * 16 + 8) (λ x y. ne (omega arith)) (λ x y. omega arith) in
+              let same-chain : chainOf (filled w n size m o c k) j ≡ chainOf w j = pair-kept (j * 16 + 8) (λ x y. ne (omega arith)) in
               record {
                 marked = i .marked;
-                whole = pair-kept (j * 16) (λ x y. ne (omega arith)) (λ x y. omega arith) ∙ i .whole;
-                left = pair-kept (j * 16 + 2) (λ x y. ne (omega arith)) (λ x y. omega arith) ∙ i .left;
-                marker = byte-kept (j * 16 + 4) (λ x y. ne (omega arith)) (λ x y. omega arith) ∙ i .marker;
-                opens = ap (λ (x : ℕ). not (eqb x 0)) (byte-kept (j * 16 + 5) (λ x y. ne (omega arith)) (λ x y. omega arith)) ∙ i .opens;
-                closes = ap (λ (x : ℕ). not (eqb x 0)) (byte-kept (j * 16 + 6) (λ x y. ne (omega arith)) (λ x y. omega arith)) ∙ i .closes;
+                whole = pair-kept (j * 16) (λ x y. ne (omega arith)) ∙ i .whole;
+                left = pair-kept (j * 16 + 2) (λ x y. ne (omega arith)) ∙ i .left;
+                marker = byte-kept (j * 16 + 4) (λ x y. ne (omega arith)) ∙ i .marker;
+                opens = ap (λ (x : ℕ). not (eqb x 0)) (byte-kept (j * 16 + 5) (λ x y. ne (omega arith))) ∙ i .opens;
+                closes = ap (λ (x : ℕ). not (eqb x 0)) (byte-kept (j * 16 + 6) (λ x y. ne (omega arith))) ∙ i .closes;
                 chain = same-chain ∙ i .chain;
                 chain-known = rw same-chain (i .chain-known);
-                first-group = pair-kept (j * 16 + 12) (λ x y. ne (omega arith)) (λ x y. omega arith) ∙ i .first-group;
-                latest-group = pair-kept (j * 16 + 14) (λ x y. ne (omega arith)) (λ x y. omega arith) ∙ i .latest-group;
-                head = rw same-chain (head-kept (chainOf w j) (i .chain-known) (i .head));
+                first-group = pair-kept (j * 16 + 12) (λ x y. ne (omega arith)) ∙ i .first-group;
+                latest-group = pair-kept (j * 16 + 14) (λ x y. ne (omega arith)) ∙ i .latest-group;
+                link = pair-kept (j * 16 + 10) (λ x y. ne (omega arith)) ∙ i .link;
               };
         }
 
@@ -148,21 +132,21 @@ module _ (w : List ℕ) (n size m o c k : ℕ) where
               ∙ get-put-other _ _ _ _ (λ e. omega arith) (λ e. omega arith) (λ e. omega arith)
               ∙ get-put-other _ _ _ _ (λ e. omega arith) (λ e. omega arith) (λ e. omega arith)
               ∙ get-put-same _ _ _ (simp (length-put, length-set) (omega arith));
-          first-group =
+          link =
               get-put-other _ _ _ _ (λ e. omega arith) (λ e. omega arith) (λ e. omega arith)
               ∙ get-put-other _ _ _ _ (λ e. omega arith) (λ e. omega arith) (λ e. omega arith)
               ∙ get-put-same _ _ _ (simp (length-put, length-set) (omega arith));
-          latest-group =
+          first-group =
               get-put-other _ _ _ _ (λ e. omega arith) (λ e. omega arith) (λ e. omega arith)
               ∙ get-put-same _ _ _ (simp (length-put, length-set) (omega arith));
-          head = own-head;
+          latest-group = get-put-same _ _ _ (simp (length-put, length-set) (omega arith));
           kept = keeps;
         }
 
 -- the calls that write a slot, one after the other
 pub written : {w w₁ w₂ w₃ w₄ w₅ : List ℕ} {n size m k : ℕ} {p q : Bool} → n < 1024 → k < 6147 → Room w →
     w₁ ≡ withWhole w n size → w₂ ≡ withLeft w₁ n size → w₃ ≡ withMarker w₂ n m → w₄ ≡ withCloses (withOpens w₃ n (bit p)) n (bit q) →
-    w₅ ≡ withHead (withLatestGroup (withFirstGroup (withChain w₄ n k) n 0) n 0) k 0 → Filled w n size m p q k w₅
+    w₅ ≡ withLatestGroup (withFirstGroup (withLink (withChain w₄ n k) n 0) n 0) n 0 → Filled w n size m p q k w₅
 written {w} {w₁} {w₂} {w₃} {w₄} {w₅} {n} {size} {m} {k} {p} {q} slot known room e₁ e₂ e₃ e₄ e₅ =
     let e : w₅ ≡ filled w n size m (bit p) (bit q) k = cc in
     rw e (holds-now w n size m (bit p) (bit q) k slot known room p q (bit-flag p) (bit-flag q))

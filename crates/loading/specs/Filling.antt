@@ -12,7 +12,7 @@ use Rattle.runs.specs.Runs.{isMarker, innermostOf, runOf}
 use Rattle.runs.specs.Rule.{crate}
 use Rattle.runs.specs.Plain.{Standing}
 use Rattle.runs.specs.Pieces.{standing}
-use Rattle.slots.specs.Layout.{Room, wholeOf, leftOf, markerOf, opensOf, closesOf, chainOf, firstGroupOf, latestGroupOf, headOf}
+use Rattle.slots.specs.Layout.{Room, wholeOf, leftOf, markerOf, opensOf, closesOf, chainOf, firstGroupOf, latestGroupOf, linkOf}
 use Rattle.loading.specs.Chains.{containerNumber}
 use Rattle.loading.specs.Held.{Slotted}
 
@@ -25,7 +25,7 @@ bit false = 0
 pub record Keeps (w : List ℕ) (n : ℕ) (w′ : List ℕ) : Type 0 where
   pub others : (j : ℕ) → j < 1024 → (j ≡ n → ⊥) → (r : Standing) → Slotted w j r → Slotted w′ j r
 
--- the slot n written, and the head of its chain
+-- the slot n written
 pub record Filled (w : List ℕ) (n size marker : ℕ) (opens closes : Bool) (chain : ℕ) (w′ : List ℕ) : Type 0 where
   pub whole : wholeOf w′ n ≡ size
   pub left : leftOf w′ n ≡ size
@@ -35,7 +35,7 @@ pub record Filled (w : List ℕ) (n size marker : ℕ) (opens closes : Bool) (ch
   pub chain-number : chainOf w′ n ≡ chain
   pub first-group : firstGroupOf w′ n ≡ 0
   pub latest-group : latestGroupOf w′ n ≡ 0
-  pub head : headOf w′ chain ≡ 0
+  pub link : linkOf w′ n ≡ 0
   pub kept : Keeps w n w′
 
 -- that the event at a place enters a run, and where it is to go

@@ -10,10 +10,10 @@ use lib.ListN.{length}
 use Rattle.record.specs.Choice.{and}
 use Rattle.runs.specs.Runs.{isMarker}
 use Rattle.runs.specs.Plain.{Standing, at, sameContainer}
-use Rattle.slots.specs.Layout.{wholeOf, leftOf, markerOf, opensOf, closesOf, chainOf, firstGroupOf, latestGroupOf, headOf}
+use Rattle.slots.specs.Layout.{wholeOf, leftOf, markerOf, opensOf, closesOf, chainOf, firstGroupOf, latestGroupOf, linkOf}
 use Rattle.loading.specs.Chains.{chainNumber, same-chain}
 
--- the slot n holds this run, which is in no group yet and whose chain is empty
+-- the slot n holds this run, which is in no group yet and on no chain
 pub record Slotted (w : List ℕ) (n : ℕ) (r : Standing) : Type 0 where
   pub marked : isMarker (r .marker) ≡ true
   pub whole : wholeOf w n ≡ r .whole
@@ -25,7 +25,7 @@ pub record Slotted (w : List ℕ) (n : ℕ) (r : Standing) : Type 0 where
   pub chain-known : chainOf w n < 6147
   pub first-group : firstGroupOf w n ≡ 0
   pub latest-group : latestGroupOf w n ≡ 0
-  pub head : headOf w (chainOf w n) ≡ 0
+  pub link : linkOf w n ≡ 0
 
 -- the slots hold these runs, in their order
 pub record Holds (w : List ℕ) (rs : List Standing) : Type 0 where

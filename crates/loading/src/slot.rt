@@ -1,7 +1,7 @@
-// One run put into its slot: its size and marker, whether it can open and close, and the number of its chain, whose head is emptied.
+// One run put into its slot: its size and marker, whether it can open and close, and the number of its chain.
 //
-// Every field that a matcher reads is written here, so that nothing of lent memory is read before this call wrote it. A run's link is written
-// by the matcher when the run goes on its chain.
+// Every field of the slot is written here, so that nothing of lent memory is read before this call wrote it. The heads of all chains are the
+// resolver's to clear.
 
 use super::shape::option_on;
 use record::bytes::u32_at;
@@ -11,9 +11,9 @@ use runs::can_open;
 use slots::layout::put_chain;
 use slots::layout::put_closes;
 use slots::layout::put_first_group;
-use slots::layout::put_head;
 use slots::layout::put_latest_group;
 use slots::layout::put_left;
+use slots::layout::put_link;
 use slots::layout::put_marker;
 use slots::layout::put_opens;
 use slots::layout::put_whole;
@@ -23,7 +23,7 @@ ghost use lib.ListN.{length};
 ghost use Rattle.record.specs.Event.{documentOf};
 ghost use Rattle.runs.specs.Runs.{byteAt, byteBefore};
 ghost use Rattle.runs.proofs.Firsts.{orFeed};
-ghost use Rattle.slots.specs.Layout.{Room, withOpens, withCloses, withChain, withFirstGroup, withLatestGroup, withHead};
+ghost use Rattle.slots.specs.Layout.{Room, withOpens, withCloses, withChain, withFirstGroup, withLatestGroup, withLink};
 ghost use Rattle.loading.specs.Chains.{markerNumber};
 ghost use Rattle.loading.specs.Filling.{bit, Filled, Settling, Settled};
 
@@ -82,18 +82,18 @@ fn put_flags(w: &mut [u8], n: usize, opens: bool, closes: bool)
     put_closes(w, n, flag(closes));
 }
 
-// Writes the number of a run's chain, that the chain is empty, and that the run is in no group.
+// Writes the number of a run's chain, that the run is not on it yet, and that it is in no group.
 fn put_fresh(w: &mut [u8], n: usize, chain: usize)
     requires { ⌜ (n < 1024) × ((chain < 6147) × Room (now w)) ⌝ }
-    ensures { λ _. ⌜ now (w .exit) ≡ withHead (withLatestGroup (withFirstGroup (withChain (now (w .entry)) n chain) n 0) n 0) chain 0 ⌝ }
+    ensures { λ _. ⌜ now (w .exit) ≡ withLatestGroup (withFirstGroup (withLink (withChain (now (w .entry)) n chain) n 0) n 0) n 0 ⌝ }
 {
     put_chain(w, n, chain);
+    put_link(w, n, 0);
     put_first_group(w, n, 0);
     put_latest_group(w, n, 0);
-    put_head(w, chain, 0);
 }
 
-// Writes all of a slot but its link, and empties the chain.
+// Writes all of a slot.
 fn fill(w: &mut [u8], n: usize, size: usize, marker: u8, opens: bool, closes: bool, chain: usize)
     requires { ⌜ (n < 1024) × ((size < 65536) × ((chain < 6147) × Room (now w))) ⌝ }
     ensures { λ _. ⌜ Filled (now (w .entry)) n size marker opens closes chain (now (w .exit)) ⌝ }

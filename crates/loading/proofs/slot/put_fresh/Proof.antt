@@ -7,14 +7,14 @@ use Rattle.loading.proofs.slot.put_fresh.Tie as tie
 put-chain-requires : tie.Need-put-chain-requires
 put-chain-requires c κs = search needs
 
+put-link-requires : tie.Need-put-link-requires
+put-link-requires c κs = search needs
+
 put-first-group-requires : tie.Need-put-first-group-requires
 put-first-group-requires c κs = search needs
 
 put-latest-group-requires : tie.Need-put-latest-group-requires
 put-latest-group-requires c κs = search needs
-
-put-head-requires : tie.Need-put-head-requires
-put-head-requires c κs = search needs
 
 same-length : tie.Need-same-length
 same-length c = search needs
@@ -27,8 +27,8 @@ put-fresh-spec =
     tie.close
     (tie.spec
     put-chain-requires
+    put-link-requires
     put-first-group-requires
     put-latest-group-requires
-    put-head-requires
     same-length
     returns)
