@@ -1,0 +1,8 @@
+mod Onward
+mod Shapes
+mod Nearest
+mod Notings
+mod Written
+mod Trees
+mod Chains
+mod Outcomes

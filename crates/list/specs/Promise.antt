@@ -1,0 +1,32 @@
+-- What the public call promises, and what follows from the promise alone.
+-- Assumes nothing.
+use Prim.Native.Nat.{ℕ}
+use mathlib.Core.Path.{_≡_, sym, ap, _∙_}
+use mathlib.Core.List.{List}
+use lib.ListN.{length, replicate}
+use Rattle.record.specs.Event.{documentOf, eventsOf}
+use Rattle.record.specs.Check.{admitted}
+use Rattle.record.specs.Outcome.{Outcome, accepted, refused, outcome, onto, bytesWritten}
+use Rattle.list.specs.Lists.{lists}
+use Rattle.list.specs.declared.call.Answer.{Answer}
+use Rattle.list.specs.declared.call.Answer.the-variants.{Resolved, Refused}
+
+-- what a call comes to, of the record, the options and the lengths of the output and of the work memory
+unfoldable pub outcomeOf : List ℕ → ℕ → ℕ → ℕ → Outcome
+outcomeOf s options outs works = outcome (admitted s options works) (λ d e. lists (documentOf s d) (eventsOf s d e)) outs
+
+-- what it then answers
+abbrev pub answerOf : Outcome → Answer
+answerOf (accepted es) = Resolved (length es)
+answerOf (refused r) = Refused r
+
+-- the answer and the output
+pub record Answered (s : List ℕ) (options : ℕ) (out : List ℕ) (works : ℕ) (r : Answer) (out′ : List ℕ) : Type 0 where
+  pub answer : r ≡ answerOf (outcomeOf s options (length out) works)
+  pub output : out′ ≡ onto (bytesWritten (outcomeOf s options (length out) works)) out
+
+-- the whole promise: r is answered, and out′ and work′ are what the two buffers then hold
+pub record Promise (s : List ℕ) (options : ℕ) (out work : List ℕ) (r : Answer) (out′ work′ : List ℕ) : Type 0 where
+  pub answer : r ≡ answerOf (outcomeOf s options (length out) (length work))
+  pub output : out′ ≡ onto (bytesWritten (outcomeOf s options (length out) (length work))) out
+  pub wiped : work′ ≡ replicate (length work) 0
