@@ -16,36 +16,8 @@ use Rattle.list.specs.Tree.{Row, none, pair, written}
 use Rattle.list.specs.Item.{markOf}
 use Rattle.list.specs.Lists.{isItem, offending, offenders, between, noItem, neighbour, joins, listName, listed}
 use Rattle.list.specs.Walk.{markIn, nearest, top, note, notes, noted, spliced}
+use Rattle.list.specs.Shape.{Shaped, no-pair, with-pair, clash}
 use Rattle.list.proofs.Trees.{Stops, ended, exited, mark-written, nearest-written}
-
--- every item of a row, at any depth, has a mark
-pub data Shaped (document : List ℕ) : Row → Type 0 where
-  no-pair : Shaped document none
-  with-pair : {n from to : ℕ} {inside next : Row} → (n ≡ 15 → markOf document inside ≡ 0 → ⊥) → Shaped document inside → Shaped document next →
-      Shaped document (pair n from to inside next)
-
-none-chosen : (b : Bool) (i : ℕ) (ks : List ℕ) → choose b (i ∷ ks) ks ≡ [] → (b ≡ false) × (ks ≡ [])
-unfolding choose
-none-chosen true i ks q = let z : _≡_ {A = ℕ} 0 1 = cc in absurd (omega arith)
-none-chosen false i ks q = (refl, q)
-
-unmarked : (document : List ℕ) (behind : Bool) (n : ℕ) (inside : Row) → n ≡ 15 → markOf document inside ≡ 0 → offending document behind n inside ≡ true
-unfolding offending choose and
-unmarked document true n inside h m = rw (eq-eqb _ _ h)
-unmarked document false n inside h m = rw (eq-eqb _ _ h, eq-eqb _ _ m)
-
-clash : (b : Bool) → b ≡ true → b ≡ false → ⊥
-clash b p q = let z : _≡_ {A = ℕ} 0 1 = cc in omega arith
-
--- where none offends, every item has a mark
-pub all-shaped : (document : List ℕ) (i : ℕ) (behind : Bool) (row : Row) (ks : List ℕ) → offenders document i behind row ks ≡ [] → Shaped document row × (ks ≡ [])
-unfolding offenders
-all-shaped document i behind none ks q = (no-pair, q)
-all-shaped document i behind (pair n from to inside next) ks q =
-    let a = none-chosen (offending document behind n inside) i _ q in
-    let b = all-shaped document (i + 1) false inside (offenders document (i + 1 + length (written inside []) + 1) (isItem n) next ks) (a .1) in
-    let c = all-shaped document (i + 1 + length (written inside []) + 1) (isItem n) next ks (b .1) in
-    (with-pair (λ h m. clash _ (unmarked document behind n inside h m) (a .0)) (b .0) (c .0), c .1)
 
 -- the events from here on, with what their notes add
 unfoldable pub walked : List ℕ → Bool → List ℕ → List Event → List Event

@@ -31,7 +31,8 @@ use Rattle.list.specs.declared.call.Answer.{Answer}
 use Rattle.list.specs.declared.call.Answer.the-variants.{Resolved, Refused}
 use Rattle.list.proofs.Onward.{onward-whole}
 use Rattle.list.proofs.Trees.{ended, offenders-written}
-use Rattle.list.proofs.Chains.{all-shaped, walked, listed-walked}
+use Rattle.list.specs.Shape.{all-shaped}
+use Rattle.list.proofs.Chains.{walked, listed-walked}
 
 -- what a finding says of the offending items and of the notes
 found-offence : (k : ℕ) (ks ns : List ℕ) → Offends k ≡ finding ks ns → (rest : List ℕ) × (ks ≡ k ∷ rest)
