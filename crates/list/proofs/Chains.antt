@@ -16,7 +16,7 @@ use Rattle.list.specs.Tree.{Row, none, pair, written}
 use Rattle.list.specs.Item.{markOf}
 use Rattle.list.specs.Lists.{isItem, offending, offenders, between, noItem, neighbour, joins, listName, listed}
 use Rattle.list.specs.Walk.{markIn, nearest, top, note, notes, noted, spliced}
-use Rattle.list.specs.Shape.{Shaped, no-pair, with-pair, clash}
+use Rattle.list.specs.Shape.{Shaped, no-pair, with-pair, clash, passed-over}
 use Rattle.list.proofs.Trees.{Stops, ended, exited, mark-written, nearest-written}
 
 -- the events from here on, with what their notes add
@@ -67,11 +67,6 @@ not-item : (b : Bool) → choose b false true ≡ true → b ≡ false
 unfolding choose
 not-item true q = sym q
 not-item false q = refl
-
-passed-over : (b : Bool) (k : ℕ) → (choose b k 0 ≡ 0 → ⊥) → (b ≡ true) × (k ≡ 0 → ⊥)
-unfolding choose
-passed-over true k w = (refl, w)
-passed-over false k w = absurd (w refl)
 
 -- a row without items is as it was
 module _ (document : List ℕ) where

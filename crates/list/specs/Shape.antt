@@ -35,6 +35,12 @@ unmarked document false n inside h m = rw (eq-eqb _ _ h, eq-eqb _ _ m)
 pub clash : (b : Bool) → b ≡ true → b ≡ false → ⊥
 clash b p q = let z : _≡_ {A = ℕ} 0 1 = cc in omega arith
 
+-- a neighbour that is there is behind a pair that may stand between
+pub passed-over : (b : Bool) (k : ℕ) → (choose b k 0 ≡ 0 → ⊥) → (b ≡ true) × (k ≡ 0 → ⊥)
+unfolding choose
+passed-over true k w = (refl, w)
+passed-over false k w = absurd (w refl)
+
 -- where none offends, every item has a mark
 pub all-shaped : (document : List ℕ) (i : ℕ) (behind : Bool) (row : Row) (ks : List ℕ) → offenders document i behind row ks ≡ [] → Shaped document row × (ks ≡ [])
 unfolding offenders
@@ -74,7 +80,7 @@ unfolding offenders written
 offenders-rising document i behind none ks r = let l : i ≤ i + 0 = omega arith in lower l r
 offenders-rising document i behind (pair n from to inside next) ks r =
     let k : i + 1 + length (written inside []) + 1 + length (written next []) ≡ i + suc (length (written inside (exit n to ∷ written next []))) =
-          omega (arith, events-long inside (exit n to ∷ written next [])) in
+    omega (arith, events-long inside (exit n to ∷ written next [])) in
     let a = offenders-rising document (i + 1 + length (written inside []) + 1) (isItem n) next ks (rw k r) in
     let l : i + 1 + length (written inside []) ≤ i + 1 + length (written inside []) + 1 = omega arith in
     let b = offenders-rising document (i + 1) false inside (offenders document (i + 1 + length (written inside []) + 1) (isItem n) next ks) (lower l a) in
