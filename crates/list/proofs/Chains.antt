@@ -1,23 +1,21 @@
 -- The events with what their notes add are, over the events of a tree, the tree's events with its lists.
 -- Assumes nothing.
-use Prim.Native.Nat.{ℕ, zero, suc, _+_, _-_, _≤_, _<_}
+use Prim.Native.Nat.{ℕ}
 use mathlib.Core.Path.{_≡_, refl, sym, ap, _∙_}
 use mathlib.Core.Bool.{Bool, true, false}
-use mathlib.Core.List.{List, [], _∷_}
-use native.Mathlib.Omega.{arith}
-use lib.ListN.{length}
+use mathlib.Core.List.{List, _∷_}
 use lib.Dec.{eqb}
-use borrow.Author.Tests.{eq-eqb, ne-eqb, eqb-true, eqb-false}
+use borrow.Author.Tests.{eqb-true}
 use Rattle.record.specs.Choice.{choose, and}
 use Rattle.record.specs.Event.{event, enter, exit}
 use Rattle.record.specs.declared.event.Event.{Event}
 use Rattle.record.proofs.Bools.{and-left, and-right}
 use Rattle.list.specs.Tree.{Row, none, pair, written}
 use Rattle.list.specs.Item.{markOf}
-use Rattle.list.specs.Lists.{isItem, offending, offenders, between, noItem, neighbour, joins, listName, listed}
-use Rattle.list.specs.Walk.{markIn, nearest, top, note, notes, noted, spliced}
-use Rattle.list.specs.Shape.{Shaped, no-pair, with-pair, clash, passed-over}
-use Rattle.list.proofs.Trees.{Stops, ended, exited, mark-written, nearest-written}
+use Rattle.list.specs.Lists.{between, noItem, neighbour, joins, listName, listed}
+use Rattle.list.specs.Walk.{markIn, nearest, note, notes, noted, spliced}
+use Rattle.list.specs.Shape.{Shaped, with-pair, clash, passed-over}
+use Rattle.list.proofs.Trees.{Stops, exited, mark-written, nearest-written}
 
 -- the events from here on, with what their notes add
 unfoldable pub walked : List ℕ → Bool → List ℕ → List Event → List Event

@@ -13,16 +13,15 @@ use lib.Seq.{take-suc-set}
 use lib.Dec.{eqb}
 use borrow.Author.Tests.{eq-eqb, ne-eqb}
 use Rattle.record.specs.Choice.{choose, and}
-use Rattle.record.specs.Event.{eventAt, eventsOf, documentOf}
+use Rattle.record.specs.Event.{eventAt, documentOf}
 use Rattle.record.specs.Stack.{upTo, outer, after}
 use Rattle.record.specs.Sound.{soundFrom}
 use Rattle.record.specs.declared.event.Event.{Event}
 use Rattle.record.proofs.Bools.{and-false}
 use Rattle.record.proofs.Names.{pushed, popped}
 use Rattle.record.proofs.Soundness.{Stands, stands, sound-rest, after-enter, after-exit}
-use Rattle.list.specs.Walk.{Checked, onward, nearest, markIn, isEnter, isExit, offendersIn, top, note, notes, adds, added}
-use Rattle.list.specs.Noting.{finding, Noted}
-use Rattle.list.specs.declared.chain.Findings.{Findings}
+use Rattle.list.specs.Walk.{Checked, onward, nearest, markIn, offendersIn, note, notes, adds, added}
+use Rattle.list.specs.Noting.{Noted}
 use Rattle.list.specs.declared.chain.Findings.the-variants.{Added, Offends}
 use Rattle.list.proofs.Onward.{onward-none, onward-some, onward-whole}
 

@@ -1,17 +1,12 @@
 -- The events of a record from event i on: the next of them, and what is behind it.
 -- Assumes nothing.
-use mathlib.Core.Path.{_≡_, refl, sym, ap, _∙_}
-use mathlib.Core.Bool.{Bool, true, false}
+use mathlib.Core.Path.{_≡_, sym, ap, _∙_}
 use mathlib.Core.Logic.{_⊎_, inl, inr}
 use mathlib.Core.List.{List, [], _∷_}
 use Prim.Native.Nat.{ℕ, zero, suc, _+_, _*_, _-_, _≤_, _<_}
 use native.Mathlib.Omega.{arith}
-use lib.ListN.{length, getD}
-use borrow.Author.Tests.{eq-eqb, ne-eqb, eqb-true}
-use Rattle.record.specs.Choice.{choose, and}
 use Rattle.record.specs.Event.{eventAt, eventsAt, eventsOf}
-use Rattle.record.specs.declared.event.Event.{Event}
-use Rattle.list.specs.Walk.{onward, tail, head, first, firstLeaf, behindLeaf}
+use Rattle.list.specs.Walk.{onward, tail}
 
 events-suc : (n m : ℕ) (s : List ℕ) (at : ℕ) → n ≡ m + 1 → eventsAt n s at ≡ eventAt s at ∷ eventsAt m s (at + 8)
 unfolding eventsAt

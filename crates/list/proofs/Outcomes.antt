@@ -1,6 +1,6 @@
 -- What the two passes find is what the definition gives; and the answer and the output in each case.
 -- Assumes nothing.
-use Prim.Native.Nat.{ℕ, zero, suc, _+_, _*_, _-_, _≤_, _<_}
+use Prim.Native.Nat.{ℕ, suc, _+_, _*_, _-_, _≤_, _<_}
 use mathlib.Core.Path.{_≡_, refl, sym, ap, _∙_}
 use mathlib.Core.Bool.{Bool, true, false}
 use mathlib.Core.List.{List, [], _∷_}
@@ -9,22 +9,21 @@ use lib.ListN.{length, take}
 use lib.Dec.{eqb}
 use borrow.Author.Tests.{lt-ltb, le-ltb}
 use Rattle.record.specs.Choice.{choose}
-use Rattle.record.specs.Event.{eventsAt, documentOf, eventsOf, sectionBytes, enter, exit}
+use Rattle.record.specs.Event.{documentOf, eventsOf, sectionBytes, enter, exit}
 use Rattle.record.specs.Check.{admitted}
-use Rattle.record.specs.Outcome.{Resolution, offends, gives, sized, settled, onto, bytesWritten}
+use Rattle.record.specs.Outcome.{offends, gives, sized, onto}
 use Rattle.record.specs.declared.event.Event.{Event}
 use Rattle.record.specs.declared.check.Refusal.{Refusal}
-use Rattle.record.specs.declared.check.Reading.{Reading}
 use Rattle.record.specs.declared.check.Reading.the-variants as reading
-use Rattle.record.proofs.Good.{Told, Admitted, admission}
+use Rattle.record.proofs.Good.{admission}
 use Rattle.record.proofs.Output.{onto-none}
 use Rattle.record.proofs.Sections.{length-eventsAt}
 use Rattle.list.specs.Tree.{Row, written, treeOf}
 use Rattle.list.specs.Reading.{tree-written}
 use Rattle.list.specs.Lists.{offenders, listed, settling, lists}
-use Rattle.list.specs.Walk.{Checked, onward, offendersIn, notes, noted, spliced, adds, added}
+use Rattle.list.specs.Walk.{Checked, onward, offendersIn, notes, noted, spliced, added}
 use Rattle.list.specs.Noting.{finding, Noted}
-use Rattle.list.specs.Promise.{outcomeOf, answerOf, Answered}
+use Rattle.list.specs.Promise.{outcomeOf, Answered}
 use Rattle.list.specs.declared.chain.Findings.{Findings}
 use Rattle.list.specs.declared.chain.Findings.the-variants.{Added, Offends}
 use Rattle.list.specs.declared.call.Answer.{Answer}

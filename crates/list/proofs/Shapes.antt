@@ -1,12 +1,12 @@
 -- The shape of an item, event by event: the cases of the definitions of specs/Walk.antt, as the functions of src/item.rt meet them.
 -- Assumes nothing.
-use mathlib.Core.Path.{_≡_, refl, sym, ap, _∙_}
-use mathlib.Core.Bool.{Bool, true, false}
+use mathlib.Core.Path.{_≡_, sym, ap, _∙_}
+use mathlib.Core.Bool.{true, false}
 use mathlib.Core.Logic.{_⊎_, inl, inr}
-use mathlib.Core.List.{List, [], _∷_}
-use Prim.Native.Nat.{ℕ, zero, suc, _+_, _*_, _-_, _≤_, _<_}
+use mathlib.Core.List.{List, []}
+use Prim.Native.Nat.{ℕ, zero, suc, _+_, _*_, _≤_, _<_}
 use native.Mathlib.Omega.{arith}
-use lib.ListN.{length, getD}
+use lib.ListN.{getD}
 use lib.Dec.{eqb}
 use borrow.Author.Tests.{eq-eqb, ne-eqb}
 use Rattle.record.specs.Choice.{choose, and}
@@ -15,11 +15,11 @@ use lib.Seq.{getD-take, getD-drop}
 use Rattle.record.specs.Event.{eventAt, eventsAt, documentOf, eventsOf}
 use Rattle.record.specs.Stack.{after}
 use Rattle.record.specs.Sound.{soundFrom}
-use Rattle.record.proofs.Soundness.{Stands, stands, sound-rest}
+use Rattle.record.proofs.Soundness.{stands, sound-rest}
 use Rattle.record.specs.declared.event.Event.{Event}
 use Rattle.list.specs.Item.{known}
 use Rattle.list.specs.Walk.{onward, tail, head, first, firstLeaf, behindLeaf, markOver, markerIn, prefixIn, markIn, Checked}
-use Rattle.record.proofs.Bools.{and-left, and-right}
+use Rattle.record.proofs.Bools.{and-right}
 use Rattle.list.proofs.Onward.{split-at, onward-none, onward-some, onward-tail}
 
 module _ (s : List ℕ) (d e i kind name : ℕ) where

@@ -1,22 +1,22 @@
 -- Read off the events of a tree one by one, the definitions of specs/Walk.antt are those of specs/Lists.antt.
 -- Assumes nothing.
-use Prim.Native.Nat.{ℕ, zero, suc, _+_, _-_, _≤_, _<_}
-use mathlib.Core.Path.{_≡_, refl, sym, ap, _∙_}
+use Prim.Native.Nat.{ℕ, suc, _+_, _-_}
+use mathlib.Core.Path.{_≡_, refl, sym, ap}
 use mathlib.Core.Bool.{Bool, true, false}
 use mathlib.Core.List.{List, [], _∷_}
 use native.Mathlib.Omega.{arith}
 use native.Mathlib.Nat.{zero-add}
 use lib.ListN.{length, getD}
 use lib.Dec.{eqb}
-use borrow.Author.Tests.{eq-eqb, ne-eqb, eqb-true, eqb-false}
+use borrow.Author.Tests.{ne-eqb, eqb-true}
 use Rattle.record.specs.Choice.{choose, and}
 use Rattle.record.specs.Event.{enter, exit}
 use Rattle.record.specs.declared.event.Event.{Event}
 use Rattle.record.proofs.Bools.{and-false}
 use Rattle.list.specs.Tree.{Row, none, pair, written}
 use Rattle.list.specs.Item.{pastLeaf, isNone, known, markerOf, prefixOf, markOf}
-use Rattle.list.specs.Lists.{isItem, offending, offenders, between, noItem, neighbour, joins, listName, listed}
-use Rattle.list.specs.Walk.{tail, head, first, firstLeaf, behindLeaf, markOver, markerIn, prefixIn, markIn, passing, nearest, offendersIn, note, notes, noted, spliced}
+use Rattle.list.specs.Lists.{offending, offenders, between, noItem, neighbour}
+use Rattle.list.specs.Walk.{first, firstLeaf, behindLeaf, markOver, markerIn, prefixIn, markIn, passing, nearest, offendersIn}
 
 -- what may follow a row: nothing, or the exit of the pair that holds it
 pub data Stops : List Event → Type 0 where

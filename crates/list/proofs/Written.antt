@@ -3,7 +3,7 @@
 use mathlib.Core.Path.{_≡_, refl, sym, ap, _∙_}
 use mathlib.Core.Bool.{Bool, true, false}
 use mathlib.Core.List.{List, [], _∷_, _++_, append-assoc, append-nil}
-use Prim.Native.Nat.{ℕ, zero, suc, _+_, _*_, _-_, _≤_, _<_}
+use Prim.Native.Nat.{ℕ, _+_, _*_, _≤_, _<_}
 use native.Mathlib.Numerals.{add-one}
 use native.Mathlib.Omega.{arith}
 use lib.ListN.{length, getD, drop, length-append}
@@ -12,7 +12,7 @@ use lib.Dec.{eqb}
 use borrow.Author.Tests.{eq-eqb, ne-eqb}
 use Rattle.record.specs.Choice.{choose}
 use Rattle.record.specs.Bytes.{Wrote, u32At, u32Bytes}
-use Rattle.record.specs.Event.{event, enter, exit, eventAt, eventBytes, bytesOf, flat, sectionBytes}
+use Rattle.record.specs.Event.{event, enter, exit, eventAt, eventBytes, flat, sectionBytes}
 use Rattle.record.specs.Outcome.{onto}
 use Rattle.record.specs.declared.event.Event.{Event}
 use Rattle.record.proofs.Splice.{wrote-then, wrote-none}

@@ -2,14 +2,12 @@
 -- Assumes nothing.
 use Prim.Native.Nat.{ℕ}
 use mathlib.Core.Path.{_≡_, refl}
-use mathlib.Core.Bool.{Bool, true, false}
-use mathlib.Core.List.{List, [], _∷_, _++_}
-use lib.ListN.{length}
+use mathlib.Core.List.{List, [], _∷_}
 use Rattle.record.specs.Choice.{choose, and}
 use Rattle.record.specs.Event.{enter, exit}
-use Rattle.record.specs.Outcome.{Resolution, offends, gives}
+use Rattle.record.specs.Outcome.{offends, gives}
 use Rattle.record.specs.declared.event.Event.{Event}
-use Rattle.list.specs.Tree.{Row, none, pair, written, restOf, treeOf}
+use Rattle.list.specs.Tree.{written, restOf, treeOf}
 use Rattle.list.specs.Item.{pastLeaf, known, markerOf, prefixOf, markOf}
 use Rattle.list.specs.Lists.{offending, offenders, between, noItem, neighbour, joins, listName, listed, lists}
 

@@ -3,16 +3,16 @@
 -- nest (specs/Nesting.antt), every list wraps at least one item.
 -- Assumes nothing.
 use Prim.Native.Nat.{ℕ, _+_, _-_}
-use mathlib.Core.Path.{_≡_, refl, sym, ap, _∙_}
+use mathlib.Core.Path.{_≡_, refl}
 use mathlib.Core.Bool.{Bool, true, false}
 use mathlib.Core.Logic.{_⊎_, inl, inr}
 use mathlib.Core.List.{List, [], _∷_}
 use native.Mathlib.Omega.{arith}
 use lib.Dec.{eqb}
 use borrow.Author.Tests.{eqb-true}
-use Rattle.record.specs.Choice.{choose, and}
+use Rattle.record.specs.Choice.{choose}
 use Rattle.record.specs.Event.{enter, exit}
-use Rattle.record.specs.Outcome.{offends, gives}
+use Rattle.record.specs.Outcome.{gives}
 use Rattle.record.specs.Sound.{sound}
 use Rattle.record.specs.declared.event.Event.{Event}
 use Rattle.list.specs.Tree.{Row, none, pair, written, treeOf}

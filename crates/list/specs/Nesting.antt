@@ -1,7 +1,7 @@
 -- Lists nest. The result of a sound list of events is a sound list again, so that no list crosses an item, a container or another list;
 -- only its depth may pass 64: each item may have a list round it, so it is at most twice as deep.
 -- Assumes nothing.
-use Prim.Native.Nat.{ℕ, zero, suc, _+_, _*_, _≤_, _<_}
+use Prim.Native.Nat.{ℕ, suc, _*_, _≤_, _<_}
 use mathlib.Core.Path.{_≡_, refl, sym, ap, _∙_}
 use mathlib.Core.Bool.{Bool, true, false}
 use mathlib.Core.Logic.{_⊎_, inl, inr}
@@ -13,16 +13,14 @@ use borrow.Author.Tests.{eqb-true}
 use Rattle.record.specs.Choice.{choose, and}
 use Rattle.record.specs.Event.{enter, exit}
 use Rattle.record.specs.Outcome.{gives}
-use Rattle.record.specs.Stack.{outer, after}
 use Rattle.record.specs.Sound.{soundFrom, sound}
 use Rattle.record.specs.declared.event.Event.{Event}
-use Rattle.record.proofs.Bools.{and-left, and-right}
-use Rattle.record.proofs.Soundness.{Stands, stands, sound-rest, sound-enter, sound-exit, after-enter, after-exit}
+use Rattle.record.proofs.Soundness.{stands, sound-rest, sound-enter, sound-exit, after-enter, after-exit}
 use Rattle.list.specs.Tree.{Row, none, pair, written, treeOf}
 use Rattle.list.specs.Reading.{tree-written}
 use Rattle.list.specs.Item.{markOf}
 use Rattle.list.specs.Lists.{between, noItem, neighbour, joins, listName, listed, lists}
-use Rattle.list.specs.Shape.{Shaped, no-pair, with-pair, all-shaped, clash, passed-over}
+use Rattle.list.specs.Shape.{Shaped, with-pair, all-shaped, clash, passed-over}
 use Rattle.list.specs.Listing.{list-named, result-of}
 
 list-name-small : (mark : ℕ) → listName mark ≤ 24

@@ -1,16 +1,16 @@
 -- Why the event tree is the right one. A sound list of events is the events of its tree, and the tree of a row's events is that row: so
 -- the tree of a sound list is the one row whose events they are.
 -- Assumes nothing.
-use Prim.Native.Nat.{ℕ, zero, suc, _+_, _≤_}
+use Prim.Native.Nat.{ℕ, zero, suc, _≤_}
 use mathlib.Core.Path.{_≡_, refl, sym, ap, _∙_}
-use mathlib.Core.Bool.{Bool, true, false}
+use mathlib.Core.Bool.{true}
 use mathlib.Core.Logic.{_⊎_, inl, inr}
 use mathlib.Core.List.{List, [], _∷_}
 use native.Mathlib.Omega.{arith}
 use borrow.Author.Tests.{eq-eqb, ne-eqb}
 use Rattle.record.specs.Choice.{choose}
 use Rattle.record.specs.Event.{event, enter, exit}
-use Rattle.record.specs.Stack.{none, outer, after}
+use Rattle.record.specs.Stack.{none, after}
 use Rattle.record.specs.Sound.{soundFrom, sound}
 use Rattle.record.specs.declared.event.Event.{Event}
 use Rattle.record.proofs.Soundness.{Stands, stands, sound-rest, after-enter, after-exit}

@@ -1,15 +1,15 @@
 -- The shape rule, where it is kept and where it is broken: where no item offends, each has a mark; the offending items come in rising order,
 -- so that the first is the earliest.
 -- Assumes nothing.
-use Prim.Native.Nat.{ℕ, zero, suc, _+_, _≤_}
-use mathlib.Core.Path.{_≡_, refl, sym, ap, _∙_}
+use Prim.Native.Nat.{ℕ, suc, _+_, _≤_}
+use mathlib.Core.Path.{_≡_, refl, ap}
 use mathlib.Core.Bool.{Bool, true, false}
 use mathlib.Core.List.{List, [], _∷_}
 use native.Mathlib.Omega.{arith}
 use lib.ListN.{length}
 use borrow.Author.Tests.{eq-eqb}
 use Rattle.record.specs.Choice.{choose, and}
-use Rattle.record.specs.Event.{enter, exit}
+use Rattle.record.specs.Event.{exit}
 use Rattle.record.specs.Outcome.{offends}
 use Rattle.record.specs.declared.event.Event.{Event}
 use Rattle.list.specs.Tree.{Row, none, pair, written, treeOf}

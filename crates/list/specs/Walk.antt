@@ -1,7 +1,7 @@
 -- The same, read off the events one by one: what the inner functions promise. proofs/Trees.antt shows that over the events of a tree it is
 -- what specs/Lists.antt has.
 -- Assumes nothing.
-use Prim.Native.Nat.{ℕ, zero, suc, _+_, _*_, _-_, _≤_}
+use Prim.Native.Nat.{ℕ, _+_, _*_, _-_, _≤_}
 use mathlib.Core.Path.{_≡_}
 use mathlib.Core.Bool.{Bool, true, false}
 use mathlib.Core.List.{List, [], _∷_}

@@ -78,10 +78,10 @@ pub fn next_mark(s: &[u8], d: usize, e: usize, i: usize) -> u8
             continue;
         }
         if name == LIST_ITEM {
-            if depth == 0 {
-                return item_mark(s, d, e, k);
+            if depth != 0 {
+                return 0;
             }
-            return 0;
+            return item_mark(s, d, e, k);
         }
         if !passes(depth, name) {
             return 0;

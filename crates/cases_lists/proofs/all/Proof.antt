@@ -1,3 +1,5 @@
+-- `cases_lists::all` meets its contract, which is that it ends. Each line goes on by a byte at least; the measure is what is left of the text.
+-- Assumes nothing.
 use Prim.Native.Nat.{_-_, _≤_}
 use lib.ListN.{length}
 use borrow.Author.Needs.{needs}

@@ -1,4 +1,6 @@
-use Prim.Native.Nat.{_+_, _*_, _-_, _≤_}
+-- `cases_lists::echo` meets its contract. The invariant: the place is behind the first byte and within the text; the measure is what is left.
+-- Assumes nothing.
+use Prim.Native.Nat.{_+_, _-_, _≤_}
 use lib.ListN.{length}
 use borrow.Author.Needs.{needs}
 use Rattle.cases_lists.proofs.echo.Statement.{statement}

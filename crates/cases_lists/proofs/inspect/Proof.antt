@@ -1,4 +1,6 @@
-use Prim.Native.Nat.{ℕ, _-_, _≤_}
+-- `cases_lists::inspect` meets its contract, which is that it ends and reads within the bytes. The measure is what is left of them.
+-- Assumes nothing.
+use Prim.Native.Nat.{_-_, _≤_}
 use borrow.Author.Needs.{needs}
 use Rattle.cases_lists.proofs.inspect.Statement.{statement}
 use Rattle.cases_lists.proofs.inspect.Tie as tie

@@ -1,4 +1,7 @@
-use Prim.Native.Nat.{_+_, _*_, _-_, _≤_}
+-- `cases_lists::number` meets its contract. The invariant: the place is within the text and the number is small; the measure is what is left
+-- of the text.
+-- Assumes nothing.
+use Prim.Native.Nat.{_-_, _≤_}
 use lib.ListN.{length}
 use borrow.Author.Needs.{needs}
 use Rattle.cases_lists.proofs.number.Statement.{statement}

@@ -1,3 +1,5 @@
+-- `cases_lists::one` meets its contract: the place goes on with each part that is read.
+-- Assumes nothing.
 use native.Mathlib.Omega.{arith}
 use borrow.Author.Needs.{needs}
 use Rattle.cases_lists.proofs.one.Statement.{statement}

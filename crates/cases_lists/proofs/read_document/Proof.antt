@@ -1,6 +1,9 @@
+-- `cases_lists::read_document` meets its contract. The invariant: the place is within the text and the document within the record; the
+-- measure is what is left of the text.
+-- Assumes nothing.
 use native.Mathlib.Omega.{arith}
 use lib.ListN.{length-set}
-use Prim.Native.Nat.{_+_, _*_, _-_, _≤_}
+use Prim.Native.Nat.{_-_, _≤_}
 use lib.ListN.{length}
 use mathlib.Core.Path.{_≡_}
 use borrow.Author.Needs.{needs}

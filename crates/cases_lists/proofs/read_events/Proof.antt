@@ -1,3 +1,6 @@
+-- `cases_lists::read_events` meets its contract. The invariant: the place is within the text, and the events so far are within the record; the
+-- measure is what is left of the text.
+-- Assumes nothing.
 use Prim.Native.Nat.{_+_, _*_, _-_, _≤_}
 use lib.ListN.{length}
 use mathlib.Core.Path.{_≡_}

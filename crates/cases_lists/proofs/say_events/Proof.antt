@@ -1,3 +1,5 @@
+-- `cases_lists::say_events` meets its contract, which is that it ends and reads within the section. The measure is the number of events left.
+-- Assumes nothing.
 use Prim.Native.Nat.{_≤_}
 use borrow.Author.Needs.{needs}
 use Rattle.cases_lists.proofs.say_events.Statement.{statement}

@@ -1,5 +1,6 @@
+-- `list::call::answer_lists` meets its contract: each return is a case of the outcome.
+-- Assumes nothing.
 use mathlib.Core.Path.{sym, _∙_}
-use native.Mathlib.Omega.{arith}
 use Rattle.list.proofs.Outcomes.{noted-offends, noted-gives, noted-long, checked-record, enough-work, refused-by-check, shape-broken, output-short, resolved}
 use borrow.Author.Needs.{needs}
 use Rattle.list.proofs.call.answer_lists.Statement.{statement}

@@ -1,3 +1,5 @@
+-- `list::call::resolve_lists` meets its contract: the inner call's answer and output, and the wiping.
+-- Assumes nothing.
 use borrow.Author.Needs.{needs}
 use Rattle.list.proofs.call.resolve_lists.Statement.{statement}
 use Rattle.list.proofs.call.resolve_lists.Tie as tie

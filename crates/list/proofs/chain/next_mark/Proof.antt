@@ -1,9 +1,11 @@
+-- `list::chain::next_mark` meets its contract. The invariant: what the look finds from here it finds from the start; the measure is the
+-- number of events left.
+-- Assumes nothing.
 use mathlib.Core.Path.{sym, _∙_}
-use borrow.Author.Tests.{not-true, not-false}
 use Prim.Native.Nat.{_-_}
+use borrow.Author.Tests.{not-true, not-false}
 use Rattle.record.specs.Event.{documentOf}
 use Rattle.list.proofs.Nearest.{Seeking, start, nothing-left, parent-left, pair-left, item-found, item-inside, barred, passed}
-use native.Mathlib.Omega.{arith}
 use borrow.Author.Needs.{needs}
 use Rattle.list.proofs.chain.next_mark.Statement.{statement}
 use Rattle.list.proofs.chain.next_mark.Tie as tie
@@ -19,7 +21,7 @@ abbrev μ-loop : tie.MeasureT-loop
 μ-loop s d e i k₀ depth₀ k depth = e - k
 
 loop-holds : tie.Need-loop-holds Inv-loop μ-loop
-loop-holds c = search needs
+loop-holds c = start _ _ _ _ _ (search needs)
 
 add-at : tie.Need-add-at Inv-loop μ-loop
 add-at c = search needs
@@ -54,14 +56,14 @@ loop-less c = search needs
 loop-again : tie.Need-loop-again Inv-loop μ-loop
 loop-again c = pair-left (c .before .before .before .before .before .loop .inv) (c .before .before .before .before .loop-test .taken) (c .before .if1 .taken) (c .if2 .left)
 
+returns-2 : tie.Need-returns-2 Inv-loop μ-loop
+returns-2 c = item-inside (c .before .before .before .before .before .before .loop .inv) (c .before .before .before .before .before .loop-test .taken) (c .before .before .if1 .left) (c .before .if3 .taken) (c .if4 .taken)
+
 item-mark-requires : tie.Need-item-mark-requires Inv-loop μ-loop
 item-mark-requires c κs = search needs
 
-returns-2 : tie.Need-returns-2 Inv-loop μ-loop
-returns-2 c = item-found (c .before .before .before .before .before .before .before .loop .inv) (c .before .before .before .before .before .before .loop-test .taken) (c .before .before .before .if1 .left) (c .before .before .if3 .taken) (c .before .if4 .taken) _ (c .item-mark .ensures)
-
 returns-3 : tie.Need-returns-3 Inv-loop μ-loop
-returns-3 c = item-inside (c .before .before .before .before .before .before .loop .inv) (c .before .before .before .before .before .loop-test .taken) (c .before .before .if1 .left) (c .before .if3 .taken) (c .if4 .left)
+returns-3 c = item-found (c .before .before .before .before .before .before .before .loop .inv) (c .before .before .before .before .before .before .loop-test .taken) (c .before .before .before .if1 .left) (c .before .before .if3 .taken) (c .before .if4 .left) _ (c .item-mark .ensures)
 
 passes-requires : tie.Need-passes-requires Inv-loop μ-loop
 passes-requires c κs = search needs
@@ -99,8 +101,8 @@ next-mark-spec =
     sub-depth
     loop-less
     loop-again
-    item-mark-requires
     returns-2
+    item-mark-requires
     returns-3
     passes-requires
     returns-4

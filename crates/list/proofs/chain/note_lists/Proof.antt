@@ -1,6 +1,8 @@
-use mathlib.Core.Path.{_≡_, refl, sym, _∙_}
+-- `list::chain::note_lists` meets its contract. The invariant: the notes so far and those from here on are the notes of the whole, no item so
+-- far offends, and the marks are those of the open items; the measure is the number of events left.
+-- Assumes nothing.
+use mathlib.Core.Path.{_≡_, refl}
 use Prim.Native.Nat.{_-_}
-use native.Mathlib.Omega.{arith}
 use lib.ListN.{length}
 use Rattle.record.specs.Event.{documentOf}
 use Rattle.list.proofs.Notings.{Noting, start, finished, other, room-inside, right-behind, broken, entered, some-open, left-one}

@@ -1,3 +1,5 @@
+-- `list::chain::unless_joined` meets its contract: each return is a case of the definition.
+-- Assumes nothing.
 use borrow.Author.Needs.{needs}
 use Rattle.list.proofs.chain.unless_joined.Statement.{statement}
 use Rattle.list.proofs.chain.unless_joined.Tie as tie

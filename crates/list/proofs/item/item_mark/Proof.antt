@@ -1,3 +1,5 @@
+-- `list::item::item_mark` meets its contract: each return is a way in which the shape is broken, but the last, where it is whole.
+-- Assumes nothing.
 use borrow.Author.Tests.{not-true, not-false}
 use mathlib.Core.Path.{sym, _∙_}
 use Rattle.list.proofs.Shapes.{leaf-there, no-prefix, no-marker, more-inside, whole-prefix}

@@ -1,3 +1,5 @@
+-- `list::item::known_mark` meets its contract: each return is a case of the definition.
+-- Assumes nothing.
 use borrow.Author.Tests.{eq-eqb, ne-eqb}
 use Rattle.record.specs.Choice.{choose}
 use Rattle.list.specs.Item.{known}

@@ -1,3 +1,5 @@
+-- `list::item::leaf` meets its contract: a leaf pair is an enter and, right behind it, an exit.
+-- Assumes nothing.
 use borrow.Author.Tests.{not-true, not-false}
 use mathlib.Core.Path.{sym, _∙_}
 use Rattle.list.proofs.Onward.{onward-tail}

@@ -1,6 +1,7 @@
+-- `list::item::mark_over` meets its contract. The byte is read from the record: the pair's exit has a place within the document, so that the
+-- byte one before it is one of the document's.
+-- Assumes nothing.
 use Rattle.list.proofs.Shapes.{over-other, over-one, inside-document}
-use native.Mathlib.Omega.{arith}
-use mathlib.Core.Path.{sym, _∙_}
 use borrow.Author.Needs.{needs}
 use Rattle.list.proofs.item.mark_over.Statement.{statement}
 use Rattle.list.proofs.item.mark_over.Tie as tie

@@ -1,3 +1,5 @@
+-- `list::item::past_leaf` meets its contract: the events behind a leaf pair are those two further on.
+-- Assumes nothing.
 use mathlib.Core.Path.{sym, _∙_}
 use Rattle.list.proofs.Shapes.{behind-leaf, no-leaf}
 use borrow.Author.Needs.{needs}

@@ -1,3 +1,5 @@
+-- `list::item::stands` meets its contract: each return is a case of the definition.
+-- Assumes nothing.
 use Rattle.list.proofs.Shapes.{past-end, other-kind, this-kind}
 use borrow.Author.Needs.{needs}
 use Rattle.list.proofs.item.stands.Statement.{statement}

@@ -1,4 +1,5 @@
-use native.Mathlib.Omega.{arith}
+-- `list::write::put_noted` meets its contract: one event, or two, as the note says.
+-- Assumes nothing.
 use Rattle.list.proofs.Written.{one-long, enter-long, exit-long, wrote-one, wrote-enter, wrote-exit}
 use borrow.Author.Needs.{needs}
 use Rattle.list.proofs.write.put_noted.Statement.{statement}

@@ -1,6 +1,8 @@
+-- `list::write::write_lists` meets its contract. The invariant: what is written and what is still to come is the whole result; the measure
+-- is the number of events left.
+-- Assumes nothing.
 use mathlib.Core.Path.{_≡_, refl}
 use Prim.Native.Nat.{_-_}
-use native.Mathlib.Omega.{arith}
 use lib.ListN.{length}
 use Rattle.list.proofs.Written.{Writing, start, room-next, turn, finished}
 use borrow.Author.Needs.{needs}
