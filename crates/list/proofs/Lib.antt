@@ -6,3 +6,4 @@ mod Written
 mod Trees
 mod Chains
 mod Outcomes
+pub mod Exactly

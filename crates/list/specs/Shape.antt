@@ -104,3 +104,12 @@ unfolding lists
 earliest document es k q =
     let f = settled-first k (offenders document 0 false (treeOf es) []) (listed document false (treeOf es) []) q in
     (f .0, f .1, above (offenders-rising document 0 false (treeOf es) [] no-more) k (f .0) (f .1))
+
+-- a number among some
+pub data Among (k : ℕ) : List ℕ → Type 0 where
+  front : {j : ℕ} {js : List ℕ} → k ≡ j → Among k (j ∷ js)
+  behind : {j : ℕ} {js : List ℕ} → Among k js → Among k (j ∷ js)
+
+-- number 6 as the table has it: event k enters an item that offends
+abbrev pub Offends : List ℕ → List Event → ℕ → Type 0
+Offends document es k = Among k (offenders document 0 false (treeOf es) [])

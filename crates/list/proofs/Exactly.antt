@@ -1,0 +1,58 @@
+-- The table's "given exactly when" for the list resolver: rows 1 to 8, row 6 by document 01's shape rule.
+-- Assumes nothing.
+use mathlib.Core.Path.{_≡_, refl, sym, _∙_}
+use mathlib.Core.Bool.{false}
+use mathlib.Core.List.{List, [], _∷_}
+use Prim.Native.Nat.{ℕ, _+_, _≤_}
+use native.Mathlib.Omega.{arith}
+use Rattle.record.specs.Event.{documentOf, eventsOf}
+use Rattle.record.specs.Rows.{documentCount, eventCount}
+use Rattle.record.specs.Outcome.{offends, gives}
+use Rattle.record.specs.Written.{Judges, ExactlyWritten}
+use Rattle.record.specs.declared.event.Event.{Event}
+use Rattle.record.proofs.ExactlyWritten.{exactly-written}
+use Rattle.list.specs.Tree.{treeOf}
+use Rattle.list.specs.Lists.{offenders, lists}
+use Rattle.list.specs.Listing.{result-of}
+use Rattle.list.specs.Shape.{Rising, no-more, then, Among, front, behind, Offends, earliest}
+
+-- all of rising numbers are at or above the first bound
+at-least : {k j : ℕ} {js : List ℕ} → Rising k js → Among j js → k ≤ j
+at-least (then {j = i} l r) (front e) = omega arith
+at-least (then {j = i} l r) (behind a) =
+    let h = at-least r a in
+    omega arith
+
+nothing : {j : ℕ} (ks : List ℕ) → ks ≡ [] → Among j ks → ⊥
+nothing [] q a = elim a [ ]
+nothing (k ∷ ks) q a = let z : _≡_ {A = ℕ} 0 1 = cc in omega arith
+
+first-of : (ks : List ℕ) (k : ℕ) (rest : List ℕ) → ks ≡ k ∷ rest → Among k ks
+first-of [] k rest q = let z : _≡_ {A = ℕ} 0 1 = cc in absurd (omega arith)
+first-of (j ∷ ks) k rest q = let e : k ≡ j = cc in front e
+
+from-first : (ks : List ℕ) (k j : ℕ) (rest : List ℕ) → ks ≡ k ∷ rest → Rising (k + 1) rest → Among j ks → k ≤ j
+from-first [] k j rest q r a = elim a [ ]
+from-first (i ∷ ks) k j rest q r (front e) =
+    let x : i ≡ k = cc in
+    omega arith
+from-first (i ∷ ks) k j rest q r (behind a) =
+    let x : ks ≡ rest = cc in
+    let h = at-least r (rw x at a) in
+    omega arith
+
+pub judges : (document : List ℕ) (es : List Event) → Judges (Offends document es) (lists document es)
+judges document es =
+    record {
+      earliest = λ k q.
+          let f = earliest document es k q in
+          (first-of (offenders document 0 false (treeOf es) []) k (f .0) (f .1), λ j a. from-first (offenders document 0 false (treeOf es) []) k j (f .0) (f .1) (f .2) a);
+      none = λ rs q j a. nothing (offenders document 0 false (treeOf es) []) (result-of document es rs q .0) a;
+    }
+
+pub exactly-resolved : (s : List ℕ) (options works outs : ℕ) →
+    ExactlyWritten s options works (Offends (documentOf s (documentCount s)) (eventsOf s (documentCount s) (eventCount s)))
+    (λ d e. lists (documentOf s d) (eventsOf s d e)) outs
+exactly-resolved s options works outs =
+    exactly-written s options works (Offends (documentOf s (documentCount s)) (eventsOf s (documentCount s) (eventCount s)))
+    (λ d e. lists (documentOf s d) (eventsOf s d e)) outs (λ q. judges (documentOf s (documentCount s)) (eventsOf s (documentCount s) (eventCount s)))
