@@ -1,0 +1,13 @@
+pub mod Flags
+pub mod Steps
+pub mod Lists
+pub mod Frames
+pub mod Chained
+pub mod Pops
+pub mod Matched
+pub mod Between
+pub mod Joins
+pub mod Taken
+pub mod Rounds
+pub mod Handling
+pub mod Resolving

@@ -1,0 +1,211 @@
+-- Laws of what the chains list, said of a list of runs alone: the latest run on a chain below a number, and how many can open below it.
+--     on-opener, on-chain, on-yes, on-not     when a run is on a chain
+--     latest-more, latest-le, latest-same     the latest one further on, its bound, and that it goes by what is on the chain
+--     openers-more, openers-same ..           the same of the count
+--     candidate-on                            the plain rule's candidates are the runs on the closer's chain
+-- Assumes nothing.
+use Prim.Native.Nat.{ℕ, zero, suc, _+_, _-_, _*_, _<_, _≤_}
+use mathlib.Core.Path.{_≡_, refl, _∙_, sym, ap}
+use mathlib.Core.List.{List}
+use mathlib.Core.Bool.{Bool, true, false, _||_}
+use mathlib.Core.Option.{Option, none, some}
+use native.Mathlib.Omega.{arith}
+use native.Mathlib.Numerals.{add-one}
+use lib.Dec.{eqb, ltb}
+use borrow.Author.Tests.{eq-eqb, ne-eqb, eqb-true, eqb-false}
+use Rattle.record.specs.Choice.{choose, and}
+use Rattle.record.proofs.Bools.{and-left, and-right, and-both, clash}
+use Rattle.runs.specs.Runs.{isMarker}
+use Rattle.runs.specs.Plain.{Standing, at, opener, candidate, sameContainer}
+use Rattle.matcher.specs.Chains.{markerIndex, containerIndex, chainNumber, on, latest, openers}
+
+module _ (rs : List Standing) (k j : ℕ) where
+  pub on-opener : on rs k j ≡ true → opener (at rs j) ≡ true
+  unfolding on
+  on-opener e = and-left (opener (at rs j)) (eqb (chainNumber (at rs j)) k) e
+
+  pub on-chain : on rs k j ≡ true → chainNumber (at rs j) ≡ k
+  unfolding on
+  on-chain e = eqb-true (chainNumber (at rs j)) k (and-right (opener (at rs j)) (eqb (chainNumber (at rs j)) k) e)
+
+  pub on-yes : opener (at rs j) ≡ true → chainNumber (at rs j) ≡ k → on rs k j ≡ true
+  unfolding on
+  on-yes o e = and-both (opener (at rs j)) (eqb (chainNumber (at rs j)) k) o (eq-eqb (chainNumber (at rs j)) k e)
+
+  pub on-not : (opener (at rs j) ≡ true → chainNumber (at rs j) ≡ k → ⊥) → on rs k j ≡ false
+  on-not h = go (on rs k j) refl
+    where
+      go : (z : Bool) → on rs k j ≡ z → on rs k j ≡ false
+      go false e = e
+      go true e = absurd (h (on-opener e) (on-chain e))
+
+  pub on-shut : opener (at rs j) ≡ false → on rs k j ≡ false
+  on-shut e = on-not (λ o x. clash o e)
+
+-- one further on
+pub latest-more : (rs : List Standing) (k i : ℕ) → latest rs k (i + 1) ≡ choose (on rs k i) (i + 1) (latest rs k i)
+unfolding latest
+latest-more rs k i = let e : i + 1 ≡ suc i = omega arith in rw e (rw (add-one i))
+
+pub openers-more : (rs : List Standing) (i : ℕ) → openers rs (i + 1) ≡ choose (opener (at rs i)) (openers rs i + 1) (openers rs i)
+unfolding openers
+openers-more rs i = rw (add-one i)
+
+module _ (rs : List Standing) (i : ℕ) where
+  pub latest-on : (k : ℕ) → on rs k i ≡ true → latest rs k (i + 1) ≡ i + 1
+  unfolding choose
+  latest-on k e = rw (latest-more, e)
+
+  pub latest-off : (k : ℕ) → on rs k i ≡ false → latest rs k (i + 1) ≡ latest rs k i
+  unfolding choose
+  latest-off k e = rw (latest-more, e)
+
+  pub openers-on : opener (at rs i) ≡ true → openers rs (i + 1) ≡ openers rs i + 1
+  unfolding choose
+  openers-on e = rw (openers-more, e)
+
+  pub openers-off : opener (at rs i) ≡ false → openers rs (i + 1) ≡ openers rs i
+  unfolding choose
+  openers-off e = rw (openers-more, e)
+
+-- the latest run below q is below q
+pub latest-le : (rs : List Standing) (k q : ℕ) → latest rs k q ≤ q
+unfolding latest choose
+latest-le rs k zero = omega arith
+latest-le rs k (suc j) = go (on rs k j) (latest-le rs k j)
+  where
+    go : (z : Bool) → latest rs k j ≤ j → choose z (j + 1) (latest rs k j) ≤ suc j
+    go true h = omega arith
+    go false h = omega arith
+
+pub openers-le : (rs : List Standing) (q : ℕ) → openers rs q ≤ q
+unfolding openers choose
+openers-le rs zero = omega arith
+openers-le rs (suc j) = go (opener (at rs j)) (openers-le rs j)
+  where
+    go : (z : Bool) → openers rs j ≤ j → choose z (openers rs j + 1) (openers rs j) ≤ suc j
+    go true h = omega arith
+    go false h = omega arith
+
+-- more runs, no fewer openers; past an opener, more
+pub openers-up : (rs : List Standing) (q m : ℕ) → openers rs q ≤ openers rs (q + m)
+openers-up rs q zero = let e : q + 0 ≡ q = omega arith in rw e (omega arith)
+openers-up rs q (suc m) = let e : q + suc m ≡ q + m + 1 = omega arith in rw e (go (opener (at rs (q + m))) refl (openers-up rs q m))
+  where
+    go : (z : Bool) → opener (at rs (q + m)) ≡ z → openers rs q ≤ openers rs (q + m) → openers rs q ≤ openers rs (q + m + 1)
+    go true o h = omega (arith, openers-on rs (q + m) o)
+    go false o h = omega (arith, openers-off rs (q + m) o)
+
+pub openers-past : (rs : List Standing) (j i : ℕ) → j < i → opener (at rs j) ≡ true → openers rs j < openers rs i
+openers-past rs j i h o =
+    let e : j + 1 + (i - (j + 1)) ≡ i = omega arith in
+    let u : openers rs (j + 1) ≤ openers rs i = rw e at (openers-up rs (j + 1) (i - (j + 1))) in
+    omega (arith, openers-on rs j o)
+
+-- both go by what can open, and where, below the number
+module _ (rs ts : List Standing) where
+  pub record Level (q : ℕ) : Type 0 where
+    pub opens : (j : ℕ) → j < q → opener (at ts j) ≡ opener (at rs j)
+    pub chain : (j : ℕ) → j < q → chainNumber (at ts j) ≡ chainNumber (at rs j)
+
+pub level-less : (rs ts : List Standing) (q p : ℕ) → p ≤ q → Level rs ts q → Level rs ts p
+level-less rs ts q p h l = record { opens = λ j b. l .opens j (omega arith); chain = λ j b. l .chain j (omega arith) }
+
+pub latest-level : (rs ts : List Standing) (k q : ℕ) → Level rs ts q → latest ts k q ≡ latest rs k q
+unfolding latest on
+latest-level rs ts k zero l = refl
+latest-level rs ts k (suc j) l =
+    let ih : latest ts k j ≡ latest rs k j = latest-level rs ts k j (level-less rs ts (suc j) j (omega arith) l) in
+    simp (l .opens j (omega arith), l .chain j (omega arith), ih)
+
+pub openers-level : (rs ts : List Standing) (q : ℕ) → Level rs ts q → openers ts q ≡ openers rs q
+unfolding openers
+openers-level rs ts zero l = refl
+openers-level rs ts (suc j) l =
+    let ih : openers ts j ≡ openers rs j = openers-level rs ts j (level-less rs ts (suc j) j (omega arith) l) in
+    simp (l .opens j (omega arith), ih)
+
+-- runs that cannot open add nothing
+abbrev pub Shut : List Standing → ℕ → ℕ → Type 0
+Shut rs a b = (j : ℕ) → a ≤ j → j < b → opener (at rs j) ≡ false
+
+pub latest-shut : (rs : List Standing) (k a m : ℕ) → Shut rs a (a + m) → latest rs k (a + m) ≡ latest rs k a
+latest-shut rs k a zero h = let e : a + 0 ≡ a = omega arith in rw e
+latest-shut rs k a (suc m) h =
+    let e : a + suc m ≡ a + m + 1 = omega arith in
+    rw e (latest-off rs (a + m) k (on-shut rs k (a + m) (h (a + m) (omega arith) (omega arith))) ∙ latest-shut rs k a m (λ j x y. h j x (omega arith)))
+
+pub openers-shut : (rs : List Standing) (a m : ℕ) → Shut rs a (a + m) → openers rs (a + m) ≡ openers rs a
+openers-shut rs a zero h = let e : a + 0 ≡ a = omega arith in rw e
+openers-shut rs a (suc m) h =
+    let e : a + suc m ≡ a + m + 1 = omega arith in
+    rw e (openers-off rs (a + m) (h (a + m) (omega arith) (omega arith)) ∙ openers-shut rs a m (λ j x y. h j x (omega arith)))
+
+-- a marker is known by its index
+index-low : (m : ℕ) → markerIndex m < 3
+unfolding markerIndex choose
+index-low m = go (eqb m 42) (eqb m 95)
+  where
+    go : (x y : Bool) → choose x 0 (choose y 1 2) < 3
+    go true y = omega arith
+    go false true = omega arith
+    go false false = omega arith
+
+index-back : (m : ℕ) → isMarker m ≡ true → m ≡ choose (eqb (markerIndex m) 0) 42 (choose (eqb (markerIndex m) 1) 95 126)
+unfolding isMarker markerIndex choose
+index-back m h = go (eqb m 42) refl (eqb m 95) refl (eqb m 126) refl
+  where
+    go : (x : Bool) → eqb m 42 ≡ x → (y : Bool) → eqb m 95 ≡ y → (z : Bool) → eqb m 126 ≡ z
+        → m ≡ choose (eqb (markerIndex m) 0) 42 (choose (eqb (markerIndex m) 1) 95 126)
+    go true a y b z d = rw a (eqb-true m 42 a)
+    go false a true b z d = rw (a, b) (eqb-true m 95 b)
+    go false a false b true d = rw (a, b) (eqb-true m 126 d)
+    go false a false b false d = let f : _≡_ {A = Bool} false true = rw (a, b, d) at h in absurd (clash f refl)
+
+index-same : (m l : ℕ) → isMarker m ≡ true → isMarker l ≡ true → markerIndex m ≡ markerIndex l → m ≡ l
+index-same m l a b e =
+    index-back m a ∙ ap (λ x. choose (eqb x 0) 42 (choose (eqb x 1) 95 126)) e ∙ sym (index-back l b)
+
+-- containers are the same where their indices are
+container-same : (a b : Option ℕ) → sameContainer a b ≡ eqb (containerIndex a) (containerIndex b)
+unfolding sameContainer containerIndex
+container-same none none = refl
+container-same none (some b) = sym (ne-eqb 0 (b + 1) (λ e. omega arith))
+container-same (some a) none = sym (ne-eqb (a + 1) 0 (λ e. omega arith))
+container-same (some a) (some b) = go (eqb a b) refl
+  where
+    go : (z : Bool) → eqb a b ≡ z → eqb a b ≡ eqb (a + 1) (b + 1)
+    go true e = rw e (sym (eq-eqb (a + 1) (b + 1) (let q : a ≡ b = eqb-true a b e in omega arith)))
+    go false e = rw e (sym (ne-eqb (a + 1) (b + 1) (λ x. eqb-false a b e (omega arith))))
+
+-- one chain, one marker and one container
+chain-same : (a b : Standing) → isMarker (a .marker) ≡ true → isMarker (b .marker) ≡ true
+    → eqb (chainNumber a) (chainNumber b) ≡ and (eqb (a .marker) (b .marker)) (sameContainer (a .container) (b .container))
+unfolding chainNumber and
+chain-same a b ka kb = rw (container-same (a .container) (b .container)) (go (eqb (a .marker) (b .marker)) refl (eqb (containerIndex (a .container)) (containerIndex (b .container))) refl)
+  where
+    la : markerIndex (a .marker) < 3
+    la = index-low (a .marker)
+
+    lb : markerIndex (b .marker) < 3
+    lb = index-low (b .marker)
+
+    go : (x : Bool) → eqb (a .marker) (b .marker) ≡ x → (y : Bool) → eqb (containerIndex (a .container)) (containerIndex (b .container)) ≡ y
+        → eqb (3 * containerIndex (a .container) + markerIndex (a .marker)) (3 * containerIndex (b .container) + markerIndex (b .marker))
+        ≡ and (eqb (a .marker) (b .marker)) (eqb (containerIndex (a .container)) (containerIndex (b .container)))
+    go true e true f =
+        let m : markerIndex (a .marker) ≡ markerIndex (b .marker) = ap markerIndex (eqb-true (a .marker) (b .marker) e) in
+        let k : containerIndex (a .container) ≡ containerIndex (b .container) = eqb-true (containerIndex (a .container)) (containerIndex (b .container)) f in
+        rw (e, f) (eq-eqb (3 * containerIndex (a .container) + markerIndex (a .marker)) (3 * containerIndex (b .container) + markerIndex (b .marker)) (omega arith))
+    go true e false f =
+        let k : containerIndex (a .container) ≡ containerIndex (b .container) → ⊥ = eqb-false (containerIndex (a .container)) (containerIndex (b .container)) f in
+        rw (e, f) (ne-eqb (3 * containerIndex (a .container) + markerIndex (a .marker)) (3 * containerIndex (b .container) + markerIndex (b .marker)) (λ x. k (omega (arith, la, lb))))
+    go false e y f =
+        let k : markerIndex (a .marker) ≡ markerIndex (b .marker) → ⊥ = λ x. eqb-false (a .marker) (b .marker) e (index-same (a .marker) (b .marker) ka kb x) in
+        rw e (ne-eqb (3 * containerIndex (a .container) + markerIndex (a .marker)) (3 * containerIndex (b .container) + markerIndex (b .marker)) (λ x. k (omega (arith, la, lb))))
+
+-- the plain rule's candidates for a closer are the runs on its chain
+pub candidate-on : (rs : List Standing) (j i : ℕ) → isMarker (at rs j .marker) ≡ true → isMarker (at rs i .marker) ≡ true
+    → candidate (at rs j) (at rs i) ≡ on rs (chainNumber (at rs i)) j
+unfolding candidate on
+candidate-on rs j i kj ki = rw (chain-same (at rs j) (at rs i) kj ki)
