@@ -36,3 +36,22 @@ module _ (s : List ℕ) (at v : ℕ) where
   pub get-set-other : (b : ℕ) → (b ≡ at → ⊥) → (b + 1 ≡ at → ⊥) → get16 (set s at v) b ≡ get16 s b
   unfolding get16
   get-set-other b n1 n2 = simp (getD-set-other s at b v 0 n1, getD-set-other s at (b + 1) v 0 n2)
+
+-- the same laws where that two words do not meet is asked once: neither is wholly before the other
+abbrev pub Apart : ℕ → ℕ → Type 0
+Apart a b = ((a + 1 < b) → ⊥) → ((b + 1 < a) → ⊥) → ⊥
+
+-- a byte does not stand in a word
+abbrev pub Beside : ℕ → ℕ → Type 0
+Beside a b = ((a < b) → ⊥) → ((b + 1 < a) → ⊥) → ⊥
+
+module _ (s : List ℕ) (at v : ℕ) where
+  pub word-after-word : (b : ℕ) → Apart b at → get16 (put16 s at v) b ≡ get16 s b
+  word-after-word b h = get-put-other s at v b (λ e. h (λ x. omega arith) (λ x. omega arith)) (λ e. h (λ x. omega arith) (λ x. omega arith)) (λ e. h (λ x. omega arith) (λ x. omega arith))
+
+  -- a byte beside a written word, a word beside a written byte
+  pub byte-after-word : (b : ℕ) → Beside b at → getD (put16 s at v) b 0 ≡ getD s b 0
+  byte-after-word b h = byte-put-other s at v b (λ e. h (λ x. omega arith) (λ x. omega arith)) (λ e. h (λ x. omega arith) (λ x. omega arith))
+
+  pub word-after-byte : (b : ℕ) → Beside at b → get16 (set s at v) b ≡ get16 s b
+  word-after-byte b h = get-set-other s at v b (λ e. h (λ x. omega arith) (λ x. omega arith)) (λ e. h (λ x. omega arith) (λ x. omega arith))

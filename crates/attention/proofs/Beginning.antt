@@ -1,0 +1,104 @@
+-- From the load pass to the matcher: with the runs in their slots and every chain empty, the matcher can begin.
+-- Assumes nothing.
+use mathlib.Core.Path.{_≡_, refl, sym, ap, _∙_}
+use mathlib.Core.Bool.{Bool, true, false, not}
+use mathlib.Core.List.{List, [], _∷_, map}
+use mathlib.Core.Option.{Option, none, some}
+use Prim.Native.Nat.{ℕ, _+_, _*_, _≤_, _<_}
+use native.Mathlib.Omega.{arith}
+use lib.Dec.{eqb}
+use lib.ListN.{length, getD, length-map}
+use Rattle.record.specs.Choice.{choose}
+use Rattle.record.specs.declared.event.Event.{Event}
+use Rattle.runs.specs.Runs.{runsOf}
+use Rattle.runs.specs.Rule.{crate}
+use Rattle.runs.specs.Plain.{Standing, at, Group}
+use Rattle.runs.specs.Pieces.{standing}
+use Rattle.slots.specs.Words.{get16}
+use Rattle.slots.specs.Layout.{Room, linkOf, chainOf}
+use Rattle.groups.specs.Matches.{begin}
+use Rattle.loading.specs.Chains.{containerNumber, markerNumber, chainNumber as loadedNumber}
+use Rattle.loading.specs.Held.{Slotted}
+use Rattle.loading.specs.Promise.{Ready as Loaded}
+use Rattle.matcher.specs.Chains.{markerIndex, containerIndex, chainNumber, Reads, latest, openers, Listed}
+use Rattle.matcher.specs.Groups.{firstClosed, lastOpened, Grouped}
+use Rattle.matcher.specs.State.{Ready}
+use Rattle.attention.specs.Start.{Cleared}
+
+-- both crates number the chains alike
+same-container : (o : Option ℕ) → containerNumber o ≡ containerIndex o
+unfolding containerIndex
+same-container none = refl
+same-container (some k) = refl
+
+same-number : (r : Standing) → loadedNumber r ≡ chainNumber r
+unfolding loadedNumber chainNumber markerNumber markerIndex
+same-number r = ap (λ (k : ℕ). 3 * k + choose (eqb (r .marker) 42) 0 (choose (eqb (r .marker) 95) 1 2)) (same-container (r .container))
+
+module _ {options : ℕ} {doc : List ℕ} {es : List Event} {n : ℕ} {w w′ : List ℕ} (room : Room w) (l : Loaded doc es options n w) (c : Cleared w 6147 w′) where
+  pair-kept : (b : ℕ) → b + 1 < 16384 → get16 w′ b ≡ get16 w b
+  unfolding get16
+  pair-kept b h =
+      let x : getD w′ b 0 ≡ getD w b 0 = c .slots b (omega arith) in
+      let y : getD w′ (b + 1) 0 ≡ getD w (b + 1) 0 = c .slots (b + 1) h in
+      cc
+
+  flag-kept : (b : ℕ) → b < 16384 → not (eqb (getD w′ b 0) 0) ≡ not (eqb (getD w b 0) 0)
+  flag-kept b h = ap (λ (x : ℕ). not (eqb x 0)) (c .slots b h)
+
+  long : length (begin crate options doc es) ≡ n
+  long = length-map (runsOf doc es) (standing crate options) ∙ sym (l .count)
+
+  slot : (j : ℕ) → j < n → Slotted w j (at (begin crate options doc es) j)
+  slot j h = l .holds .slots j (omega (arith, long))
+
+  low : (j : ℕ) → j < n → j < 1024
+  low j h = omega (arith, l .few)
+
+  pub begins : Ready w′ 0 (begin crate options doc es) [] n 0
+  unfolding latest openers firstClosed lastOpened
+  begins =
+      let small = l .few in
+      let same = c .same-length in
+      record {
+        room = omega arith;
+        few = l .few;
+        within = omega arith;
+        falls = λ j h.
+            let k : j < 1024 = low j h in
+            let e : linkOf w′ j ≡ 0 = pair-kept (j * 16 + 10) (omega arith) ∙ slot j h .link in
+            omega arith;
+        chains = λ j h.
+            let k : j < 1024 = low j h in
+            let e : chainOf w′ j ≡ chainOf w j = pair-kept (j * 16 + 8) (omega arith) in
+            let f = slot j h .chain-known in
+            omega arith;
+        reads =
+            record {
+              len = long;
+              whole = λ j h. let k : j < 1024 = low j h in pair-kept (j * 16) (omega arith) ∙ slot j h .whole;
+              left = λ j h. let k : j < 1024 = low j h in pair-kept (j * 16 + 2) (omega arith) ∙ slot j h .left;
+              marker = λ j h. let k : j < 1024 = low j h in c .slots (j * 16 + 4) (omega arith) ∙ slot j h .marker;
+              opens = λ j h p. let k : j < 1024 = low j h in flag-kept (j * 16 + 5) (omega arith) ∙ slot j h .opens;
+              closes = λ j h. let k : j < 1024 = low j h in flag-kept (j * 16 + 6) (omega arith) ∙ slot j h .closes;
+              chain = λ j h. let k : j < 1024 = low j h in pair-kept (j * 16 + 8) (omega arith) ∙ slot j h .chain ∙ same-number (at (begin crate options doc es) j);
+              known = λ j h. slot j h .marked;
+            };
+        listed =
+            record {
+              heads = λ k h. c .heads k h;
+              links = λ j h p. absurd (omega arith);
+              high = refl;
+              stack = λ j h p. absurd (omega arith);
+            };
+        grouped =
+            record {
+              opener = λ g h. absurd (omega arith);
+              closer = λ g h. absurd (omega arith);
+              taken = λ g h. absurd (omega arith);
+              earlier = λ g h. absurd (omega arith);
+              first = λ q h. let k : q < 1024 = low q h in pair-kept (q * 16 + 12) (omega arith) ∙ slot q h .first-group;
+              latest = λ q h. let k : q < 1024 = low q h in pair-kept (q * 16 + 14) (omega arith) ∙ slot q h .latest-group;
+              fits = omega arith;
+            };
+      }

@@ -1,0 +1,9 @@
+pub mod Offenders
+pub mod Exactly
+pub mod Heads
+pub mod Bridging
+pub mod Beginning
+pub mod Sizes
+pub mod Counting
+pub mod Endings
+pub mod Calls

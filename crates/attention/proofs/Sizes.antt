@@ -1,0 +1,103 @@
+-- How many events come out: the runs that have no marker left are the definition's emptied runs, and document 01's formula is the length of
+-- the output.
+-- Assumes nothing.
+use mathlib.Core.Path.{_≡_, refl, sym, ap, _∙_}
+use mathlib.Core.Bool.{Bool, true, false}
+use mathlib.Core.List.{List, [], _∷_}
+use Prim.Native.Nat.{ℕ, zero, suc, _+_, _*_, _-_, _≤_, _<_}
+use native.Mathlib.Omega.{arith}
+use lib.Dec.{eqb, ltb}
+use lib.ListN.{length, getD, drop}
+use lib.Seq.{drop-cons, drop-length}
+use borrow.Author.Tests.{eqb-true, eqb-false, eq-eqb, ne-eqb, lt-ltb, le-ltb}
+use Rattle.record.specs.Choice.{choose}
+use Rattle.record.specs.Event.{documentOf, eventsOf}
+use Rattle.record.specs.declared.event.Event.{Event}
+use Rattle.record.proofs.Parts.{length-document}
+use Rattle.record.proofs.Sections.{length-eventsAt}
+use Rattle.runs.specs.Runs.{Run, runsOf}
+use Rattle.runs.specs.Rule.{crate}
+use Rattle.runs.specs.Plain.{Group}
+use Rattle.runs.specs.Pieces.{outcome, closed, opened, remains}
+use Rattle.runs.specs.Output.{noRun, output, emptied, resultSize}
+use Rattle.slots.specs.Layout.{leftOf}
+use Rattle.output.specs.Accepted.{Accepted}
+use Rattle.output.proofs.ResultSize.{size-of-output, emptied-few}
+use Rattle.attention.specs.Result.{emptiedFrom, Matched}
+use Rattle.attention.proofs.Bridging.{left-of-run}
+
+-- a run remains just where its slot has markers left
+remains-left : (gs : List Group) (q : ℕ) (r : Run) (left : ℕ) → left + closed gs q + opened gs q ≡ r .size → eqb left 0 ≡ true → remains gs q r ≡ false
+unfolding remains
+remains-left gs q r left e z =
+    let k : left ≡ 0 = eqb-true _ _ z in
+    le-ltb (r .start + closed gs q) (r .start + r .size - opened gs q) (omega arith)
+
+above : (x : ℕ) → (x ≡ 0 → ⊥) → 0 < x
+above zero h = absurd (h refl)
+above (suc x) h = omega arith
+
+remains-some : (gs : List Group) (q : ℕ) (r : Run) (left : ℕ) → left + closed gs q + opened gs q ≡ r .size → eqb left 0 ≡ false → remains gs q r ≡ true
+unfolding remains
+remains-some gs q r left e z =
+    let k : 0 < left = above left (eqb-false _ _ z) in
+    lt-ltb (r .start + closed gs q) (r .start + r .size - opened gs q) (omega arith)
+
+-- one run counted, by its slot and by the groups
+one-counted : (gs : List Group) (q : ℕ) (r : Run) (left rest rest′ : ℕ) → left + closed gs q + opened gs q ≡ r .size → rest ≡ rest′ →
+    choose (eqb left 0) (rest + 1) rest ≡ choose (remains gs q r) rest′ (1 + rest′)
+unfolding choose
+one-counted gs q r left rest rest′ e on = go (eqb left 0) refl
+  where
+    go : (z : Bool) → eqb left 0 ≡ z → choose (eqb left 0) (rest + 1) rest ≡ choose (remains gs q r) rest′ (1 + rest′)
+    go true t = rw (t, remains-left gs q r left e t) (omega arith)
+    go false t = rw (t, remains-some gs q r left e t) on
+
+-- counted over the slots, and over the runs
+emptied-on : (w : List ℕ) (gs : List Group) (rs : List Run) (m q : ℕ) → q + m ≡ length rs →
+    ((j : ℕ) → j < length rs → leftOf w j + closed gs j + opened gs j ≡ getD rs j noRun .size) → emptiedFrom m w q ≡ emptied gs q (drop q rs)
+unfolding emptiedFrom emptied
+emptied-on w gs rs zero q h f =
+    let e : q ≡ length rs = omega arith in
+    rw (e, drop-length rs)
+emptied-on w gs rs (suc m) q h f =
+    let l : q < length rs = omega arith in
+    let s : suc q ≡ q + 1 = omega arith in
+    let on : emptiedFrom m w (q + 1) ≡ emptied gs (q + 1) (drop (suc q) rs) = emptied-on w gs rs m (q + 1) (omega arith) f ∙ ap (λ (x : ℕ). emptied gs (q + 1) (drop x rs)) (sym s) in
+    one-counted gs q (getD rs q noRun) (leftOf w q) (emptiedFrom m w (q + 1)) (emptied gs (q + 1) (drop (suc q) rs)) (f q l) on
+    ∙ ap (λ (k : List Run). emptied gs q k) (sym (drop-cons rs q noRun l))
+
+module _ {s : List ℕ} {d e options n groups tried : ℕ} {w : List ℕ} (m : Matched s d e options n groups tried w) where
+  doc : List ℕ
+  doc = documentOf s d
+
+  accepted-record : Accepted 64 options (documentOf s d) (eventsOf s d e)
+  accepted-record =
+      let whole = m .whole in
+      let l : length (documentOf s d) ≡ d = length-document s d (omega arith) in
+      record { events = rw l (m .sound-events); shapes = m .none-offends }
+
+  pub emptied-same : emptiedFrom n w 0 ≡ emptied (outcome crate options (documentOf s d) (eventsOf s d e) .groups) 0 (runsOf (documentOf s d) (eventsOf s d e))
+  emptied-same =
+      let count = m .count in
+      emptied-on w (outcome crate options (documentOf s d) (eventsOf s d e) .groups) (runsOf (documentOf s d) (eventsOf s d e)) n 0 (omega arith)
+      (λ j h. left-of-run options (documentOf s d) (eventsOf s d e) (m .room) (m .count) (m .few) (m .made) j (omega arith))
+
+  events-long : length (eventsOf s d e) ≡ e
+  unfolding eventsOf
+  events-long = length-eventsAt e s (8 + d)
+
+  -- twice the emptied runs are no more than the events
+  pub emptied-within : 2 * emptiedFrom n w 0 ≤ e
+  emptied-within =
+      let a = emptied-few crate options (documentOf s d) (eventsOf s d e) 64 accepted-record in
+      omega (arith, emptied-same, events-long)
+
+  -- document 01's formula
+  pub size-same : e - 2 * emptiedFrom n w 0 + 8 * groups ≡ length (output crate options (documentOf s d) (eventsOf s d e))
+  unfolding resultSize
+  size-same =
+      let a : length (output crate options (documentOf s d) (eventsOf s d e)) ≡ resultSize crate options (documentOf s d) (eventsOf s d e) =
+      size-of-output crate options (documentOf s d) (eventsOf s d e) 64 accepted-record in
+      let b : groups ≡ length (outcome crate options (documentOf s d) (eventsOf s d e) .groups) = m .made .made in
+      omega (arith, emptied-same, events-long)

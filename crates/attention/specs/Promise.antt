@@ -1,0 +1,57 @@
+-- What the public call promises.
+-- Assumes nothing.
+use Prim.Native.Nat.{ℕ}
+use mathlib.Core.Path.{_≡_}
+use mathlib.Core.List.{List}
+use lib.ListN.{length}
+use Rattle.record.specs.Event.{documentOf, eventsOf}
+use Rattle.record.specs.Check.{admitted}
+use Rattle.record.specs.Rows.{documentCount, eventCount}
+use Rattle.record.specs.Outcome.{Outcome, accepted, refused, settled, outcome, onto, bytesWritten}
+use Rattle.record.specs.declared.event.Event.{Event}
+use Rattle.record.specs.Promise.{Writes}
+use Rattle.runs.specs.Rule.{crate}
+use Rattle.runs.specs.Pieces.{outcome as matching}
+use Rattle.attention.specs.Attention.{attention}
+use Rattle.attention.specs.declared.call.Answer.{Answer}
+use Rattle.attention.specs.declared.call.Answer.the-variants.{Resolved, Refused}
+
+-- what a call comes to, of the record, the options and the lengths of the output and of the work memory
+unfoldable pub resolution : List ℕ → ℕ → ℕ → ℕ → Outcome
+resolution s options outs works = outcome (admitted s options works) (λ d e. attention options (documentOf s d) (eventsOf s d e)) outs
+
+-- what it then answers, of the document and the events: the events written, the groups of the plain rule, and "exactly the candidates that
+-- rule counts as tried"
+abbrev pub answerAt : ℕ → List ℕ → List Event → Outcome → Answer
+answerAt options doc es (accepted rs) = Resolved (length rs) (length (matching crate options doc es .groups)) (matching crate options doc es .tried)
+answerAt options doc es (refused r) = Refused r
+
+-- the same of the record
+abbrev pub answerOf : List ℕ → ℕ → Outcome → Answer
+answerOf s options = answerAt options (documentOf s (documentCount s)) (eventsOf s (documentCount s) (eventCount s))
+
+-- the answer and the output, of a good record with the counts d and e
+pub record Made (s : List ℕ) (d e options : ℕ) (out : List ℕ) (r : Answer) (out′ : List ℕ) : Type 0 where
+  pub answer : r ≡ answerAt options (documentOf s d) (eventsOf s d e) (settled d (attention options (documentOf s d) (eventsOf s d e)) (length out))
+  pub output : out′ ≡ onto (bytesWritten (settled d (attention options (documentOf s d) (eventsOf s d e)) (length out))) out
+
+-- the same of any record, with work memory of `works` bytes
+pub record Answered (s : List ℕ) (options : ℕ) (out : List ℕ) (works : ℕ) (r : Answer) (out′ : List ℕ) : Type 0 where
+  pub answer : r ≡ answerOf s options (resolution s options (length out) works)
+  pub output : out′ ≡ onto (bytesWritten (resolution s options (length out) works)) out
+
+-- the whole promise, that of every call that writes: r is answered, and out′ and work′ are what the two buffers then hold
+abbrev pub Promise : List ℕ → ℕ → List ℕ → List ℕ → Answer → List ℕ → List ℕ → Type 0
+Promise s options out work r out′ work′ = Writes (resolution s options) (answerOf s options) out work r out′ work′
+
+-- document 01's numbers of an answer: "A refusal returns its number and place, all else zero"
+pub record Numbers : Type 0 where
+  pub number : ℕ
+  pub place : ℕ
+  pub events : ℕ
+  pub groups : ℕ
+  pub tried : ℕ
+
+abbrev pub numbersOf : Answer → Numbers
+numbersOf (Resolved n g t) = record { number = 0; place = 0; events = n; groups = g; tried = t }
+numbersOf (Refused r) = record { number = r .number; place = r .place; events = 0; groups = 0; tried = 0 }
