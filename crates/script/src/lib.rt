@@ -5,10 +5,12 @@
 //     x0d          one byte in hex; x0d*7 is seven of them
 //     +1@0 -1@1    an event: enter (+) or exit (-), its name and its place
 //     =9           the last sixteen bytes, two events, nine times more
+//     ^2*9         the same, each time with the places of both two further on
 //
 // A word that is none of these spells nothing. Bytes that do not fit the lent buffer are dropped.
 
 use record::bytes::put_u32;
+use record::event::event_at;
 use record::event::put_event;
 ghost use Prim.Native.Nat.{_+_, _≤_, _<_};
 ghost use lib.ListN.{length};
@@ -132,6 +134,27 @@ fn repeat(out: &mut [u8], k: usize, n: usize) -> usize
     at
 }
 
+// The two events in the sixteen bytes before k, n times more from k on, each time `step` places further, as far as they fit; the place after.
+fn march(out: &mut [u8], k: usize, step: usize, n: usize) -> usize
+    requires { ⌜ (16 ≤ k) × (k ≤ length (now out)) × (step < 1000000000010) ⌝ }
+    ensures { λ r. ⌜ r ≤ length (now (out .exit)) ⌝ }
+{
+    let mut at = k;
+    let mut left = n;
+    while left > 0 {
+        if out.len() - at < 16 {
+            return at;
+        }
+        let first = event_at(out, at - 16);
+        let second = event_at(out, at - 8);
+        put_event(out, at, first.kind, first.name, first.place + step);
+        put_event(out, at + 8, second.kind, second.name, second.place + step);
+        at += 16;
+        left -= 1;
+    }
+    at
+}
+
 // One word, which stands in s from a place up to another, spelled into out from k on; the place after its bytes.
 fn word(out: &mut [u8], k: usize, s: &[u8], from: usize, to: usize) -> usize
     requires { ⌜ (k ≤ length (now out)) × (from < to) × (to ≤ length (now s)) ⌝ }
@@ -160,6 +183,16 @@ fn word(out: &mut [u8], k: usize, s: &[u8], from: usize, to: usize) -> usize
             return k;
         }
         return repeat(out, k, number(s, from + 1));
+    }
+    if first == b'^' {
+        if k < 16 {
+            return k;
+        }
+        let times = find(s, from, b'*');
+        if times >= to {
+            return k;
+        }
+        return march(out, k, number(s, from + 1), number(s, times + 1));
     }
     let mut kind = 0;
     if first == b'-' {
