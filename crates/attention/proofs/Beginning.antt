@@ -2,7 +2,7 @@
 -- Assumes nothing.
 use mathlib.Core.Path.{_≡_, refl, sym, ap, _∙_}
 use mathlib.Core.Bool.{Bool, true, false, not}
-use mathlib.Core.List.{List, [], _∷_, map}
+use mathlib.Core.List.{List}
 use mathlib.Core.Option.{Option, none, some}
 use Prim.Native.Nat.{ℕ, _+_, _*_, _≤_, _<_}
 use native.Mathlib.Omega.{arith}
@@ -12,7 +12,7 @@ use Rattle.record.specs.Choice.{choose}
 use Rattle.record.specs.declared.event.Event.{Event}
 use Rattle.runs.specs.Runs.{runsOf}
 use Rattle.runs.specs.Rule.{crate}
-use Rattle.runs.specs.Plain.{Standing, at, Group}
+use Rattle.runs.specs.Plain.{Standing, at}
 use Rattle.runs.specs.Pieces.{standing}
 use Rattle.slots.specs.Words.{get16}
 use Rattle.slots.specs.Layout.{Room, linkOf, chainOf}
@@ -20,9 +20,8 @@ use Rattle.groups.specs.Matches.{begin}
 use Rattle.loading.specs.Chains.{containerNumber, markerNumber, chainNumber as loadedNumber}
 use Rattle.loading.specs.Held.{Slotted}
 use Rattle.loading.specs.Promise.{Ready as Loaded}
-use Rattle.matcher.specs.Chains.{markerIndex, containerIndex, chainNumber, Reads, latest, openers, Listed}
-use Rattle.matcher.specs.Groups.{firstClosed, lastOpened, Grouped}
-use Rattle.matcher.specs.State.{Ready}
+use Rattle.matcher.specs.Chains.{markerIndex, containerIndex, chainNumber, Reads}
+use Rattle.matcher.specs.State.{Fresh}
 use Rattle.attention.specs.Start.{Cleared}
 
 -- both crates number the chains alike
@@ -55,15 +54,13 @@ module _ {options : ℕ} {doc : List ℕ} {es : List Event} {n : ℕ} {w w′ : 
   low : (j : ℕ) → j < n → j < 1024
   low j h = omega (arith, l .few)
 
-  pub begins : Ready w′ 0 (begin crate options doc es) [] n 0
-  unfolding latest openers firstClosed lastOpened
+  pub begins : Fresh w′ (begin crate options doc es) n
   begins =
       let small = l .few in
       let same = c .same-length in
       record {
         room = omega arith;
         few = l .few;
-        within = omega arith;
         falls = λ j h.
             let k : j < 1024 = low j h in
             let e : linkOf w′ j ≡ 0 = pair-kept (j * 16 + 10) (omega arith) ∙ slot j h .link in
@@ -84,21 +81,7 @@ module _ {options : ℕ} {doc : List ℕ} {es : List Event} {n : ℕ} {w w′ : 
               chain = λ j h. let k : j < 1024 = low j h in pair-kept (j * 16 + 8) (omega arith) ∙ slot j h .chain ∙ same-number (at (begin crate options doc es) j);
               known = λ j h. slot j h .marked;
             };
-        listed =
-            record {
-              heads = λ k h. c .heads k h;
-              links = λ j h p. absurd (omega arith);
-              high = refl;
-              stack = λ j h p. absurd (omega arith);
-            };
-        grouped =
-            record {
-              opener = λ g h. absurd (omega arith);
-              closer = λ g h. absurd (omega arith);
-              taken = λ g h. absurd (omega arith);
-              earlier = λ g h. absurd (omega arith);
-              first = λ q h. let k : q < 1024 = low q h in pair-kept (q * 16 + 12) (omega arith) ∙ slot q h .first-group;
-              latest = λ q h. let k : q < 1024 = low q h in pair-kept (q * 16 + 14) (omega arith) ∙ slot q h .latest-group;
-              fits = omega arith;
-            };
+        heads = c .heads;
+        first = λ q h. let k : q < 1024 = low q h in pair-kept (q * 16 + 12) (omega arith) ∙ slot q h .first-group;
+        latest = λ q h. let k : q < 1024 = low q h in pair-kept (q * 16 + 14) (omega arith) ∙ slot q h .latest-group;
       }

@@ -34,7 +34,7 @@ use Rattle.loading.specs.Promise.{Loadable, Ready, Loads}
 use Rattle.loading.proofs.Asked.{loadable}
 use Rattle.loading.specs.declared.pass.Loaded.{Loaded}
 use Rattle.loading.specs.declared.pass.Loaded.the-variants.{Runs, Offends}
-use Rattle.matcher.specs.Walk.{ruleFor}
+use Rattle.chains.specs.Walk.{ruleFor}
 use Rattle.matcher.specs.Promise.{GroupsOf, Answers, Answered as Matching, Loaded as Begun}
 use Rattle.matcher.specs.declared.closers.Found.{Found}
 use Rattle.matcher.specs.declared.closers.Found.the-variants.{Groups, TooMany}
@@ -101,7 +101,7 @@ of-many rule rs n found w q a = rw q at a
 -- the runs in their slots, the chains emptied, and what the matcher then answers
 module _ {s : List ℕ} {d e options n : ℕ} {w w′ : List ℕ} (g : Loadable s d e w) (l : Ready (documentOf s d) (eventsOf s d e) options n w) (c : Cleared w 6147 w′) where
   pub begun : Begun w′ n
-  begun = record { runs = begin crate options (documentOf s d) (eventsOf s d e); ready = begins (g .room) l c }
+  begun = record { runs = begin crate options (documentOf s d) (eventsOf s d e); fresh = begins (g .room) l c }
 
   module _ (single : Bool) (found : Found) (w″ : List ℕ) (single-is : single ≡ optionOn options 4) (a : Answers (ruleFor single) w′ n found w″) where
     answered : Matching (ruleFor (optionOn options 4)) (begin crate options (documentOf s d) (eventsOf s d e)) n found w″

@@ -19,10 +19,10 @@ use Rattle.slots.specs.Words.{get16, put16}
 use Rattle.slots.specs.Layout.{leftOf, opensOf, linkOf, headOf, chainOf, openAt}
 use Rattle.slots.proofs.Laws.{Apart, Beside}
 use Rattle.matcher.specs.Chains.{chainNumber, on, latest, openers, Listed}
-use Rattle.matcher.specs.Step.{unchained, popped, cleared}
+use Rattle.chains.specs.Step.{unchained, popped, cleared}
 use Rattle.matcher.proofs.Lists.{on-opener, on-chain, on-yes, on-not, latest-on, latest-off, latest-shut, latest-level, openers-le, openers-on, openers-off, openers-past, openers-shut, openers-level, Level, level-less, Shut}
 use Rattle.matcher.proofs.Frames.{SameRuns, SameLeft, SameGroups, SameChains, same-runs, runs-then, groups-then, listed-same}
-use Rattle.matcher.proofs.Pops.{cleared-end, cleared-stop, cleared-pop, unchained-word, unchained-own, unchained-other, unchained-length, popped-word, popped-byte, popped-own, popped-head, popped-length, popped-chain, popped-stack}
+use Rattle.chains.proofs.Pops.{cleared-end, cleared-stop, cleared-pop, unchained-word, unchained-own, unchained-other, unchained-length, popped-word, popped-byte, popped-own, popped-head, popped-length, popped-chain, popped-stack}
 
 -- the latest run below b that can open, which is the top of the open runs
 pub record Top (rs : List Standing) (b h : ℕ) : Type 0 where

@@ -21,12 +21,12 @@ use Rattle.runs.specs.Plain.{Standing, Group, at, sideOf, opener, closer, candi
 use Rattle.slots.specs.Words.{get16, put16}
 use Rattle.slots.specs.Layout.{leftOf, markerOf, opensOf, closesOf, linkOf, headOf, chainOf, openAt}
 use Rattle.slots.proofs.Laws.{Apart, Beside}
-use Rattle.matcher.specs.Walk.{down, seek, first, takesAt, bothAt, closing, opening, passed, raised, onward, Sound}
+use Rattle.chains.specs.Walk.{down, seek, first, takesAt, bothAt, closing, opening, passed, raised, onward, Sound}
 use Rattle.matcher.specs.Chains.{chainNumber, on, latest, openers, Reads, Listed}
 use Rattle.matcher.specs.Groups.{Grouped}
 use Rattle.matcher.specs.State.{Ready}
-use Rattle.matcher.proofs.Flags.{passed-on, passed-off, raised-on, raised-off, opening-none, opening-some, closing-none, closing-some}
-use Rattle.matcher.proofs.Steps.{Falls, down-end, down-hit, down-on, passed-word, passed-byte, passed-length, passed-link-same, passed-link-other, passed-head-same, passed-head-other, passed-open-same, passed-open-other, passed-sound}
+use Rattle.chains.proofs.Flags.{passed-on, passed-off, raised-on, raised-off, opening-none, opening-some, closing-none, closing-some}
+use Rattle.chains.proofs.Steps.{Falls, down-end, down-hit, down-on, passed-word, passed-byte, passed-length, passed-link-same, passed-link-other, passed-head-same, passed-head-other, passed-open-same, passed-open-other, passed-sound}
 use Rattle.matcher.proofs.Lists.{on-opener, on-chain, on-yes, on-not, latest-on, latest-off, latest-le, openers-le, openers-on, openers-off, openers-past, candidate-on}
 use Rattle.matcher.proofs.Frames.{SameRuns, SameGroups, same-runs, same-opens, reads-same, grouped-same}
 

@@ -12,9 +12,9 @@ use Rattle.runs.specs.declared.Next.{Next}
 use Rattle.runs.specs.declared.Next.the-variants.{Match, Done}
 use Rattle.runs.specs.Rule.{Rule}
 use Rattle.runs.specs.Plain.{Standing, Group, group, at, forth, takenBy, matched, total}
-use Rattle.matcher.specs.Walk.{onward, Sound}
+use Rattle.chains.specs.Walk.{onward, Sound}
 use Rattle.matcher.specs.State.{Ready}
-use Rattle.matcher.specs.Step.{matchedAt, Takable}
+use Rattle.chains.specs.Step.{matchedAt, Takable}
 use Rattle.matcher.specs.Closer.{Finish, finish, closerFrom}
 use Rattle.matcher.specs.declared.closers.Step.the-variants.{Closed, Full}
 use Rattle.matcher.specs.Promise.{Begun, ClosedAs, Handled, Handles}

@@ -17,9 +17,9 @@ use Rattle.runs.specs.Plain.{Group, group}
 use Rattle.slots.specs.Words.{get16, put16}
 use Rattle.slots.specs.Layout.{groupOpener, groupCloser, groupTaken, groupEarlier, firstGroupOf, latestGroupOf, withGroup, withLatestGroup, withFirstGroup}
 use Rattle.slots.proofs.Laws.{Apart, Beside, length-put, get-put-same, word-after-word, byte-after-word}
-use Rattle.matcher.specs.Step.{joined}
+use Rattle.chains.specs.Step.{joined}
 use Rattle.matcher.specs.Groups.{groupAt, firstClosed, lastOpened, Grouped}
-use Rattle.matcher.proofs.Pops.{joined-first, joined-later}
+use Rattle.chains.proofs.Pops.{joined-first, joined-later}
 
 module _ (w : List ℕ) (g o c k : ℕ) where
   abbrev at₀ : ℕ

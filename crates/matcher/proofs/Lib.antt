@@ -1,9 +1,6 @@
-pub mod Flags
-pub mod Steps
 pub mod Lists
 pub mod Frames
 pub mod Chained
-pub mod Pops
 pub mod Matched
 pub mod Between
 pub mod Joins
@@ -11,3 +8,4 @@ pub mod Taken
 pub mod Rounds
 pub mod Handling
 pub mod Resolving
+pub mod Rising

@@ -16,7 +16,7 @@ use Rattle.record.proofs.Bools.{and-left, and-right, and-both, and-false, clash
 use Rattle.runs.specs.Plain.{Standing, at, opener, closer, amount, takenBy, alter, change, matched, total}
 use Rattle.matcher.specs.Chains.{chainNumber}
 use Rattle.matcher.proofs.Lists.{Level, Shut}
-use Rattle.matcher.proofs.Pops.{amount-le}
+use Rattle.chains.proofs.Pops.{amount-le}
 
 -- a run of an altered list
 at-alter : (f : ℕ → Standing → Standing) (j : ℕ) (rs : List Standing) (q : ℕ) → q < length rs → at (alter j f rs) q ≡ f (j + q) (at rs q)

@@ -11,10 +11,36 @@ use Rattle.runs.specs.Plain.{Standing, Group, Outcome, rounds, total, plain}
 use Rattle.matcher.specs.declared.closers.Step.{Step}
 use Rattle.matcher.specs.declared.closers.Step.the-variants.{Closed, Full}
 use Rattle.matcher.specs.declared.closers.Found.the-variants.{Groups, TooMany}
-use Rattle.matcher.specs.State.{Ready}
+use Rattle.matcher.specs.Chains.{latest, openers}
+use Rattle.matcher.specs.Groups.{firstClosed, lastOpened}
+use Rattle.matcher.specs.State.{Fresh, Ready}
 use Rattle.matcher.specs.Closer.{Finish, finish, closerFrom}
 use Rattle.matcher.specs.Promise.{Begun, ClosedAs, Handled, Handles, Loaded, GroupsOf, Answered, Answers}
 use Rattle.matcher.proofs.Rounds.{rounds-finish, rounds-longer, rounds-end}
+
+-- before the first match all is ready at the first run
+pub fresh-ready : (w : List ℕ) (rs : List Standing) (n : ℕ) → Fresh w rs n → Ready w 0 rs [] n 0
+unfolding latest openers firstClosed lastOpened
+fresh-ready w rs n f =
+    record {
+      room = f .room;
+      few = f .few;
+      within = omega arith;
+      falls = f .falls;
+      chains = f .chains;
+      reads = f .reads;
+      listed = record { heads = f .heads; links = λ j h o. absurd (omega arith); high = refl; stack = λ j h o. absurd (omega arith) };
+      grouped =
+          record {
+            opener = λ g h. absurd (omega arith);
+            closer = λ g h. absurd (omega arith);
+            taken = λ g h. absurd (omega arith);
+            earlier = λ g h. absurd (omega arith);
+            first = f .first;
+            latest = f .latest;
+            fits = omega arith;
+          };
+    }
 
 pub record Resolving (rule : Rule) (rs : List Standing) (n : ℕ) (w : List ℕ) (from height groups tried : ℕ) : Type 0 where
   pub runs : List Standing
@@ -25,17 +51,17 @@ pub record Resolving (rule : Rule) (rs : List Standing) (n : ℕ) (w : List ℕ)
   pub few : tried ≤ (groups + from) * 1048576
 
 pub record Resolves (rule : Rule) (w₀ : List ℕ) (n : ℕ) (w : List ℕ) (from height groups tried : ℕ) : Type 0 where
-  pub of : (rs : List Standing) → Ready w₀ 0 rs [] n 0 → Resolving rule rs n w from height groups tried
+  pub of : (rs : List Standing) → Fresh w₀ rs n → Resolving rule rs n w from height groups tried
   pub len : length w ≡ length w₀
 
 pub resolve-start : {rule : Rule} {w : List ℕ} {n : ℕ} → Resolves rule w n w 0 0 0 0
 unfolding plain
 resolve-start {rule} {w} {n} =
-    record { of = λ rs r. record { runs = rs; made = []; ready = r; size = refl; same = refl; few = omega arith }; len = refl }
+    record { of = λ rs r. record { runs = rs; made = []; ready = fresh-ready w rs n r; size = refl; same = refl; few = omega arith }; len = refl }
 
 pub resolve-loaded : {rule : Rule} {w₀ : List ℕ} {n : ℕ} {w : List ℕ} {from height groups tried : ℕ} → Resolves rule w₀ n w from height groups tried → (l : Loaded w₀ n)
     → Resolving rule (l .runs) n w from height groups tried
-resolve-loaded k l = k .of (l .runs) (l .ready)
+resolve-loaded k l = k .of (l .runs) (l .fresh)
 
 module _ {rule : Rule} {rs : List Standing} {n : ℕ} {w : List ℕ} {from height groups tried : ℕ} (g : Resolving rule rs n w from height groups tried) where
   pub resolve-begun : from < n → Begun w height n from groups tried

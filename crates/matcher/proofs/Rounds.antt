@@ -25,7 +25,7 @@ use Rattle.runs.specs.Plain.{Standing, Group, group, at, opener, closer, candid
 use Rattle.matcher.specs.Closer.{Finish, finish}
 use Rattle.matcher.proofs.Chained.{opener-left, closer-left, forth-suc, back-suc, back-zero}
 use Rattle.matcher.proofs.Matched.{matched-length, left-le, left-closer}
-use Rattle.matcher.proofs.Pops.{amount-le}
+use Rattle.chains.proofs.Pops.{amount-le}
 
 -- two answers of a search are never both
 hit-miss : {o u t : ℕ} → hit o u ≡ miss t → ⊥

@@ -21,11 +21,11 @@ use Rattle.slots.proofs.Laws.{Apart, Beside, length-put, get-put-same, word-aft
 use Rattle.matcher.specs.Chains.{chainNumber, openers, Reads, Listed}
 use Rattle.matcher.specs.Groups.{Grouped}
 use Rattle.matcher.specs.State.{Ready}
-use Rattle.matcher.specs.Step.{unchained, cleared, leaves, lowered, joined, takenAt, matchedAt, Ranged, Takable}
+use Rattle.chains.specs.Step.{unchained, cleared, leaves, lowered, joined, takenAt, matchedAt, Ranged, Takable}
 use Rattle.matcher.proofs.Lists.{openers-on, openers-past, openers-le, Level, Shut}
 use Rattle.matcher.proofs.Frames.{SameRuns, SameLeft, SameGroups, SameChains, same-runs, runs-then, groups-then, grouped-same, listed-same}
 use Rattle.matcher.proofs.Chained.{opener-left, closer-left}
-use Rattle.matcher.proofs.Pops.{amount-le, unchained-word, unchained-byte, unchained-length, leaves-on, leaves-off, lowered-on, lowered-off}
+use Rattle.chains.proofs.Pops.{amount-le, unchained-word, unchained-byte, unchained-length, leaves-on, leaves-off, lowered-on, lowered-off}
 use Rattle.matcher.proofs.Matched.{matched-length, whole-same, marker-same, closes-same, chain-kept, left-own, left-closer, left-other, left-le, opens-between, opens-before, opens-after, level-low, level-own, shut-between, shut-own}
 use Rattle.matcher.proofs.Between.{Top, top, Clears, cleared-clears, listed-unchained, listed-move}
 use Rattle.matcher.proofs.Joins.{joined-word, joined-byte, joined-length, joined-grouped}

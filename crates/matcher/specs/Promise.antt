@@ -4,7 +4,7 @@
 -- Assumes nothing.
 use Prim.Native.Nat.{ℕ, _+_, _*_, _<_, _≤_}
 use mathlib.Core.Path.{_≡_}
-use mathlib.Core.List.{List, []}
+use mathlib.Core.List.{List}
 use lib.ListN.{length}
 use Rattle.runs.specs.Rule.{Rule}
 use Rattle.runs.specs.Plain.{Standing, Group, Outcome, plain}
@@ -14,7 +14,7 @@ use Rattle.matcher.specs.declared.closers.Found.{Found}
 use Rattle.matcher.specs.declared.closers.Found.the-variants.{Groups, TooMany}
 use Rattle.matcher.specs.Chains.{Reads, Listed}
 use Rattle.matcher.specs.Groups.{Grouped}
-use Rattle.matcher.specs.State.{Ready}
+use Rattle.matcher.specs.State.{Fresh, Ready}
 use Rattle.matcher.specs.Closer.{Finish, closerFrom}
 
 -- there is a run to go on from, and some runs and groups that the memory has; so few were tried that the count does not run over
@@ -43,10 +43,10 @@ Handled rule rs gs n from t Full w = 1000 < length (closerFrom rule rs from gs t
 pub record Handles (rule : Rule) (w : List ℕ) (height n from groups tried : ℕ) (step : Step) (w′ : List ℕ) : Type 0 where
   pub of : (rs : List Standing) (gs : List Group) → Ready w height rs gs n from → length gs ≡ groups → Handled rule rs gs n from tried step w′
 
--- the slots hold some runs, no chain has any, and there are no groups
+-- the memory has some runs, and is as before the first match
 pub record Loaded (w : List ℕ) (n : ℕ) : Type 0 where
   pub runs : List Standing
-  pub ready : Ready w 0 runs [] n 0
+  pub fresh : Fresh w runs n
 
 -- the groups of the plain rule, in match order, are in the memory, with what is left of each run
 pub record GroupsOf (out : Outcome) (n groups tried : ℕ) (w : List ℕ) : Type 0 where
@@ -62,4 +62,4 @@ Answered rule rs n TooMany w = 1000 < length (plain rule rs .groups)
 
 -- this, for all runs that the memory had
 pub record Answers (rule : Rule) (w : List ℕ) (n : ℕ) (found : Found) (w′ : List ℕ) : Type 0 where
-  pub of : (rs : List Standing) → Ready w 0 rs [] n 0 → Answered rule rs n found w′
+  pub of : (rs : List Standing) → Fresh w rs n → Answered rule rs n found w′

@@ -1,9 +1,9 @@
 // All matches: closer after closer, each to its end.
 
-use crate::taking::take_match;
-use crate::walk::next_match;
+use chains::taking::take_match;
+use chains::walk::next_match;
 use runs::Next;
-ghost use Rattle.matcher.specs.Walk.{ruleFor};
+ghost use Rattle.chains.specs.Walk.{ruleFor};
 ghost use Rattle.matcher.specs.Promise.{Begun, Handles, Loaded, Answers};
 
 // Where one closer leaves things: the run to go on from, how many runs are open, how many groups there are and how many candidates were tried;

@@ -1,14 +1,14 @@
+-- `closers::find_groups`: all matches are the plain rule's.
+-- Invariant and measure: Resolving.antt.
+-- Assumes nothing.
 use Prim.Native.Nat.{_-_}
 use mathlib.Core.Path.{_∙_}
 use native.Mathlib.Omega.{arith}
 use borrow.Author.Needs.{needs}
-use Rattle.matcher.specs.Walk.{ruleFor}
+use Rattle.chains.specs.Walk.{ruleFor}
 use Rattle.matcher.proofs.Resolving.{Resolves, resolve-start, resolve-loaded, resolve-begun, resolve-full, resolve-on, resolve-again, resolve-end}
 use Rattle.matcher.proofs.closers.find_groups.Statement.{statement}
 use Rattle.matcher.proofs.closers.find_groups.Tie as tie
-use Rattle.matcher.proofs.closers.find_groups.Reads as reads
-use Rattle.matcher.proofs.closers.find_groups.Lts as lts
-use Rattle.matcher.proofs.closers.handle_closer.Reads as handle-closer-reads
 
 abbrev Inv-loop : tie.InvT-loop
 Inv-loop w₀ n single from₀ height₀ groups₀ tried₀ w from height groups tried = Resolves (ruleFor single) w₀ n w from height groups tried

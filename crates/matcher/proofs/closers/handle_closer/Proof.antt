@@ -1,15 +1,14 @@
+-- `closers::handle_closer`: one closer to its end, as the plain rule finishes it.
+-- Invariant and measure: Handling.antt.
+-- Assumes nothing.
 use Prim.Native.Nat.{_-_}
 use mathlib.Core.Path.{sym, _∙_, ap}
 use native.Mathlib.Omega.{arith}
 use borrow.Author.Needs.{needs}
-use Rattle.matcher.specs.Walk.{ruleFor}
+use Rattle.chains.specs.Walk.{ruleFor}
 use Rattle.matcher.proofs.Handling.{Keeps, Going, going-start, going-sound, going-done, done-few, match-few, closer-below, going-full, going-takable, going-again, going-begun, going-small}
 use Rattle.matcher.proofs.closers.handle_closer.Statement.{statement}
 use Rattle.matcher.proofs.closers.handle_closer.Tie as tie
-use Rattle.matcher.proofs.closers.handle_closer.Reads as reads
-use Rattle.matcher.proofs.closers.handle_closer.Lts as lts
-use Rattle.matcher.proofs.taking.take_match.Reads as take-match-reads
-use Rattle.matcher.proofs.walk.next_match.Reads as next-match-reads
 
 abbrev Inv-loop : tie.InvT-loop
 Inv-loop w₀ height from n single groups tried at₀ until₀ held₀ made₀ count₀ w at until held made count = Keeps (ruleFor single) w₀ height n from groups tried w at until held made count

@@ -1,0 +1,56 @@
+-- What a slot's size and flags say together.
+-- Assumes nothing.
+use Prim.Native.Nat.{ℕ, _+_, _<_}
+use mathlib.Core.Path.{_≡_, refl}
+use mathlib.Core.Bool.{Bool, true, false}
+use mathlib.Core.List.{List}
+use native.Mathlib.Omega.{arith}
+use lib.Dec.{eqb, ltb}
+use borrow.Author.Tests.{lt-ltb, le-ltb}
+use Rattle.record.specs.Choice.{choose, and}
+use Rattle.slots.specs.Layout.{leftOf, opensOf, closesOf, chainOf, withLink, withHead, withOpenAt}
+use Rattle.chains.specs.Walk.{closing, opening, bothAt, first, passed, raised}
+
+-- without markers left a run neither opens nor closes, with some its flag decides
+module _ (w : List ℕ) (i : ℕ) where
+  pub closing-none : leftOf w i ≡ 0 → closing w i ≡ false
+  unfolding closing and
+  closing-none e = rw e
+
+  pub closing-some : (leftOf w i ≡ 0 → ⊥) → closing w i ≡ closesOf w i
+  unfolding closing and
+  closing-some ne = let h : 0 < leftOf w i = omega arith in rw (lt-ltb 0 (leftOf w i) h)
+
+  pub opening-none : leftOf w i ≡ 0 → opening w i ≡ false
+  unfolding opening and
+  opening-none e = rw e
+
+  pub opening-some : (leftOf w i ≡ 0 → ⊥) → opening w i ≡ opensOf w i
+  unfolding opening and
+  opening-some ne = let h : 0 < leftOf w i = omega arith in rw (lt-ltb 0 (leftOf w i) h)
+
+  pub both-on : opensOf w i ≡ true → bothAt w i ≡ closesOf w i
+  unfolding bothAt and
+  both-on e = rw e
+
+  pub both-off : opensOf w i ≡ false → bothAt w i ≡ false
+  unfolding bothAt and
+  both-off e = rw e
+
+-- a passed run that opens, and one that does not
+module _ (w : List ℕ) (height i : ℕ) where
+  pub passed-on : opening w i ≡ true → passed w height i ≡ withOpenAt (withHead (withLink w i (first w i)) (chainOf w i) (i + 1)) height i
+  unfolding passed choose
+  passed-on e = rw e
+
+  pub passed-off : opening w i ≡ false → passed w height i ≡ w
+  unfolding passed choose
+  passed-off e = rw e
+
+  pub raised-on : opening w i ≡ true → raised w height i ≡ height + 1
+  unfolding raised choose
+  raised-on e = rw e
+
+  pub raised-off : opening w i ≡ false → raised w height i ≡ height
+  unfolding raised choose
+  raised-off e = rw e

@@ -1,0 +1,22 @@
+-- `walk::both`: by its two flags.
+-- Assumes nothing.
+use mathlib.Core.Path.{sym, _∙_}
+use Rattle.chains.proofs.Flags.{both-on, both-off}
+use borrow.Author.Needs.{needs}
+use Rattle.chains.proofs.walk.both.Statement.{statement}
+use Rattle.chains.proofs.walk.both.Tie as tie
+
+opens-requires : tie.Need-opens-requires
+opens-requires c κs = search needs
+
+closes-requires : tie.Need-closes-requires
+closes-requires c κs = search needs
+
+returns : tie.Need-returns
+returns c = c .closes .ensures ∙ sym (both-on _ _ (cc))
+
+returns-2 : tie.Need-returns-2
+returns-2 c = sym (both-off _ _ (cc))
+
+pub both-spec : {M : Type 1} → statement M
+both-spec = tie.close (tie.spec opens-requires closes-requires returns returns-2)
