@@ -147,7 +147,7 @@ replaced-nothing (e ∷ es) rs gs q n =
     let x : e .name ≡ 1 → ⊥ = n 0 (omega arith) in
     rw (enters-none e x, ne-eqb (e .name) 1 x, replaced-nothing es rs gs q (λ k l. n (suc k) (omega arith)))
 
--- "running it on a record that has no runs gives the record"
+-- a record that has no runs comes out as it is
 pub output-nothing : (profile : Profile) (options : ℕ) (doc : List ℕ) (es : List Event) → Runless es → output profile options doc es ≡ es
 unfolding output
 output-nothing profile options doc es n = replaced-nothing es (runsOf doc es) (outcome profile options doc es .groups) 0 n

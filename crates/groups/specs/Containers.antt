@@ -36,10 +36,10 @@ pub data Clear (es : List Event) (rs : List Run) (gs : List Group) (i a b : ℕ)
   around : a < openerOf rs gs i .number → closerOf rs gs i .number < b →
       nth es a .place ≤ spanFrom rs gs i → spanTo rs gs i ≤ nth es b .place → Clear es rs gs i a b
 
--- "A group never crosses a container: for every enter/exit pair of the record that is no run .."
+-- Demand 3: "no group crosses a container". For every pair of the record that is no run ..
 abbrev pub NeverCrosses : List Event → List Run → List Group → Type 0
 NeverCrosses es rs gs = (i a b : ℕ) → i < length gs → Pair es a b → entersRun (nth es a) ≡ false → Clear es rs gs i a b
 
--- "Opener and closer have one container."
+-- opener and closer have one container
 abbrev pub OneContainer : List Run → List Group → Type 0
 OneContainer rs gs = (i : ℕ) → i < length gs → openerOf rs gs i .container ≡ closerOf rs gs i .container

@@ -55,7 +55,7 @@ pub data Apart (rs : List Run) (gs : List Group) (i j : ℕ) : Type 0 where
   inside : textFrom rs gs j ≤ spanFrom rs gs i → spanTo rs gs i ≤ textTo rs gs j → Apart rs gs i j
   around : textFrom rs gs i ≤ spanFrom rs gs j → spanTo rs gs j ≤ textTo rs gs i → Apart rs gs i j
 
--- "Two groups never cross: their spans are disjoint or one lies within the other's text."
+-- Demand 3: "No two groups cross". Their spans are disjoint, or one lies within the other's text.
 abbrev pub NeverCross : List Run → List Group → Type 0
 NeverCross rs gs = (i j : ℕ) → (i ≡ j → ⊥) → i < length gs → j < length gs → Apart rs gs i j
 

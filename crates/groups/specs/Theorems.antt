@@ -71,7 +71,7 @@ crate-has-tildes = refl
 pub standard-has-tildes : standard ≡ withTildes false (λ s. s .whole)
 standard-has-tildes = refl
 
--- "tildes always as the tilde rule says"
+-- groups of tildes are always as the tilde rule says
 abbrev pub TildesAsTheRuleSays : Type 0
 TildesAsTheRuleSays =
     (amended : Bool) (sizeOf : Side → ℕ) (options : ℕ) (doc : List ℕ) (es : List Event) (i : ℕ) → i < length (groupsOf (withTildes amended sizeOf) options doc es) →

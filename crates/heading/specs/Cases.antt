@@ -1,4 +1,4 @@
--- The definition at work: document 01's `# a#`, whose text is 2 to 4; two words; the two departures; and a heading of another shape.
+-- The definition at work: document 01's `# a#`, whose text is 2 to 4; two words; a departure; and a heading of another shape.
 -- Assumes nothing.
 use Prim.Native.Nat.{ℕ}
 use mathlib.Core.Path.{_≡_, refl}

@@ -83,7 +83,7 @@ unfoldable pub filledStart : Kind → ℕ → ℕ → Start
 filledStart kind before n =
     choose (eqb n 0) NotItem (Item (before + padding n) (container kind (before + padding n) false))
 
--- rule 3, a blank start: "indenting subsequent lines of Ls by W + 1 spaces"; and it may not interrupt a paragraph
+-- rule 3, a blank start: "preceding subsequent lines of Ls by W + 1 spaces of indentation"; and it may not interrupt a paragraph
 unfoldable pub startAfter : Bool → Kind → ℕ → List ℕ → Start
 startAfter interrupting kind before rest =
     choose (blank rest)

@@ -24,7 +24,7 @@ two-items : lists (45 ∷ 10 ∷ 45 ∷ []) (item 0 1 (ending 1 (item 2 3 []))) 
 unfolding choose and written restOf treeOf pastLeaf known markerOf prefixOf markOf offending offenders between noItem neighbour joins listName listed lists
 two-items = refl
 
--- `-`, line feed, `*`: two lists; and `.` is ordered
+-- `-`, line feed, `.`: two lists, of which the second is ordered
 two-marks : lists (45 ∷ 10 ∷ 46 ∷ []) (item 0 1 (ending 1 (item 2 3 []))) ≡
     gives (enter 20 0 ∷ item 0 1 (exit 20 1 ∷ ending 1 (enter 19 2 ∷ item 2 3 (exit 19 3 ∷ []))))
 unfolding choose and written restOf treeOf pastLeaf known markerOf prefixOf markOf offending offenders between noItem neighbour joins listName listed lists

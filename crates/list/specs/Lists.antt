@@ -47,7 +47,9 @@ neighbour document (pair name from to inside next) =
     (choose (and (between name) (noItem inside)) (neighbour document next)
     0)
 
--- "Neighbouring items join when they have the same mark": whether an item of this mark and the first item of the siblings that follow do
+-- CommonMark 0.31 §5.3: "Two list markers are of the same type if (a) they are bullet list markers using the same character (-, +, or *) or
+-- (b) they are ordered list numbers with the same delimiter (either . or ))." Document 01: "Neighbouring items join when they have the same
+-- mark": whether an item of this mark and the first item of the siblings that follow do
 unfoldable pub joins : List ℕ → ℕ → Row → Bool
 joins document mark next = eqb (neighbour document next) mark
 

@@ -22,9 +22,21 @@ pub const ATTENTION_SEQUENCE: u8 = 1;
 
 pub const EMPHASIS: u8 = 2;
 
+pub const EMPHASIS_SEQUENCE: u8 = 3;
+
+pub const EMPHASIS_TEXT: u8 = 4;
+
 pub const STRONG: u8 = 5;
 
+pub const STRONG_SEQUENCE: u8 = 6;
+
+pub const STRONG_TEXT: u8 = 7;
+
 pub const STRIKETHROUGH: u8 = 8;
+
+pub const STRIKETHROUGH_SEQUENCE: u8 = 9;
+
+pub const STRIKETHROUGH_TEXT: u8 = 10;
 
 pub const HEADING: u8 = 11;
 
