@@ -108,6 +108,29 @@ fn put_events(rec: &mut [u8], from: usize, events: &[u8]) -> usize {
     at
 }
 
+// Says so where the two bytes of an event that have to be zero are not.
+fn say_zeros(out: &[u8], at: usize) {
+    if at > out.len() {
+        return;
+    }
+    if out.len() - at < 4 {
+        return;
+    }
+    if u32_at(out, at) / 65536 != 0 {
+        say(b" NOT ZERO");
+    }
+}
+
+// Says so where the section's count is not how many events were answered.
+fn say_count(out: &[u8], events: usize) {
+    if out.len() < 4 {
+        return;
+    }
+    if u32_at(out, 0) != events {
+        say(b" OTHER COUNT");
+    }
+}
+
 // The events of a section.
 fn show_events(out: &[u8], n: usize) {
     let mut i = 0;
@@ -127,6 +150,7 @@ fn show_events(out: &[u8], n: usize) {
         say_number(wide(out[at + 1]));
         say(b"@");
         say_number(u32_at(out, at + 4));
+        say_zeros(out, at);
         i += 1;
         at += 8;
     }
@@ -137,6 +161,7 @@ fn tell(answer: Answer, out: &[u8], work: &[u8]) {
     match answer {
         Answer::Resolved { events } => {
             say_number(events);
+            say_count(out, events);
             show_events(out, events);
             if events > 8000 {
                 return;

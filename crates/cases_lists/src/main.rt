@@ -163,6 +163,29 @@ fn say_number(n: usize) {
     io::print_decimal(STDOUT_FILENO, n as u64);
 }
 
+// Says so where the two bytes of an event that have to be zero are not.
+fn say_zeros(out: &[u8], at: usize) {
+    if at > out.len() {
+        return;
+    }
+    if out.len() - at < 4 {
+        return;
+    }
+    if u32_at(out, at) / 65536 != 0 {
+        say(b" NOT ZERO");
+    }
+}
+
+// Says so where the section's count is not how many events were answered.
+fn say_count(out: &[u8], events: usize) {
+    if out.len() < 4 {
+        return;
+    }
+    if u32_at(out, 0) != events {
+        say(b" OTHER COUNT");
+    }
+}
+
 // The events of a section, in the form in which they are read.
 fn say_events(out: &[u8], events: usize) {
     let mut left = events;
@@ -182,6 +205,7 @@ fn say_events(out: &[u8], events: usize) {
         say_number(wide(out[at + 1]));
         say(b"@");
         say_number(u32_at(out, at + 4));
+        say_zeros(out, at);
         at += 8;
         left -= 1;
     }
@@ -213,6 +237,7 @@ fn answer(rec: &[u8], options: u32, out: &mut [u8], room: usize, work: &mut [u8]
     match resolve_lists(rec, options, &mut out[0..room], &mut work[0..works]) {
         Answer::Resolved { events } => {
             say_number(events);
+            say_count(out, events);
             say_events(out, events);
             say(b"\n");
             if events < 8001 {

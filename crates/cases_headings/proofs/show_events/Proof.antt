@@ -4,6 +4,13 @@ use Prim.Native.Nat.{_-_, _≤_}
 use borrow.Author.Needs.{needs}
 use Rattle.cases_headings.proofs.show_events.Statement.{statement}
 use Rattle.cases_headings.proofs.show_events.Tie as tie
+use Rattle.cases_headings.proofs.show_events.Reads as reads
+use Rattle.cases_headings.proofs.show_events.Lts as lts
+use Rattle.cases_headings.proofs.say.Reads as say-reads
+use Rattle.cases_headings.proofs.say_number.Reads as say-number-reads
+use Rattle.cases_headings.proofs.say_zeros.Reads as say-zeros-reads
+use Rattle.record.proofs.bytes.u32_at.Reads as u32-at-reads
+use Rattle.record.proofs.bytes.wide.Reads as wide-reads
 
 abbrev Inv-loop : tie.InvT-loop
 Inv-loop out n i₀ at₀ t5 t6 t7 i at = i ≤ n
@@ -65,6 +72,9 @@ u32-at-requires c κs = search needs
 say-number-requires-2 : tie.Need-say-number-requires-2 Inv-loop μ-loop
 say-number-requires-2 c κs = search needs
 
+say-zeros-requires : tie.Need-say-zeros-requires Inv-loop μ-loop
+say-zeros-requires c κs = search needs
+
 add-i : tie.Need-add-i Inv-loop μ-loop
 add-i c = search needs
 
@@ -104,6 +114,7 @@ show-events-spec =
     add-u32-at
     u32-at-requires
     say-number-requires-2
+    say-zeros-requires
     add-i
     add-at
     loop-less

@@ -8,6 +8,7 @@ use Rattle.cases_lists.proofs.say_events.Reads as reads
 use Rattle.cases_lists.proofs.say_events.Lts as lts
 use Rattle.cases_lists.proofs.say.Reads as say-reads
 use Rattle.cases_lists.proofs.say_number.Reads as say-number-reads
+use Rattle.cases_lists.proofs.say_zeros.Reads as say-zeros-reads
 use Rattle.record.proofs.bytes.u32_at.Reads as u32-at-reads
 use Rattle.record.proofs.bytes.wide.Reads as wide-reads
 
@@ -71,6 +72,9 @@ u32-at-requires c κs = search needs
 say-number-requires-2 : tie.Need-say-number-requires-2 Inv-loop μ-loop
 say-number-requires-2 c κs = search needs
 
+say-zeros-requires : tie.Need-say-zeros-requires Inv-loop μ-loop
+say-zeros-requires c κs = search needs
+
 add-at : tie.Need-add-at Inv-loop μ-loop
 add-at c = search needs
 
@@ -110,6 +114,7 @@ say-events-spec =
     add-u32-at
     u32-at-requires
     say-number-requires-2
+    say-zeros-requires
     add-at
     sub-left
     loop-less
