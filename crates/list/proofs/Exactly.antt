@@ -2,6 +2,7 @@
 -- Assumes nothing.
 use mathlib.Core.Path.{_≡_, refl, sym, _∙_}
 use mathlib.Core.Bool.{false}
+use mathlib.Core.Logic.{⊎-elim}
 use mathlib.Core.List.{List, [], _∷_}
 use Prim.Native.Nat.{ℕ, _+_, _≤_}
 use native.Mathlib.Omega.{arith}
@@ -14,7 +15,9 @@ use Rattle.record.proofs.ExactlyWritten.{exactly-written}
 use Rattle.list.specs.Tree.{treeOf}
 use Rattle.list.specs.Lists.{offenders, lists}
 use Rattle.list.specs.Listing.{result-of}
-use Rattle.list.specs.Shape.{Rising, no-more, then, Among, front, behind, Offends, earliest}
+use Rattle.list.specs.Shape.{Rising, no-more, then, Among, front, behind, earliest}
+use Rattle.list.specs.Offence.{Offends}
+use Rattle.list.proofs.Offending.{named-offends, offends-named}
 
 -- all of rising numbers are at or above the first bound
 at-least : {k j : ℕ} {js : List ℕ} → Rising k js → Among j js → k ≤ j
@@ -45,10 +48,16 @@ pub judges : (document : List ℕ) (es : List Event) → Judges (Offends documen
 judges document es =
     record {
       earliest = λ k q.
-          let f = earliest document es k q in
-          (first-of (offenders document 0 false (treeOf es) []) k (f .0) (f .1), λ j a. from-first (offenders document 0 false (treeOf es) []) k j (f .0) (f .1) (f .2) a);
-      none = λ rs q j a. nothing (offenders document 0 false (treeOf es) []) (result-of document es rs q .0) a;
+          let f = earliest document es k q in (
+            named (first-of (offenders document 0 false (treeOf es) []) k (f .0) (f .1)),
+            λ j o. from-first (offenders document 0 false (treeOf es) []) k j (f .0) (f .1) (f .2) (offends-named document 0 false (treeOf es) j [] (o .item) (o .broken)),
+          );
+      none = λ rs q j o.
+          nothing (offenders document 0 false (treeOf es) []) (result-of document es rs q .0) (offends-named document 0 false (treeOf es) j [] (o .item) (o .broken));
     }
+  where
+    named : {k : ℕ} → Among k (offenders document 0 false (treeOf es) []) → Offends document es k
+    named {k} a = ⊎-elim (λ o. o) (λ b. absurd (nothing [] refl b)) (named-offends document 0 false (treeOf es) k [] a)
 
 pub exactly-resolved : (s : List ℕ) (options works outs : ℕ) →
     ExactlyWritten s options works (Offends (documentOf s (documentCount s)) (eventsOf s (documentCount s) (eventCount s)))

@@ -6,4 +6,6 @@ mod Written
 mod Trees
 mod Chains
 mod Outcomes
+pub mod Beginnings
+pub mod Offending
 pub mod Exactly

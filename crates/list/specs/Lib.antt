@@ -3,6 +3,7 @@ pub mod Reading
 pub mod Item
 pub mod Lists
 pub mod Shape
+pub mod Offence
 pub mod Listing
 pub mod Nesting
 pub mod Walk

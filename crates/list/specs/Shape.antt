@@ -109,7 +109,3 @@ earliest document es k q =
 pub data Among (k : ℕ) : List ℕ → Type 0 where
   front : {j : ℕ} {js : List ℕ} → k ≡ j → Among k (j ∷ js)
   behind : {j : ℕ} {js : List ℕ} → Among k js → Among k (j ∷ js)
-
--- number 6 as the table has it: event k enters an item that offends
-abbrev pub Offends : List ℕ → List Event → ℕ → Type 0
-Offends document es k = Among k (offenders document 0 false (treeOf es) [])
