@@ -1,0 +1,97 @@
+// The calls on a record.
+
+use record::check::Reading;
+ghost use mathlib.Core.Path.{_≡_};
+ghost use Rattle.ledgerlark.specs.Answers.{readingOf, attentionOf, ReadAs, ResolvedAs};
+
+#[repr(C)]
+pub struct LarkReading {
+    pub number: usize,
+    pub place: usize,
+    pub document: usize,
+    pub events: usize,
+}
+
+#[repr(C)]
+pub struct LarkResolved {
+    pub number: usize,
+    pub place: usize,
+    pub events: usize,
+    pub groups: usize,
+    pub tried: usize,
+}
+
+// The numbers of an answer of `read`.
+fn reading_of(found: Reading) -> LarkReading
+    ensures { λ r. ⌜ r ≡ readingOf found ⌝ }
+{
+    match found {
+        Reading::Good { document, events } => {
+            return LarkReading {
+                number: 0,
+                place: 0,
+                document,
+                events,
+            };
+        }
+        Reading::Refused(refusal) => {
+            return LarkReading {
+                number: refusal.number,
+                place: refusal.place,
+                document: 0,
+                events: 0,
+            };
+        }
+    }
+}
+
+// The numbers of an answer about attention.
+fn attention_of(found: attention::call::Answer) -> LarkResolved
+    ensures { λ r. ⌜ r ≡ attentionOf found ⌝ }
+{
+    match found {
+        attention::call::Answer::Resolved {
+            events,
+            groups,
+            tried,
+        } => {
+            return LarkResolved {
+                number: 0,
+                place: 0,
+                events,
+                groups,
+                tried,
+            };
+        }
+        attention::call::Answer::Refused(refusal) => {
+            return LarkResolved {
+                number: refusal.number,
+                place: refusal.place,
+                events: 0,
+                groups: 0,
+                tried: 0,
+            };
+        }
+    }
+}
+
+// Whether a record is good, and how large its parts are.
+#[no_mangle]
+pub extern "C" fn lark_read(s: &[u8], options: u32, work: &mut [u8]) -> LarkReading
+    ensures { λ r. ⌜ ReadAs (now (s .entry)) options (now (work .entry)) r (now (work .exit)) ⌝ }
+{
+    reading_of(record::call::read(s, options, work))
+}
+
+// The attention runs of a record resolved.
+#[no_mangle]
+pub extern "C" fn lark_resolve_attention(
+    s: &[u8],
+    options: u32,
+    out: &mut [u8],
+    work: &mut [u8],
+) -> LarkResolved
+    ensures { λ r. ⌜ ResolvedAs (now (s .entry)) options (now (out .entry)) (now (work .entry)) r (now (out .exit)) (now (work .exit)) ⌝ }
+{
+    attention_of(attention::call::resolve_attention(s, options, out, work))
+}
