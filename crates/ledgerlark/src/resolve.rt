@@ -2,7 +2,7 @@
 
 use record::check::Reading;
 ghost use mathlib.Core.Path.{_≡_};
-ghost use Rattle.ledgerlark.specs.Answers.{readingOf, attentionOf, ReadAs, ResolvedAs};
+ghost use Rattle.ledgerlark.specs.Answers.{readingOf, attentionOf, headingsOf, listsOf, ReadAs, AttentionAs, HeadingsAs, ListsAs};
 
 #[repr(C)]
 pub struct LarkReading {
@@ -75,6 +75,58 @@ fn attention_of(found: attention::call::Answer) -> LarkResolved
     }
 }
 
+// The numbers of an answer about headings.
+fn headings_of(found: heading::resolve::Answer) -> LarkResolved
+    ensures { λ r. ⌜ r ≡ headingsOf found ⌝ }
+{
+    match found {
+        heading::resolve::Answer::Resolved { events } => {
+            return LarkResolved {
+                number: 0,
+                place: 0,
+                events,
+                groups: 0,
+                tried: 0,
+            };
+        }
+        heading::resolve::Answer::Refused(refusal) => {
+            return LarkResolved {
+                number: refusal.number,
+                place: refusal.place,
+                events: 0,
+                groups: 0,
+                tried: 0,
+            };
+        }
+    }
+}
+
+// The numbers of an answer about lists.
+fn lists_of(found: list::call::Answer) -> LarkResolved
+    ensures { λ r. ⌜ r ≡ listsOf found ⌝ }
+{
+    match found {
+        list::call::Answer::Resolved { events } => {
+            return LarkResolved {
+                number: 0,
+                place: 0,
+                events,
+                groups: 0,
+                tried: 0,
+            };
+        }
+        list::call::Answer::Refused(refusal) => {
+            return LarkResolved {
+                number: refusal.number,
+                place: refusal.place,
+                events: 0,
+                groups: 0,
+                tried: 0,
+            };
+        }
+    }
+}
+
 // Whether a record is good, and how large its parts are.
 #[no_mangle]
 pub extern "C" fn lark_read(s: &[u8], options: u32, work: &mut [u8]) -> LarkReading
@@ -91,7 +143,33 @@ pub extern "C" fn lark_resolve_attention(
     out: &mut [u8],
     work: &mut [u8],
 ) -> LarkResolved
-    ensures { λ r. ⌜ ResolvedAs (now (s .entry)) options (now (out .entry)) (now (work .entry)) r (now (out .exit)) (now (work .exit)) ⌝ }
+    ensures { λ r. ⌜ AttentionAs (now (s .entry)) options (now (out .entry)) (now (work .entry)) r (now (out .exit)) (now (work .exit)) ⌝ }
 {
     attention_of(attention::call::resolve_attention(s, options, out, work))
+}
+
+// The headings of a record resolved.
+#[no_mangle]
+pub extern "C" fn lark_resolve_headings(
+    s: &[u8],
+    options: u32,
+    out: &mut [u8],
+    work: &mut [u8],
+) -> LarkResolved
+    ensures { λ r. ⌜ HeadingsAs (now (s .entry)) options (now (out .entry)) (now (work .entry)) r (now (out .exit)) (now (work .exit)) ⌝ }
+{
+    headings_of(heading::resolve::resolve_headings(s, options, out, work))
+}
+
+// The list items of a record resolved.
+#[no_mangle]
+pub extern "C" fn lark_resolve_lists(
+    s: &[u8],
+    options: u32,
+    out: &mut [u8],
+    work: &mut [u8],
+) -> LarkResolved
+    ensures { λ r. ⌜ ListsAs (now (s .entry)) options (now (out .entry)) (now (work .entry)) r (now (out .exit)) (now (work .exit)) ⌝ }
+{
+    lists_of(list::call::resolve_lists(s, options, out, work))
 }

@@ -1,0 +1,29 @@
+-- `ledgerlark::resolve::lark_resolve_headings` meets its contract: the promise of the call below, in numbers.
+-- Assumes nothing.
+use borrow.Author.Needs.{needs}
+use Rattle.ledgerlark.proofs.resolve.lark_resolve_headings.Statement.{statement}
+use Rattle.ledgerlark.proofs.resolve.lark_resolve_headings.Tie as tie
+use Rattle.ledgerlark.proofs.resolve.lark_resolve_headings.Reads as reads
+use Rattle.ledgerlark.proofs.resolve.lark_resolve_headings.Lts as lts
+use Rattle.heading.proofs.resolve.resolve_headings.Reads as resolve-headings-reads
+use Rattle.ledgerlark.proofs.resolve.headings_of.Reads as headings-of-reads
+
+resolve-headings-requires : tie.Need-resolve-headings-requires
+resolve-headings-requires c κs = search needs
+
+headings-of-requires : tie.Need-headings-of-requires
+headings-of-requires c κs = search needs
+
+same-length : tie.Need-same-length
+same-length c = search needs
+
+same-length-2 : tie.Need-same-length-2
+same-length-2 c = search needs
+
+returns : tie.Need-returns
+returns c = record { answer = cc; output = cc; wiped = cc }
+
+pub lark-resolve-headings-spec : {M : Type 1} → statement M
+lark-resolve-headings-spec =
+    tie.close
+    (tie.spec resolve-headings-requires headings-of-requires same-length same-length-2 returns)
