@@ -1,0 +1,255 @@
+-- The claims of the calls on a line, as C sees them: `lark_space_or_tab`, `lark_list_item`, `lark_continuation`, `lark_heading`.
+-- For each: any two answers that its promise allows are equal; each number is given exactly when the table says. The first three write
+-- nothing and take no memory, so there is nothing a buffer held that could show. The heading reader has isolation too, and no refusal and no finding of
+-- it writes.
+-- Assumes nothing.
+use Prim.Native.Nat.{ℕ, _<_}
+use native.Mathlib.Omega.{arith}
+use mathlib.Core.Path.{_≡_, refl, sym, ap, _∙_}
+use mathlib.Core.Bool.{Bool, true, false}
+use mathlib.Core.List.{List, []}
+use lib.ListN.{length, take, drop}
+use lib.Dec.{leb}
+use lib.Seq.{take-append-seam, drop-append-seam}
+use Rattle.record.specs.Choice.{choose, and}
+use Rattle.record.specs.Outcome.{Outcome, accepted, refused, sized, onto}
+use Rattle.record.specs.Rows.{Least}
+use Rattle.lines.specs.Line.{lineOf, refusal, checkedLine, reading}
+use Rattle.lines.specs.declared.line.Checked.{Checked}
+use Rattle.lines.specs.declared.line.Checked.the-variants.{Ends, Bad}
+use Rattle.lines.specs.Rows.{Row, WritingRow}
+use Rattle.lines.specs.Spaces.{spacesOf}
+use Rattle.lines.specs.Item.{startOf}
+use Rattle.lines.specs.Run.{blank, blanks, blanksUpTo}
+use Rattle.lines.specs.Going.{cleared, blankGoing, filledGoing, goingIn, goingOf}
+use Rattle.lines.specs.Heading.{Result, nothing, headed, isHeading, headingEvents, headedIn, headedOf}
+use Rattle.lines.specs.declared.spaces.Spaces.{Spaces}
+use Rattle.lines.specs.declared.spaces.Spaces.the-variants.{Taken, TooFew, Refused as SpacesRefused}
+use Rattle.lines.specs.declared.item.Start.{Start}
+use Rattle.lines.specs.declared.item.Start.the-variants.{Item, NotItem, Refused as StartRefused}
+use Rattle.lines.specs.declared.going.Going.{Going}
+use Rattle.lines.specs.declared.going.Going.the-variants.{Goes, Stops, Refused as GoingRefused}
+use Rattle.lines.specs.declared.heading.Headed.{Headed}
+use Rattle.lines.specs.declared.heading.Headed.the-variants.{Heading, NotHeading, Refused as HeadedRefused}
+use Rattle.lines.proofs.ExactlyRead.{spaces-exactly, start-exactly, going-exactly, heading-exactly}
+use Rattle.ledgerlark.specs.Answers.{flagged, containerOf, spacesOf as spacesNumbers, itemOf, goingOf as goingNumbers, headedOf as headedNumbers, SpacesAs, ItemAs, GoingAs, HeadedAs}
+use Rattle.ledgerlark.specs.declared.line.LarkSpaces.{LarkSpaces}
+use Rattle.ledgerlark.specs.declared.line.LarkItem.{LarkItem}
+use Rattle.ledgerlark.specs.declared.line.LarkGoing.{LarkGoing}
+use Rattle.ledgerlark.specs.declared.line.LarkHeaded.{LarkHeaded}
+use Rattle.claims.specs.Told.{Told}
+
+-- the claim of a call that answers only: `answer` is what its promise fixes, `R` the rows of the table that it can give
+pub record Claim {A : Type 0} (number : A → ℕ) (refusal : ℕ → ℕ → A) (As : A → Type 0) (R : ℕ → ℕ → Type 0) : Type 0 where
+  pub unique : (r₁ r₂ : A) → As r₁ → As r₂ → r₁ ≡ r₂
+  pub exactly : (r : A) → As r → Told number refusal R r
+
+-- from the reader's own "exactly when": `numbers` reads an answer and `refuse` is a refusal; what has a number is a refusal, and what is no refusal has
+-- number 0
+module _ {A B : Type 0} (number : B → ℕ) (no : ℕ → ℕ → B) (numbers : A → B) (refuse : ℕ → ℕ → A) (R : ℕ → ℕ → Type 0) (answer : A)
+    (read : (n p : ℕ) → numbers (refuse n p) ≡ no n p)
+    (only-refusals : (n p : ℕ) → 0 < n → numbers answer ≡ no n p → answer ≡ refuse n p)
+    (zero-else : ((n p : ℕ) → answer ≡ refuse n p → ⊥) → number (numbers answer) ≡ 0)
+    (refused-least : (n p : ℕ) → answer ≡ refuse n p → Least R n p) (given-least : (n p : ℕ) → Least R n p → answer ≡ refuse n p) where
+  told : (r : B) → r ≡ numbers answer → Told number no R r
+  told r a =
+      record {
+        given = λ n p l. a ∙ ap numbers (given-least n p l) ∙ read n p;
+        only = λ n p h q. refused-least n p (only-refusals n p h (sym a ∙ q));
+        accepted = λ none. ap number a ∙ zero-else (λ n p e. none n p (refused-least n p e .holds));
+      }
+
+  claimed : Claim number no (λ (r : B). r ≡ numbers answer) R
+  claimed = record { unique = λ r₁ r₂ p q. p ∙ sym q; exactly = told }
+
+-- lark_space_or_tab
+
+abbrev pub spacesRefusal : ℕ → ℕ → LarkSpaces
+spacesRefusal n p = record { number = n; place = p; found = 0; taken = 0 }
+
+spaces-back : (a : Spaces) (n p : ℕ) → 0 < n → spacesNumbers a ≡ spacesRefusal n p → a ≡ SpacesRefused (refusal n p)
+spaces-back (Taken k) n p h q = let z : 0 ≡ n = ap (λ (x : LarkSpaces). x .number) q in absurd (omega arith)
+spaces-back TooFew n p h q = let z : 0 ≡ n = ap (λ (x : LarkSpaces). x .number) q in absurd (omega arith)
+spaces-back (SpacesRefused x) n p h q =
+    let e₁ : x .number ≡ n = ap (λ (y : LarkSpaces). y .number) q in
+    let e₂ : x .place ≡ p = ap (λ (y : LarkSpaces). y .place) q in
+    let e₃ : SpacesRefused (refusal (x .number) (x .place)) ≡ SpacesRefused (refusal n p) = cc in
+    e₃
+
+spaces-zero : (a : Spaces) → ((n p : ℕ) → a ≡ SpacesRefused (refusal n p) → ⊥) → spacesNumbers a .number ≡ 0
+spaces-zero (Taken k) f = refl
+spaces-zero TooFew f = refl
+spaces-zero (SpacesRefused x) f = absurd (f (x .number) (x .place) refl)
+
+pub spaces-claim : (s : List ℕ) (options min max : ℕ) → Claim (λ (x : LarkSpaces). x .number) spacesRefusal (SpacesAs s options min max) (Row s options)
+spaces-claim s options min max =
+    let a = spacesOf s options min max in
+    let x = spaces-exactly s options min max in
+    claimed (λ (x : LarkSpaces). x .number) spacesRefusal spacesNumbers (λ n p. SpacesRefused (refusal n p)) (Row s options) a (λ n p. refl)
+    (spaces-back a) (spaces-zero a) (x .refused) (x .given)
+
+-- lark_list_item
+
+abbrev pub itemRefusal : ℕ → ℕ → LarkItem
+itemRefusal n p = record { number = n; place = p; found = 0; taken = 0; size = 0; blank = 0; mark = 0 }
+
+item-back : (a : Start) (n p : ℕ) → 0 < n → itemOf a ≡ itemRefusal n p → a ≡ StartRefused (refusal n p)
+item-back (Item taken held) n p h q = let z : 0 ≡ n = ap (λ (x : LarkItem). x .number) q in absurd (omega arith)
+item-back NotItem n p h q = let z : 0 ≡ n = ap (λ (x : LarkItem). x .number) q in absurd (omega arith)
+item-back (StartRefused x) n p h q =
+    let e₁ : x .number ≡ n = ap (λ (y : LarkItem). y .number) q in
+    let e₂ : x .place ≡ p = ap (λ (y : LarkItem). y .place) q in
+    let e₃ : StartRefused (refusal (x .number) (x .place)) ≡ StartRefused (refusal n p) = cc in
+    e₃
+
+item-zero : (a : Start) → ((n p : ℕ) → a ≡ StartRefused (refusal n p) → ⊥) → itemOf a .number ≡ 0
+item-zero (Item taken held) f = refl
+item-zero NotItem f = refl
+item-zero (StartRefused x) f = absurd (f (x .number) (x .place) refl)
+
+pub item-claim : (s : List ℕ) (options interrupting : ℕ) → Claim (λ (x : LarkItem). x .number) itemRefusal (ItemAs s options interrupting) (Row s options)
+item-claim s options interrupting =
+    let a = startOf s options (flagged interrupting) in
+    let x = start-exactly s options (flagged interrupting) in
+    claimed (λ (x : LarkItem). x .number) itemRefusal itemOf (λ n p. StartRefused (refusal n p)) (Row s options) a (λ n p. refl)
+    (item-back a) (item-zero a) (x .refused) (x .given)
+
+-- lark_continuation
+
+abbrev pub goingRefusal : ℕ → ℕ → LarkGoing
+goingRefusal n p = record { number = n; place = p; found = 0; taken = 0; blank = 0 }
+
+going-back : (a : Going) (n p : ℕ) → 0 < n → goingNumbers a ≡ goingRefusal n p → a ≡ GoingRefused (refusal n p)
+going-back (Goes taken held) n p h q = let z : 0 ≡ n = ap (λ (x : LarkGoing). x .number) q in absurd (omega arith)
+going-back (Stops held) n p h q = let z : 0 ≡ n = ap (λ (x : LarkGoing). x .number) q in absurd (omega arith)
+going-back (GoingRefused x) n p h q =
+    let e₁ : x .number ≡ n = ap (λ (y : LarkGoing). y .number) q in
+    let e₂ : x .place ≡ p = ap (λ (y : LarkGoing). y .place) q in
+    let e₃ : GoingRefused (refusal (x .number) (x .place)) ≡ GoingRefused (refusal n p) = cc in
+    e₃
+
+going-zero : (a : Going) → ((n p : ℕ) → a ≡ GoingRefused (refusal n p) → ⊥) → goingNumbers a .number ≡ 0
+going-zero (Goes taken held) f = refl
+going-zero (Stops held) f = refl
+going-zero (GoingRefused x) f = absurd (f (x .number) (x .place) refl)
+
+pub going-claim : (s : List ℕ) (options size blank mark : ℕ) →
+    Claim (λ (x : LarkGoing). x .number) goingRefusal (GoingAs s options size blank mark) (Row s options)
+going-claim s options size blank mark =
+    let a = goingOf s options (containerOf size blank mark) in
+    let x = going-exactly s options (containerOf size blank mark) in
+    claimed (λ (x : LarkGoing). x .number) goingRefusal goingNumbers (λ n p. GoingRefused (refusal n p)) (Row s options) a (λ n p. refl)
+    (going-back a) (going-zero a) (x .refused) (x .given)
+
+-- the mark that goes in does not show in the answer
+same-going : (c : Checked) (line-blank flag-set enough : Bool) (size blank₁ n m₁ m₂ : ℕ) →
+    goingNumbers
+    (reading c GoingRefused
+    (choose line-blank (choose flag-set (Stops (containerOf size blank₁ m₁)) (Goes n (containerOf size blank₁ m₁)))
+    (choose enough (Goes size (cleared (containerOf size blank₁ m₁))) (Stops (cleared (containerOf size blank₁ m₁))))))
+    ≡ goingNumbers
+    (reading c GoingRefused
+    (choose line-blank (choose flag-set (Stops (containerOf size blank₁ m₂)) (Goes n (containerOf size blank₁ m₂)))
+    (choose enough (Goes size (cleared (containerOf size blank₁ m₂))) (Stops (cleared (containerOf size blank₁ m₂))))))
+unfolding reading choose
+same-going (Bad x) z b e size blank₁ n m₁ m₂ = refl
+same-going (Ends k) true true e size blank₁ n m₁ m₂ = refl
+same-going (Ends k) true false e size blank₁ n m₁ m₂ = refl
+same-going (Ends k) false b true size blank₁ n m₁ m₂ = refl
+same-going (Ends k) false b false size blank₁ n m₁ m₂ = refl
+
+pub mark-does-not-show : (s : List ℕ) (options size blank₁ m₁ m₂ : ℕ) (r : LarkGoing) → GoingAs s options size blank₁ m₁ r → GoingAs s options size blank₁ m₂ r
+unfolding goingOf goingIn blankGoing filledGoing
+mark-does-not-show s options size blank₁ m₁ m₂ r a =
+    a ∙ same-going (checkedLine s options) (blank (lineOf s)) (flagged blank₁) (and (leb 1 (blanks (lineOf s))) (leb size (blanks (lineOf s)))) size blank₁
+    (blanksUpTo size (lineOf s)) m₁ m₂
+
+-- lark_heading
+
+abbrev pub headedRefusal : ℕ → ℕ → LarkHeaded
+headedRefusal n p = record { number = n; place = p; found = 0; events = 0 }
+
+headed-back : (a : Headed) (n p : ℕ) → 0 < n → headedNumbers a ≡ headedRefusal n p → a ≡ HeadedRefused (refusal n p)
+headed-back (Heading events) n p h q = let z : 0 ≡ n = ap (λ (x : LarkHeaded). x .number) q in absurd (omega arith)
+headed-back NotHeading n p h q = let z : 0 ≡ n = ap (λ (x : LarkHeaded). x .number) q in absurd (omega arith)
+headed-back (HeadedRefused x) n p h q =
+    let e₁ : x .number ≡ n = ap (λ (y : LarkHeaded). y .number) q in
+    let e₂ : x .place ≡ p = ap (λ (y : LarkHeaded). y .place) q in
+    let e₃ : HeadedRefused (refusal (x .number) (x .place)) ≡ HeadedRefused (refusal n p) = cc in
+    e₃
+
+headed-zero : (a : Headed) → ((n p : ℕ) → a ≡ HeadedRefused (refusal n p) → ⊥) → headedNumbers a .number ≡ 0
+headed-zero (Heading events) f = refl
+headed-zero NotHeading f = refl
+headed-zero (HeadedRefused x) f = absurd (f (x .number) (x .place) refl)
+
+-- the one reader that writes, with an output of the length `outs`
+pub record WritingClaim (As : List ℕ → LarkHeaded → List ℕ → Type 0) (bytes : ℕ → List ℕ) (R : ℕ → ℕ → ℕ → Type 0) : Type 0 where
+  pub unique : (out : List ℕ) (r₁ r₂ : LarkHeaded) (o₁ o₂ : List ℕ) → As out r₁ o₁ → As out r₂ o₂ → (r₁ ≡ r₂) × (o₁ ≡ o₂)
+  pub isolated : (out₁ out₂ : List ℕ) (r₁ r₂ : LarkHeaded) (o₁ o₂ : List ℕ) → length out₁ ≡ length out₂ → As out₁ r₁ o₁ → As out₂ r₂ o₂ →
+      (r₁ ≡ r₂) × (take (length (bytes (length out₁))) o₁ ≡ take (length (bytes (length out₁))) o₂)
+  pub rest-kept : (out : List ℕ) (r : LarkHeaded) (out′ : List ℕ) → As out r out′ →
+      drop (length (bytes (length out))) out′ ≡ drop (length (bytes (length out))) out
+  pub exactly : (out : List ℕ) (r : LarkHeaded) (out′ : List ℕ) → As out r out′ → Told (λ (x : LarkHeaded). x .number) headedRefusal (R (length out)) r
+  pub only-a-heading-writes : (out : List ℕ) (r : LarkHeaded) (out′ : List ℕ) → As out r out′ → r .found ≡ 0 → out′ ≡ out
+
+seam : (bs out o : List ℕ) → o ≡ onto bs out → (take (length bs) o ≡ bs) × (drop (length bs) o ≡ drop (length bs) out)
+unfolding onto
+seam bs out o e = (
+  ap (λ (l : List ℕ). take (length bs) l) e ∙ take-append-seam bs (drop (length bs) out),
+  ap (λ (l : List ℕ). drop (length bs) l) e ∙ drop-append-seam bs (drop (length bs) out),
+)
+
+heading-told : (s : List ℕ) (options outs : ℕ) (r : LarkHeaded) → r ≡ headedNumbers (headedOf s options outs .answer) →
+    Told (λ (x : LarkHeaded). x .number) headedRefusal (WritingRow s options outs) r
+heading-told s options outs =
+    let a = headedOf s options outs .answer in
+    let x = heading-exactly s options outs in
+    told (λ (x : LarkHeaded). x .number) headedRefusal headedNumbers (λ n p. HeadedRefused (refusal n p)) (WritingRow s options outs) a (λ n p. refl)
+    (headed-back a) (headed-zero a) (x .refused) (x .given)
+
+-- only where a heading is found are there bytes to write
+abbrev Silent : Result → Type 0
+Silent x = headedNumbers (x .answer) .found ≡ 0 → x .bytes ≡ []
+
+silent-outcome : (o : Outcome) → Silent (headed o)
+silent-outcome (accepted es) q = absurd (omega arith)
+silent-outcome (refused x) q = refl
+
+silent-choice : (z : Bool) (o : Outcome) → Silent (choose z (headed o) (nothing NotHeading))
+unfolding choose
+silent-choice true o q = silent-outcome o q
+silent-choice false o q = refl
+
+silent-reading : (c : Checked) (x : Result) → Silent x → Silent (reading c (λ r. nothing (HeadedRefused r)) x)
+unfolding reading
+silent-reading (Ends n) x f q = f q
+silent-reading (Bad r) x f q = refl
+
+silent : (s : List ℕ) (options outs : ℕ) → Silent (headedOf s options outs)
+unfolding headedOf headedIn
+silent s options outs =
+    silent-reading (checkedLine s options) (choose (isHeading (lineOf s) options) (headed (sized (headingEvents (lineOf s)) outs)) (nothing NotHeading))
+    (silent-choice (isHeading (lineOf s) options) (sized (headingEvents (lineOf s)) outs))
+
+nothing-onto : (out : List ℕ) → onto [] out ≡ out
+unfolding onto
+nothing-onto out = refl
+
+pub heading-claim : (s : List ℕ) (options : ℕ) → WritingClaim (HeadedAs s options) (λ outs. headedOf s options outs .bytes) (WritingRow s options)
+heading-claim s options =
+    record {
+      unique = λ out r₁ r₂ o₁ o₂ p q. (p .answer ∙ sym (q .answer), p .output ∙ sym (q .output));
+      isolated = λ out₁ out₂ r₁ r₂ o₁ o₂ e p q.
+          let both : headedOf s options (length out₁) ≡ headedOf s options (length out₂) = ap (λ (n : ℕ). headedOf s options n) e in
+          let same : o₂ ≡ onto (headedOf s options (length out₁) .bytes) out₂ =
+          q .output ∙ sym (ap (λ (x : Result). onto (x .bytes) out₂) both) in (
+            p .answer ∙ ap (λ (x : Result). headedNumbers (x .answer)) both ∙ sym (q .answer),
+            seam (headedOf s options (length out₁) .bytes) out₁ o₁ (p .output) .0 ∙ sym (seam (headedOf s options (length out₁) .bytes) out₂ o₂ same .0),
+          );
+      rest-kept = λ out r out′ a. seam (headedOf s options (length out) .bytes) out out′ (a .output) .1;
+      exactly = λ out r out′ a. heading-told s options (length out) r (a .answer);
+      only-a-heading-writes = λ out r out′ a z.
+          let none = silent s options (length out) (sym (ap (λ (x : LarkHeaded). x .found) (a .answer)) ∙ z) in
+          a .output ∙ ap (λ (bs : List ℕ). onto bs out) none ∙ nothing-onto out;
+    }

@@ -1,0 +1,222 @@
+-- The claims of the calls on a record, as C sees them: `lark_read`, `lark_resolve_attention`, `lark_resolve_headings`, `lark_resolve_lists`.
+-- For each: any two results that its promise allows are equal; what a buffer held before is in nothing that it answers or writes; each
+-- number is given exactly when the table says; no refusal writes.
+-- Assumes nothing.
+use Prim.Native.Nat.{ℕ, _<_}
+use native.Mathlib.Omega.{arith}
+use mathlib.Core.Path.{_≡_, refl, sym, ap, _∙_}
+use mathlib.Core.List.{List, []}
+use lib.ListN.{length, take, drop, replicate}
+use Rattle.record.specs.Check.{admitted, refuse}
+use Rattle.record.specs.Event.{documentOf, eventsOf}
+use Rattle.record.specs.Rows.{Least, Row, documentCount, eventCount}
+use Rattle.record.specs.Written.{WrittenRow, ExactlyWritten}
+use Rattle.record.specs.Outcome.{Outcome, accepted, refused, refusing, Resolution, outcome, onto, bytesWritten}
+use Rattle.record.specs.Promise.{Writes, writes-determined, writes-same-answer, writes-same-work, writes-same-bytes, writes-keep-rest}
+use Rattle.record.specs.declared.check.Reading.{Reading}
+use Rattle.record.specs.declared.check.Reading.the-variants.{Good, Refused}
+use Rattle.record.specs.declared.event.Event.{Event}
+use Rattle.record.proofs.Exactly.{exactly}
+use Rattle.attention.specs.Attention.{attention}
+use Rattle.attention.specs.Promise.{resolution as attentionOutcome, answerOf as attentionAnswer}
+use Rattle.attention.specs.Shape.{Offends as RunOffends}
+use Rattle.attention.proofs.Exactly.{exactly-resolved as attention-exactly-resolved}
+use Rattle.heading.specs.Headings.{headings}
+use Rattle.heading.specs.Promise.{resolution as headingOutcome, answerOf as headingAnswer}
+use Rattle.heading.specs.Shape.{Broken as HeadingOffends}
+use Rattle.heading.proofs.Exactly.{exactly-resolved as headings-exactly-resolved}
+use Rattle.list.specs.Lists.{lists}
+use Rattle.list.specs.Promise.{outcomeOf as listOutcome, answerOf as listAnswer}
+use Rattle.list.specs.Offence.{Offends as ItemOffends}
+use Rattle.list.proofs.Exactly.{exactly-resolved as lists-exactly-resolved}
+use Rattle.ledgerlark.specs.Answers.{readingOf, attentionOf, headingsOf, listsOf, ReadAs, AttentionAs, HeadingsAs, ListsAs}
+use Rattle.ledgerlark.specs.declared.resolve.LarkReading.{LarkReading}
+use Rattle.ledgerlark.specs.declared.resolve.LarkResolved.{LarkResolved}
+use Rattle.claims.specs.Told.{Told}
+
+-- "A refusal returns its number and place, all else zero"
+
+abbrev pub readRefusal : ℕ → ℕ → LarkReading
+readRefusal n p = record { number = n; place = p; document = 0; events = 0 }
+
+abbrev pub refusal : ℕ → ℕ → LarkResolved
+refusal n p = record { number = n; place = p; events = 0; groups = 0; tried = 0 }
+
+-- lark_read
+
+pub read-unique : {s : List ℕ} {options : ℕ} {work : List ℕ} {r₁ r₂ : LarkReading} {w₁ w₂ : List ℕ} →
+    ReadAs s options work r₁ w₁ → ReadAs s options work r₂ w₂ → (r₁ ≡ r₂) × (w₁ ≡ w₂)
+read-unique p q = (p .answer ∙ sym (q .answer), p .wiped ∙ sym (q .wiped))
+
+pub read-isolated : {s : List ℕ} {options : ℕ} {work₁ work₂ : List ℕ} {r₁ r₂ : LarkReading} {w₁ w₂ : List ℕ} →
+    length work₁ ≡ length work₂ → ReadAs s options work₁ r₁ w₁ → ReadAs s options work₂ r₂ w₂ → (r₁ ≡ r₂) × (w₁ ≡ w₂)
+read-isolated {s} {options} e p q =
+    (p .answer ∙ ap (λ (n : ℕ). readingOf (admitted s options n)) e ∙ sym (q .answer), p .wiped ∙ ap (λ (n : ℕ). replicate n 0) e ∙ sym (q .wiped))
+
+read-back : (a : Reading) (n p : ℕ) → 0 < n → readingOf a ≡ readRefusal n p → a ≡ refuse n p
+read-back (Good d e) n p h q = let z : 0 ≡ n = ap (λ (x : LarkReading). x .number) q in absurd (omega arith)
+read-back (Refused x) n p h q =
+    let e₁ : x .number ≡ n = ap (λ (y : LarkReading). y .number) q in
+    let e₂ : x .place ≡ p = ap (λ (y : LarkReading). y .place) q in
+    let e₃ : refuse (x .number) (x .place) ≡ refuse n p = cc in
+    e₃
+
+pub read-exactly : {s : List ℕ} {options : ℕ} {work : List ℕ} {r : LarkReading} {work′ : List ℕ} → ReadAs s options work r work′ →
+    Told (λ (x : LarkReading). x .number) readRefusal (Row s options (length work)) r
+read-exactly {s} {options} {work} a =
+    record {
+      given = λ n p l. a .answer ∙ ap readingOf (exactly s options (length work) .given n p l);
+      only = λ n p h q. exactly s options (length work) .refused n p (read-back (admitted s options (length work)) n p h (sym (a .answer) ∙ q));
+      accepted = λ none. ap (λ (x : LarkReading). x .number) (a .answer ∙ ap readingOf (exactly s options (length work) .accepted none));
+    }
+
+-- every call that writes, once: what it comes to, and how its answer reads that
+
+-- an answer reads an outcome in numbers: 0 where something is written, a refusal's number and place else
+pub record Reads (answers : Outcome → LarkResolved) : Type 0 where
+  pub of-refused : (n p : ℕ) → answers (refusing n p) ≡ refusal n p
+  pub of-accepted : (es : List Event) → answers (accepted es) .number ≡ 0
+
+-- the calls of two messages on two pairs of buffers, each of the same length as the other's: the same answer, the same bytes written, work memory
+-- alike, and behind what is written each output as it was
+pub record Isolated (bytes out₁ out₂ : List ℕ) (r₁ r₂ : LarkResolved) (o₁ o₂ w₁ w₂ : List ℕ) : Type 0 where
+  pub answer : r₁ ≡ r₂
+  pub first : take (length bytes) o₁ ≡ bytes
+  pub second : take (length bytes) o₂ ≡ bytes
+  pub first-kept : drop (length bytes) o₁ ≡ drop (length bytes) out₁
+  pub second-kept : drop (length bytes) o₂ ≡ drop (length bytes) out₂
+  pub work : w₁ ≡ w₂
+
+writes-isolated : {comes : ℕ → ℕ → Outcome} {answers : Outcome → LarkResolved} {out₁ out₂ work₁ work₂ : List ℕ} {r₁ r₂ : LarkResolved}
+    {o₁ o₂ w₁ w₂ : List ℕ} →
+    length out₁ ≡ length out₂ → length work₁ ≡ length work₂ → Writes comes answers out₁ work₁ r₁ o₁ w₁ → Writes comes answers out₂ work₂ r₂ o₂ w₂ →
+    Isolated (bytesWritten (comes (length out₁) (length work₁))) out₁ out₂ r₁ r₂ o₁ o₂ w₁ w₂
+writes-isolated {comes} {answers} {out₁} {out₂} {work₁} {work₂} eo ew p q =
+    record {
+      answer = writes-same-answer eo ew p q;
+      first = writes-same-bytes eo ew p q _ refl .0;
+      second = writes-same-bytes eo ew p q _ refl .1;
+      first-kept = writes-keep-rest eo ew p q _ refl;
+      second-kept = writes-keep-rest (sym eo) (sym ew) q p _ both;
+      work = writes-same-work eo ew p q;
+    }
+  where
+    both : bytesWritten (comes (length out₁) (length work₁)) ≡ bytesWritten (comes (length out₂) (length work₂))
+    both = cc
+
+nothing-onto : (out : List ℕ) → onto [] out ≡ out
+unfolding onto
+nothing-onto out = refl
+
+keeps : {comes : ℕ → ℕ → Outcome} {answers : Outcome → LarkResolved} {out work : List ℕ} {r : LarkResolved} {out′ work′ : List ℕ} →
+    Reads answers → (o : Outcome) → comes (length out) (length work) ≡ o → Writes comes answers out work r out′ work′ → 0 < r .number → out′ ≡ out
+keeps {comes} {answers} {out} {work} {r} reads (accepted es) e a h =
+    let z : r .number ≡ 0 = ap (λ (x : LarkResolved). x .number) (a .answer ∙ ap answers e) ∙ reads .of-accepted es in absurd (omega arith)
+keeps {comes} {answers} {out} {work} {r} reads (refused x) e a h =
+    a .output ∙ ap (λ (o : Outcome). onto (bytesWritten o) out) e ∙ nothing-onto out
+
+no-refusal-writes : {comes : ℕ → ℕ → Outcome} {answers : Outcome → LarkResolved} {out work : List ℕ} {r : LarkResolved} {out′ work′ : List ℕ} →
+    Reads answers → Writes comes answers out work r out′ work′ → 0 < r .number → out′ ≡ out
+no-refusal-writes {comes} {answers} {out} {work} reads a h = keeps reads (comes (length out) (length work)) refl a h
+
+back : {answers : Outcome → LarkResolved} → Reads answers → (o : Outcome) (n p : ℕ) → 0 < n → answers o ≡ refusal n p → o ≡ refusing n p
+back {answers} reads (accepted es) n p h q =
+    let z : 0 ≡ n = sym (reads .of-accepted es) ∙ ap (λ (x : LarkResolved). x .number) q in absurd (omega arith)
+back {answers} reads (refused x) n p h q =
+    let e : refusal (x .number) (x .place) ≡ refusal n p = sym (reads .of-refused (x .number) (x .place)) ∙ q in
+    let e₁ : x .number ≡ n = ap (λ (y : LarkResolved). y .number) e in
+    let e₂ : x .place ≡ p = ap (λ (y : LarkResolved). y .place) e in
+    let e₃ : refusing (x .number) (x .place) ≡ refusing n p = cc in
+    e₃
+
+abbrev pub Numbered : (ℕ → ℕ → Type 0) → LarkResolved → Type 0
+Numbered R r = Told (λ (x : LarkResolved). x .number) refusal R r
+
+-- the rows as the resolver's own crate states them, read as numbers
+told : {comes : ℕ → ℕ → Outcome} {answers : Outcome → LarkResolved} {s : List ℕ} {options : ℕ} {Offends : ℕ → Type 0} {resolve : ℕ → ℕ → Resolution}
+    {out work : List ℕ} {r : LarkResolved} {out′ work′ : List ℕ} → Reads answers →
+    comes (length out) (length work) ≡ outcome (admitted s options (length work)) resolve (length out) →
+    ExactlyWritten s options (length work) Offends resolve (length out) → Writes comes answers out work r out′ work′ →
+    Numbered (WrittenRow s options (length work) Offends (resolve (documentCount s) (eventCount s)) (length out)) r
+told {comes} {answers} {s} {options} {Offends} {resolve} {out} {work} {r} reads e x a =
+    record {
+      given = λ n p l. a .answer ∙ ap answers (e ∙ x .given n p l) ∙ reads .of-refused n p;
+      only = λ n p h q. x .refused n p (sym e ∙ back reads (comes (length out) (length work)) n p h (sym (a .answer) ∙ q));
+      accepted = λ none. zero-number (outcome (admitted s options (length work)) resolve (length out)) e none;
+    }
+  where
+    zero-number : (o : Outcome) → comes (length out) (length work) ≡ o →
+        ((n p : ℕ) → WrittenRow s options (length work) Offends (resolve (documentCount s) (eventCount s)) (length out) n p → ⊥) → r .number ≡ 0
+    zero-number (accepted es) c none = ap (λ (y : LarkResolved). y .number) (a .answer ∙ ap answers c) ∙ reads .of-accepted es
+    zero-number (refused y) c none = absurd (none (y .number) (y .place) (x .refused (y .number) (y .place) (sym e ∙ c) .holds))
+
+-- the claim of a call that writes, of one record and one option number: `As` is its promise, `bytes` what it writes with an output and a work
+-- memory of these lengths, and `R` the rows of the table that it can give
+pub record Claim (As : List ℕ → List ℕ → LarkResolved → List ℕ → List ℕ → Type 0) (bytes : ℕ → ℕ → List ℕ) (R : ℕ → ℕ → ℕ → ℕ → Type 0) : Type 0 where
+  pub unique : (out work : List ℕ) (r₁ r₂ : LarkResolved) (o₁ o₂ w₁ w₂ : List ℕ) →
+      As out work r₁ o₁ w₁ → As out work r₂ o₂ w₂ → (r₁ ≡ r₂) × (o₁ ≡ o₂) × (w₁ ≡ w₂)
+  pub isolated : (out₁ out₂ work₁ work₂ : List ℕ) (r₁ r₂ : LarkResolved) (o₁ o₂ w₁ w₂ : List ℕ) →
+      length out₁ ≡ length out₂ → length work₁ ≡ length work₂ → As out₁ work₁ r₁ o₁ w₁ → As out₂ work₂ r₂ o₂ w₂ →
+      Isolated (bytes (length out₁) (length work₁)) out₁ out₂ r₁ r₂ o₁ o₂ w₁ w₂
+  pub exactly : (out work : List ℕ) (r : LarkResolved) (out′ work′ : List ℕ) → As out work r out′ work′ → Numbered (R (length out) (length work)) r
+  pub refusal-writes-nothing : (out work : List ℕ) (r : LarkResolved) (out′ work′ : List ℕ) → As out work r out′ work′ → 0 < r .number → out′ ≡ out
+  pub wiped : (out work : List ℕ) (r : LarkResolved) (out′ work′ : List ℕ) → As out work r out′ work′ → work′ ≡ replicate (length work) 0
+
+-- which holds of each, by its promise alone
+claimed : (comes : ℕ → ℕ → Outcome) (answers : Outcome → LarkResolved) (s : List ℕ) (options : ℕ) (Offends : ℕ → Type 0) (resolve : ℕ → ℕ → Resolution) →
+    Reads answers → ((outs works : ℕ) → comes outs works ≡ outcome (admitted s options works) resolve outs) →
+    ((outs works : ℕ) → ExactlyWritten s options works Offends resolve outs) →
+    Claim (Writes comes answers) (λ outs works. bytesWritten (comes outs works))
+    (λ outs works. WrittenRow s options works Offends (resolve (documentCount s) (eventCount s)) outs)
+claimed comes answers s options Offends resolve reads e x =
+    record {
+      unique = λ out work r₁ r₂ o₁ o₂ w₁ w₂ p q. writes-determined p q;
+      isolated = λ out₁ out₂ work₁ work₂ r₁ r₂ o₁ o₂ w₁ w₂ eo ew p q. writes-isolated eo ew p q;
+      exactly = λ out work r out′ work′ a. told reads (e (length out) (length work)) (x (length out) (length work)) a;
+      refusal-writes-nothing = λ out work r out′ work′ a h. no-refusal-writes reads a h;
+      wiped = λ out work r out′ work′ a. a .wiped;
+    }
+
+-- lark_resolve_attention: what offends is a run
+pub attention-claim : (s : List ℕ) (options : ℕ) →
+    Claim (AttentionAs s options) (λ outs works. bytesWritten (attentionOutcome s options outs works))
+    (λ outs works.
+    WrittenRow s options works (RunOffends (documentOf s (documentCount s)) options (eventsOf s (documentCount s) (eventCount s)))
+    (attention options (documentOf s (documentCount s)) (eventsOf s (documentCount s) (eventCount s))) outs)
+unfolding attentionOutcome
+attention-claim s options =
+    claimed (attentionOutcome s options) (λ (o : Outcome). attentionOf (attentionAnswer s options o)) s options
+    (RunOffends (documentOf s (documentCount s)) options (eventsOf s (documentCount s) (eventCount s)))
+    (λ d e. attention options (documentOf s d) (eventsOf s d e))
+    (record { of-refused = λ n p. refl; of-accepted = λ es. refl })
+    (λ outs works. refl)
+    (λ outs works. attention-exactly-resolved s options works outs)
+
+-- lark_resolve_headings: what offends is a heading
+pub headings-claim : (s : List ℕ) (options : ℕ) →
+    Claim (HeadingsAs s options) (λ outs works. bytesWritten (headingOutcome s options outs works))
+    (λ outs works.
+    WrittenRow s options works (HeadingOffends (eventsOf s (documentCount s) (eventCount s)))
+    (headings (eventsOf s (documentCount s) (eventCount s))) outs)
+unfolding headingOutcome
+headings-claim s options =
+    claimed (headingOutcome s options) (λ (o : Outcome). headingsOf (headingAnswer o)) s options
+    (HeadingOffends (eventsOf s (documentCount s) (eventCount s))) (λ d e. headings (eventsOf s d e))
+    (record { of-refused = λ n p. refl; of-accepted = λ es. refl })
+    (λ outs works. refl)
+    (λ outs works. headings-exactly-resolved s options works outs)
+
+-- lark_resolve_lists: what offends is an item
+pub lists-claim : (s : List ℕ) (options : ℕ) →
+    Claim (ListsAs s options) (λ outs works. bytesWritten (listOutcome s options outs works))
+    (λ outs works.
+    WrittenRow s options works (ItemOffends (documentOf s (documentCount s)) (eventsOf s (documentCount s) (eventCount s)))
+    (lists (documentOf s (documentCount s)) (eventsOf s (documentCount s) (eventCount s))) outs)
+unfolding listOutcome
+lists-claim s options =
+    claimed (listOutcome s options) (λ (o : Outcome). listsOf (listAnswer o)) s options
+    (ItemOffends (documentOf s (documentCount s)) (eventsOf s (documentCount s) (eventCount s)))
+    (λ d e. lists (documentOf s d) (eventsOf s d e))
+    (record { of-refused = λ n p. refl; of-accepted = λ es. refl })
+    (λ outs works. refl)
+    (λ outs works. lists-exactly-resolved s options works outs)
