@@ -101,15 +101,41 @@ fn odd_bytes_end_the_events() {
         assert_eq!((events.next(), events.next(), events.next()), (None, None, None));
         assert_eq!(events.size_hint(), (0, Some(0)));
     }
-    // Every length of some bytes that mean nothing.
-    let noise: Vec<u8> = (0u32..400).map(|i| (i.wrapping_mul(2_654_435_761) >> 24) as u8).collect();
-    for from in 0..noise.len() {
-        for byte in [0, 255] {
-            let mut bytes = noise[from..].to_vec();
-            bytes.iter_mut().take(2).for_each(|front| *front = byte);
-            assert!(Events::new(&bytes).count() <= bytes.len() / 8);
+}
+
+/// Many short buffers of the bytes 0 to 3, most of them sound in part, and read by offsets beside.
+#[test]
+fn any_bytes_will_do() {
+    let mut seed = 1u32;
+    let mut next = |below: u32| {
+        seed = seed.wrapping_mul(1_664_525).wrapping_add(1_013_904_223);
+        (seed >> 16) % below
+    };
+    let mut lengths = [0; 4];
+    for _ in 0..20_000 {
+        let length = next(50);
+        // The upper bytes of the count, and most kinds and zero bytes, are such as a section has.
+        let mut byte = |at: u32| match at {
+            0 => next(4),
+            1..=3 => 0,
+            _ if [0, 2, 3].contains(&((at - 4) % 8)) && next(5) > 0 => 0,
+            _ => next(4),
+        };
+        let bytes: Vec<u8> = (0..length).map(|at| byte(at) as u8).collect();
+        let count = if bytes.len() < 4 { 0 } else { bytes[0] as usize };
+        let mut expected = Vec::new();
+        for at in (0..count).map(|i| 4 + 8 * i) {
+            if at + 8 > bytes.len() || bytes[at] > 1 || bytes[at + 2] != 0 || bytes[at + 3] != 0 {
+                break;
+            }
+            let place = (0..4).map(|i| (bytes[at + 4 + i] as usize) << (8 * i)).sum();
+            let make = if bytes[at] == 0 { Event::enter } else { Event::exit };
+            expected.push(make(Name(bytes[at + 1]), place));
         }
+        lengths[expected.len()] += 1;
+        assert_eq!(Events::new(&bytes).collect::<Vec<_>>(), expected, "{bytes:?}");
     }
+    assert!(lengths.iter().all(|&times| times > 500), "{lengths:?}");
 }
 
 #[test]
