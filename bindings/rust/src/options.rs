@@ -24,7 +24,7 @@ impl Options {
     pub const ATTENTION: Options = Options(1);
     /// `~` makes strikethrough.
     pub const STRIKETHROUGH: Options = Options(2);
-    /// A single `~` does so too.
+    /// A single `~` does so too. Nothing without [`STRIKETHROUGH`](Options::STRIKETHROUGH).
     pub const SINGLE_TILDE: Options = Options(4);
     /// Headings are read.
     pub const HEADING: Options = Options(8);

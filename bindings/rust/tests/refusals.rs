@@ -167,10 +167,8 @@ fn good_records() {
         assert_eq!(read(&[0; 8], OPTIONS, &mut work), reading(0, 0));
         assert!(is_zero(&work));
         let mut work = dirty_work(work_length);
-        let largest = record(
-            &[b'a'; 16_384],
-            &"+0@0 -0@16384 +0@16384 -0@16384".replace("+0@16384 -0@16384", &"+0@16384 -0@16384 ".repeat(1_023)),
-        );
+        let pairs = ["+0@0 -0@16384 ".to_string(), "+0@16384 -0@16384 ".repeat(1_023)].concat();
+        let largest = record(&[b'a'; 16_384], &pairs);
         assert_eq!(read(&largest, Options::from_bits(63), &mut work), reading(16_384, 2_048));
         assert!(is_zero(&work));
         let mut work = dirty_work(work_length);
