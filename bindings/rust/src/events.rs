@@ -1,0 +1,222 @@
+//! Events: one by one, in a section, in a record.
+
+use std::fmt;
+use std::iter::FusedIterator;
+
+/// Whether an event enters or exits.
+#[derive(Clone, Copy, Debug, PartialEq, Eq, Hash)]
+pub enum Kind {
+    /// Number 0.
+    Enter,
+    /// Number 1.
+    Exit,
+}
+
+/// What an event enters or exits: a number, of which 0 to 24 have a meaning.
+#[derive(Clone, Copy, Debug, PartialEq, Eq, PartialOrd, Ord, Hash)]
+pub struct Name(pub u8);
+
+macro_rules! names {
+    ($($number:literal $constant:ident $word:literal $about:literal)*) => {
+        impl Name {
+            $(#[doc = $about] pub const $constant: Name = Name($number);)*
+
+            /// The name in a word, if it has a meaning.
+            pub const fn word(self) -> Option<&'static str> {
+                match self.0 {
+                    $($number => Some($word),)*
+                    _ => None,
+                }
+            }
+        }
+    };
+}
+
+names! {
+    0 DATA "Data" "Bytes that stand for themselves."
+    1 ATTENTION_SEQUENCE "AttentionSequence" "A run of one marker, `*`, `_` or `~`, not yet resolved."
+    2 EMPHASIS "Emphasis" "Emphasis: one marker taken on each side."
+    3 EMPHASIS_SEQUENCE "EmphasisSequence" "Its markers, on one side."
+    4 EMPHASIS_TEXT "EmphasisText" "What it emphasises."
+    5 STRONG "Strong" "Strong: two markers taken on each side."
+    6 STRONG_SEQUENCE "StrongSequence" "Its markers, on one side."
+    7 STRONG_TEXT "StrongText" "What it makes strong."
+    8 GFM_STRIKETHROUGH "GfmStrikethrough" "Strikethrough."
+    9 GFM_STRIKETHROUGH_SEQUENCE "GfmStrikethroughSequence" "Its markers, on one side."
+    10 GFM_STRIKETHROUGH_TEXT "GfmStrikethroughText" "What it strikes through."
+    11 HEADING_ATX "HeadingAtx" "A heading."
+    12 HEADING_ATX_SEQUENCE "HeadingAtxSequence" "A run of `#` in a heading."
+    13 HEADING_ATX_TEXT "HeadingAtxText" "The text of a heading."
+    14 SPACE_OR_TAB "SpaceOrTab" "Spaces and tabs."
+    15 LIST_ITEM "ListItem" "A list item."
+    16 LIST_ITEM_PREFIX "ListItemPrefix" "What a list item begins with."
+    17 LIST_ITEM_MARKER "ListItemMarker" "The mark in the prefix: one of `*+-.)`."
+    18 LIST_ITEM_VALUE "ListItemValue" "The digits in the prefix."
+    19 LIST_ORDERED "ListOrdered" "A list whose mark is `.` or `)`."
+    20 LIST_UNORDERED "ListUnordered" "A list with another mark."
+    21 LINE_ENDING "LineEnding" "A line ending."
+    22 BLANK_LINE_ENDING "BlankLineEnding" "The ending of a blank line."
+    23 BLOCK_QUOTE_PREFIX "BlockQuotePrefix" "What a line of a block quote begins with."
+    24 OTHER_CONTAINER "OtherContainer" "Any other container."
+}
+
+/// Its word, or its number where it has none.
+impl fmt::Display for Name {
+    fn fmt(&self, f: &mut fmt::Formatter<'_>) -> fmt::Result {
+        match self.word() {
+            Some(word) => f.write_str(word),
+            None => write!(f, "{}", self.0),
+        }
+    }
+}
+
+/// An event: at `place`, an offset in the document, something is entered or left.
+///
+/// ```
+/// use ledgerlark::{Event, Name};
+///
+/// assert_eq!(Event::enter(Name::EMPHASIS, 7).to_string(), "+Emphasis@7");
+/// assert_eq!(Event::exit(Name::EMPHASIS, 9).to_string(), "-Emphasis@9");
+/// ```
+#[derive(Clone, Copy, Debug, PartialEq, Eq, Hash)]
+pub struct Event {
+    /// Whether it enters or exits.
+    pub kind: Kind,
+    /// What it enters or exits.
+    pub name: Name,
+    /// Where.
+    pub place: usize,
+}
+
+impl Event {
+    /// The bytes that an event takes in a section.
+    pub const LENGTH: usize = 8;
+
+    /// The event that enters `name` at `place`.
+    pub const fn enter(name: Name, place: usize) -> Event {
+        Event {
+            kind: Kind::Enter,
+            name,
+            place,
+        }
+    }
+
+    /// The event that exits `name` at `place`.
+    pub const fn exit(name: Name, place: usize) -> Event {
+        Event {
+            kind: Kind::Exit,
+            name,
+            place,
+        }
+    }
+
+    /// Both, with nothing between them.
+    pub const fn pair(name: Name, from: usize, to: usize) -> [Event; 2] {
+        [Event::enter(name, from), Event::exit(name, to)]
+    }
+}
+
+/// `+` or `-`, the name, `@` and the place.
+impl fmt::Display for Event {
+    fn fmt(&self, f: &mut fmt::Formatter<'_>) -> fmt::Result {
+        let sign = match self.kind {
+            Kind::Enter => '+',
+            Kind::Exit => '-',
+        };
+        write!(f, "{sign}{}@{}", self.name, self.place)
+    }
+}
+
+/// The events of a section, in order. Bytes behind the section are not looked at.
+///
+/// Any bytes will do: the events end where the count says, or before that at the first eight bytes that are cut short or are no event.
+///
+/// ```
+/// use ledgerlark::{Event, Events, Name};
+///
+/// let section = [1, 0, 0, 0, 0, 2, 0, 0, 7, 0, 0, 0];
+/// assert!(Events::new(&section).eq([Event::enter(Name::EMPHASIS, 7)]));
+/// assert_eq!(Events::new(&section[..11]).next(), None);
+/// ```
+#[derive(Clone, Debug)]
+pub struct Events<'a> {
+    /// How many are left by the count.
+    left: usize,
+    /// The bytes not yet read.
+    rest: &'a [u8],
+}
+
+impl<'a> Events<'a> {
+    /// The events of the section that `bytes` begin with.
+    pub fn new(bytes: &'a [u8]) -> Events<'a> {
+        match bytes.split_first_chunk() {
+            Some((count, rest)) => Events {
+                left: u32::from_le_bytes(*count) as usize,
+                rest,
+            },
+            None => Events { left: 0, rest: &[] },
+        }
+    }
+}
+
+impl Iterator for Events<'_> {
+    type Item = Event;
+
+    fn next(&mut self) -> Option<Event> {
+        // Left at 0 for good where no event stands, so that nothing behind it is taken for one.
+        let left = std::mem::take(&mut self.left).checked_sub(1)?;
+        let (&[kind, name, 0, 0, a, b, c, d], rest) = self.rest.split_first_chunk()? else {
+            return None;
+        };
+        let kind = match kind {
+            0 => Kind::Enter,
+            1 => Kind::Exit,
+            _ => return None,
+        };
+        (self.left, self.rest) = (left, rest);
+        Some(Event {
+            kind,
+            name: Name(name),
+            place: u32::from_le_bytes([a, b, c, d]) as usize,
+        })
+    }
+
+    fn size_hint(&self) -> (usize, Option<usize>) {
+        (0, Some(self.left.min(self.rest.len() / Event::LENGTH)))
+    }
+}
+
+impl FusedIterator for Events<'_> {}
+
+/// A record: the document's count and bytes, then the events' count and bytes.
+///
+/// Nothing is judged here. A document, a list of events or a place too large for a record makes one that the library refuses.
+///
+/// ```
+/// use ledgerlark::{record, Event, Name};
+///
+/// assert_eq!(
+///     record(b"a", &Event::pair(Name::DATA, 0, 1)),
+///     [1, 0, 0, 0, b'a', 2, 0, 0, 0, 0, 0, 0, 0, 0, 0, 0, 0, 1, 0, 0, 0, 1, 0, 0, 0],
+/// );
+/// ```
+pub fn record(document: &[u8], events: &[Event]) -> Vec<u8> {
+    let mut bytes = Vec::with_capacity(8 + document.len() + Event::LENGTH * events.len());
+    bytes.extend(four_bytes(document.len()));
+    bytes.extend(document);
+    bytes.extend(four_bytes(events.len()));
+    for event in events {
+        let kind = match event.kind {
+            Kind::Enter => 0,
+            Kind::Exit => 1,
+        };
+        bytes.extend([kind, event.name.0, 0, 0]);
+        bytes.extend(four_bytes(event.place));
+    }
+    bytes
+}
+
+/// A number as u32, little endian. One too large becomes the largest, which is over every limit, and so is still refused.
+fn four_bytes(number: usize) -> [u8; 4] {
+    u32::try_from(number).unwrap_or(u32::MAX).to_le_bytes()
+}

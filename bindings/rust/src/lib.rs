@@ -1,0 +1,43 @@
+//! Resolves Markdown over records of events: emphasis, strong and strikethrough runs, headings, list items.
+//!
+//! The work is done by the static library of the project, where every function is proved to meet its contract. This crate is a thin
+//! face of it: slices in, a `Result` out, and no unsafe code but in one file.
+//!
+//! A record is a document and its events. [`record()`] makes one, [`read`] says whether it is good, and [`resolve_attention`],
+//! [`resolve_headings`] and [`resolve_lists`] write the events that come out. The line readers [`space_or_tab`], [`list_item`],
+//! [`continuation`] and [`heading`] take one line.
+//!
+//! What a call answers and writes depends on the record or line, the options, the arguments and the lengths of the buffers alone. It never
+//! depends on what a buffer held before. A [`Refusal`] leaves the output as it was. The work memory is zero after every call.
+//!
+//! The whole of `examples/emphasis.rs`:
+//!
+//! ```
+#![doc = include_str!("../examples/emphasis.rs")]
+//! ```
+
+#![deny(missing_docs, unsafe_code, unsafe_op_in_unsafe_fn)]
+
+mod events;
+#[allow(unsafe_code)]
+mod ffi;
+mod lines;
+mod options;
+mod refusal;
+mod resolve;
+mod work;
+
+pub use events::{record, Event, Events, Kind, Name};
+pub use lines::{continuation, heading, list_item, space_or_tab, Container, Continuation, Item, ListKind};
+pub use options::Options;
+pub use refusal::Refusal;
+pub use resolve::{
+    read, resolve_attention, resolve_attention_to_vec, resolve_headings, resolve_headings_to_vec, resolve_lists, resolve_lists_to_vec,
+    section_length, Reading, Resolved, MAX_RESULT,
+};
+pub use work::Work;
+
+/// The examples of the README are run too.
+#[cfg(doctest)]
+#[doc = include_str!("../README.md")]
+struct Readme;

@@ -1,0 +1,194 @@
+//! The resolver of attention, on document 01's cases. What is expected was written from its rules by hand.
+
+mod common;
+
+use common::{dirty, dirty_work, events, is_zero, record, refuses, resolves, Expected};
+use ledgerlark::{resolve_attention, resolve_attention_to_vec, section_length, Options, Refusal, Work, MAX_RESULT};
+
+fn case(document: &str, before: &str, groups: usize, tried: usize, after: &str) {
+    let expected = Expected {
+        events: after,
+        groups,
+        tried,
+    };
+    resolves(resolve_attention, Options::default(), document, before, expected);
+}
+
+/// The whole case of document 01, to the byte.
+#[test]
+fn whole_case() {
+    let record = [
+        3, 0, 0, 0, b'*', b'a', b'*', // the document
+        6, 0, 0, 0, // the events
+        0, 1, 0, 0, 0, 0, 0, 0, // +1@0
+        1, 1, 0, 0, 1, 0, 0, 0, // -1@1
+        0, 0, 0, 0, 1, 0, 0, 0, // +0@1
+        1, 0, 0, 0, 2, 0, 0, 0, // -0@2
+        0, 1, 0, 0, 2, 0, 0, 0, // +1@2
+        1, 1, 0, 0, 3, 0, 0, 0, // -1@3
+    ];
+    let section = [
+        10, 0, 0, 0, // the events
+        0, 2, 0, 0, 0, 0, 0, 0, // +2@0
+        0, 3, 0, 0, 0, 0, 0, 0, // +3@0
+        1, 3, 0, 0, 1, 0, 0, 0, // -3@1
+        0, 4, 0, 0, 1, 0, 0, 0, // +4@1
+        0, 0, 0, 0, 1, 0, 0, 0, // +0@1
+        1, 0, 0, 0, 2, 0, 0, 0, // -0@2
+        1, 4, 0, 0, 2, 0, 0, 0, // -4@2
+        0, 3, 0, 0, 2, 0, 0, 0, // +3@2
+        1, 3, 0, 0, 3, 0, 0, 0, // -3@3
+        1, 2, 0, 0, 3, 0, 0, 0, // -2@3
+    ];
+    assert_eq!(section.len(), 84);
+    assert_eq!(record, *common::record(b"*a*", "+1@0 -1@1 +0@1 -0@2 +1@2 -1@3"));
+    let mut out = [common::DIRT; 100];
+    let mut work = dirty_work(Work::LENGTH);
+    let resolved = resolve_attention(&record, Options::default(), &mut out, &mut work).expect("good");
+    assert_eq!((resolved.events, resolved.groups, resolved.tried), (10, 1, 1));
+    assert_eq!(resolved.section, section);
+    assert_eq!(out[..84], section);
+    assert_eq!(out[84..], [common::DIRT; 16]);
+    assert!(is_zero(&work));
+}
+
+#[test]
+fn whole_case_at_every_length() {
+    case(
+        "*a*",
+        "+1@0 -1@1 +0@1 -0@2 +1@2 -1@3",
+        1,
+        1,
+        "+2@0 +3@0 -3@1 +4@1 +0@1 -0@2 -4@2 +3@2 -3@3 -2@3",
+    );
+}
+
+#[test]
+fn leftovers() {
+    case(
+        "**a*",
+        "+1@0 -1@2 +0@2 -0@3 +1@3 -1@4",
+        1,
+        1,
+        "+0@0 -0@1 +2@1 +3@1 -3@2 +4@2 +0@2 -0@3 -4@3 +3@3 -3@4 -2@4",
+    );
+    case(
+        "*a**",
+        "+1@0 -1@1 +0@1 -0@2 +1@2 -1@4",
+        1,
+        1,
+        "+2@0 +3@0 -3@1 +4@1 +0@1 -0@2 -4@2 +3@2 -3@3 -2@3 +0@3 -0@4",
+    );
+}
+
+#[test]
+fn two_groups() {
+    case(
+        "***a***",
+        "+1@0 -1@3 +0@3 -0@4 +1@4 -1@7",
+        2,
+        2,
+        "+2@0 +3@0 -3@1 +4@1 +5@1 +6@1 -6@3 +7@3 +0@3 -0@4 -7@4 +6@4 -6@6 -5@6 -4@6 +3@6 -3@7 -2@7",
+    );
+    case(
+        "a***b***c",
+        "+0@0 -0@1 +1@1 -1@4 +0@4 -0@5 +1@5 -1@8 +0@8 -0@9",
+        2,
+        2,
+        "+0@0 -0@1 +2@1 +3@1 -3@2 +4@2 +5@2 +6@2 -6@4 +7@4 +0@4 -0@5 -7@5 +6@5 -6@7 -5@7 -4@7 +3@7 -3@8 -2@8 +0@8 -0@9",
+    );
+}
+
+#[test]
+fn no_groups() {
+    case(
+        "a**b*c",
+        "+0@0 -0@1 +1@1 -1@3 +0@3 -0@4 +1@4 -1@5 +0@5 -0@6",
+        0,
+        1,
+        "+0@0 -0@1 +0@1 -0@3 +0@3 -0@4 +0@4 -0@5 +0@5 -0@6",
+    );
+    case(
+        "a_b_c",
+        "+0@0 -0@1 +1@1 -1@2 +0@2 -0@3 +1@3 -1@4 +0@4 -0@5",
+        0,
+        0,
+        "+0@0 -0@1 +0@1 -0@2 +0@2 -0@3 +0@3 -0@4 +0@4 -0@5",
+    );
+    case("~~~a~~~", "+1@0 -1@3 +0@3 -0@4 +1@4 -1@7", 0, 1, "+0@0 -0@3 +0@3 -0@4 +0@4 -0@7");
+    case("", "", 0, 0, "");
+}
+
+#[test]
+fn runs_between_lose_open() {
+    case(
+        "*a _b* c_",
+        "+1@0 -1@1 +0@1 -0@3 +1@3 -1@4 +0@4 -0@5 +1@5 -1@6 +0@6 -0@8 +1@8 -1@9",
+        1,
+        1,
+        "+2@0 +3@0 -3@1 +4@1 +0@1 -0@3 +0@3 -0@4 +0@4 -0@5 -4@5 +3@5 -3@6 -2@6 +0@6 -0@8 +0@8 -0@9",
+    );
+}
+
+#[test]
+fn single_tilde_only_with_its_option() {
+    let before = "+1@0 -1@1 +0@1 -0@2 +1@2 -1@3";
+    case("~a~", before, 0, 1, "+0@0 -0@1 +0@1 -0@2 +0@2 -0@3");
+    let expected = Expected {
+        events: "+8@0 +9@0 -9@1 +10@1 +0@1 -0@2 -10@2 +9@2 -9@3 -8@3",
+        groups: 1,
+        tried: 1,
+    };
+    resolves(
+        resolve_attention,
+        Options::default() | Options::SINGLE_TILDE,
+        "~a~",
+        before,
+        expected,
+    );
+}
+
+/// `****a**** `, so many times, and the two runs of each: two groups to each, which are 16 events.
+fn strongs(times: usize) -> Vec<u8> {
+    let runs = (0..times)
+        .map(|i| 10 * i)
+        .map(|at| format!("+1@{} -1@{} +1@{} -1@{} ", at, at + 4, at + 5, at + 9));
+    record("****a**** ".repeat(times).as_bytes(), &runs.collect::<String>())
+}
+
+#[test]
+fn the_longest_result() {
+    let record = strongs(500);
+    let length = section_length(MAX_RESULT);
+    assert_eq!(length, 64_004);
+    let mut out = dirty(length);
+    let mut work = dirty_work(Work::LENGTH);
+    let resolved = resolve_attention(&record, Options::default(), &mut out, &mut work).expect("8,000 events");
+    assert_eq!((resolved.events, resolved.groups, resolved.tried), (8_000, 1_000, 1_000));
+    assert_eq!(resolved.section.len(), length);
+    assert!(is_zero(&work));
+    refuses(resolve_attention, &record, Options::default(), length - 1, 8, 0);
+
+    // One more pair of runs: 8,016 events, refused whatever the output's length is.
+    for length in [0, length, length + 128] {
+        refuses(resolve_attention, &strongs(501), Options::default(), length, 7, 0);
+    }
+}
+
+/// The convenience gives the same events, at the limit too, and passes refusals on.
+#[test]
+fn to_vec() {
+    let record = record(b"*a*", "+1@0 -1@1 +0@1 -0@2 +1@2 -1@3");
+    let mut work = dirty_work(Work::LENGTH);
+    let resolved = resolve_attention_to_vec(&record, Options::default(), &mut work);
+    assert_eq!(resolved, Ok(events("+2@0 +3@0 -3@1 +4@1 +0@1 -0@2 -4@2 +3@2 -3@3 -2@3")));
+    assert_eq!(
+        resolve_attention_to_vec(&strongs(500), Options::default(), &mut work).map(|events| events.len()),
+        Ok(8_000)
+    );
+    assert_eq!(
+        resolve_attention_to_vec(&strongs(501), Options::default(), &mut work),
+        Err(Refusal { number: 7, place: 0 })
+    );
+    assert!(is_zero(&work));
+}

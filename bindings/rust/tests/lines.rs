@@ -1,0 +1,146 @@
+//! The line readers: what is taken, and the findings. What is expected was written from document 01 by hand.
+
+mod common;
+
+use common::{dirty, is_dirty, section};
+use ledgerlark::{continuation, heading, list_item, space_or_tab, Container, Continuation, Item, ListKind, Options, Refusal};
+
+/// Document 01's options for its cases.
+const OPTIONS: Options = Options::from_bits(59);
+const WITHOUT_CODE: Options = Options::from_bits(59 - 32);
+
+#[test]
+fn spaces_and_tabs() {
+    assert_eq!(space_or_tab(b"    a", OPTIONS, 1, 2), Ok(Some(2)));
+    assert_eq!(space_or_tab(b"\t \ta", OPTIONS, 2, 9), Ok(Some(3)));
+    assert_eq!(space_or_tab(b"a", OPTIONS, 0, 3), Ok(Some(0)));
+    assert_eq!(space_or_tab(b"", OPTIONS, 0, 3), Ok(Some(0)));
+    assert_eq!(space_or_tab(b"  \n  ", OPTIONS, 0, usize::MAX), Ok(Some(2)));
+}
+
+#[test]
+fn too_few() {
+    assert_eq!(space_or_tab(b"  a", OPTIONS, 3, 9), Ok(None));
+    assert_eq!(space_or_tab(b"   a", OPTIONS, 2, 1), Ok(None));
+    assert_eq!(space_or_tab(b" \n ", OPTIONS, 2, 9), Ok(None));
+    assert_eq!(space_or_tab(b"", OPTIONS, usize::MAX, usize::MAX), Ok(None));
+}
+
+/// An item with a filled rest.
+fn item(taken: usize, size: usize, kind: ListKind) -> Result<Option<Item>, Refusal> {
+    let container = Container { kind, size, blank: false };
+    Ok(Some(Item { taken, container }))
+}
+
+/// An item with a blank rest.
+fn blank_item(taken: usize, size: usize, kind: ListKind) -> Result<Option<Item>, Refusal> {
+    let container = Container { kind, size, blank: true };
+    Ok(Some(Item { taken, container }))
+}
+
+#[test]
+fn items() {
+    let (dash, dot) = (ListKind::Bullet(b'-'), ListKind::Ordered(b'.'));
+    assert_eq!(list_item(b"123456789. a", OPTIONS, false), item(11, 11, dot));
+    assert_eq!(list_item(b"-    a", OPTIONS, false), item(5, 5, dash));
+    assert_eq!(list_item(b"-     a", OPTIONS, false), item(2, 2, dash));
+    assert_eq!(list_item(b"   * a\nb", OPTIONS, false), item(5, 5, ListKind::Bullet(b'*')));
+    assert_eq!(list_item(b"+ + +", OPTIONS, true), item(2, 2, ListKind::Bullet(b'+')));
+    assert_eq!(list_item(b"1) a", OPTIONS, true), item(3, 3, ListKind::Ordered(b')')));
+    assert_eq!(list_item(b"2. a", OPTIONS, false), item(3, 3, dot));
+    assert_eq!(list_item(b"    - a", WITHOUT_CODE, false), item(6, 6, dash));
+    assert_eq!(list_item(b"-", OPTIONS, false), blank_item(1, 2, dash));
+    assert_eq!(list_item(b"  1.   \na", OPTIONS, false), blank_item(4, 5, dot));
+}
+
+#[test]
+fn not_an_item() {
+    let lines: [&[u8]; 7] = [b"", b"a", b"-a", b"1234567890. a", b"    - a", b"- - -", b"\n- a"];
+    for line in lines {
+        assert_eq!(list_item(line, OPTIONS, false), Ok(None), "{line:?}");
+        assert_eq!(list_item(line, OPTIONS, true), Ok(None), "{line:?}");
+    }
+    let lines: [&[u8]; 4] = [b"2. a", b"01. a", b"-", b"1.  "];
+    for line in lines {
+        assert_eq!(list_item(line, OPTIONS, true), Ok(None), "{line:?}");
+    }
+    assert_eq!(list_item(b"- a", Options::from_bits(59 - 16), false), Ok(None));
+}
+
+#[test]
+fn continuations() {
+    for kind in [ListKind::Bullet(b'-'), ListKind::Ordered(b')')] {
+        let clear = |size| Container { kind, size, blank: false };
+        let set = |size| Container { kind, size, blank: true };
+        let goes = |taken, container| Ok(Continuation::Goes { taken, container });
+        let stops = |container| Ok(Continuation::Stops { container });
+
+        // a blank line
+        assert_eq!(continuation(b" ", OPTIONS, set(2)), stops(set(2)));
+        assert_eq!(continuation(b"", OPTIONS, set(2)), stops(set(2)));
+        assert_eq!(continuation(b"   ", OPTIONS, clear(2)), goes(2, clear(2)));
+        assert_eq!(continuation(b" \na", OPTIONS, clear(2)), goes(1, clear(2)));
+        assert_eq!(continuation(b"", OPTIONS, clear(2)), goes(0, clear(2)));
+
+        // a filled one: the flag is cleared, whatever follows
+        assert_eq!(continuation(b"   a", OPTIONS, set(2)), goes(2, clear(2)));
+        assert_eq!(continuation(b"   a", OPTIONS, clear(2)), goes(2, clear(2)));
+        assert_eq!(continuation(b" a", OPTIONS, set(2)), stops(clear(2)));
+        assert_eq!(continuation(b" a", OPTIONS, clear(2)), stops(clear(2)));
+        assert_eq!(continuation(b"a", OPTIONS, set(0)), stops(clear(0)));
+        assert_eq!(continuation(b" a", OPTIONS, set(0)), goes(0, clear(0)));
+        assert_eq!(continuation(b"  a", OPTIONS, set(usize::MAX)), stops(clear(usize::MAX)));
+
+        // no option is asked for
+        assert_eq!(continuation(b"  a", Options::NONE, clear(2)), goes(2, clear(2)));
+    }
+}
+
+/// The section, with an output that is just long enough, one that is longer, and one that is a byte short.
+fn heads(line: &[u8], options: Options, notation: &str) {
+    let section = section(notation);
+    let events = (section.len() - 4) / 8;
+    for longer in [0, 1, 1_000] {
+        let mut out = dirty(section.len() + longer);
+        assert_eq!(heading(line, options, &mut out), Ok(Some(events)), "{line:?}");
+        assert_eq!(out[..section.len()], section, "{line:?}");
+        assert!(is_dirty(&out[section.len()..]), "{line:?}");
+    }
+    for length in [0, section.len() - 1] {
+        let mut out = dirty(length);
+        assert_eq!(heading(line, options, &mut out), Err(Refusal { number: 8, place: 0 }));
+        assert!(is_dirty(&out));
+    }
+}
+
+#[test]
+fn headings() {
+    heads(b"# a#", OPTIONS, "+11@0 +12@0 -12@1 +14@1 -14@2 +0@2 -0@4 -11@4");
+    heads(
+        b" # #a",
+        OPTIONS,
+        "+11@0 +14@0 -14@1 +12@1 -12@2 +14@2 -14@3 +12@3 -12@4 +0@4 -0@5 -11@5",
+    );
+    heads(
+        b"###### a b ",
+        OPTIONS,
+        "+11@0 +12@0 -12@6 +14@6 -14@7 +0@7 -0@8 +14@8 -14@9 +0@9 -0@10 +14@10 -14@11 -11@11",
+    );
+    heads(b"#\na", OPTIONS, "+11@0 +12@0 -12@1 -11@1");
+    heads(b"    #", WITHOUT_CODE, "+11@0 +14@0 -14@4 +12@4 -12@5 -11@5");
+}
+
+#[test]
+fn not_a_heading() {
+    let lines: [&[u8]; 6] = [b"", b"a", b"#a", b"#######", b"    # a", b"\n# a"];
+    for line in lines {
+        for length in [0, 1_000] {
+            let mut out = dirty(length);
+            assert_eq!(heading(line, OPTIONS, &mut out), Ok(None), "{line:?}");
+            assert!(is_dirty(&out));
+        }
+    }
+    let mut out = dirty(1_000);
+    assert_eq!(heading(b"# a", Options::from_bits(59 - 8), &mut out), Ok(None));
+    assert!(is_dirty(&out));
+}

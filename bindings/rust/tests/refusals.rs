@@ -1,0 +1,240 @@
+//! Every refusal of every call. Buffers hold other bytes before; after, the output is as it was and the work memory zero, all of it.
+
+mod common;
+
+use common::{dirty, dirty_work, is_dirty, is_zero, record, refuses};
+use ledgerlark::{
+    continuation, heading, list_item, read, resolve_attention, resolve_headings, resolve_lists, space_or_tab, Container, ListKind, Options,
+    Reading, Refusal, Work,
+};
+
+const OPTIONS: Options = Options::from_bits(59);
+const OVER: [Options; 3] = [Options::from_bits(64), Options::from_bits(256), Options::from_bits(u32::MAX)];
+
+/// A call on a record, of which only the refusal matters here.
+type OnRecord = fn(&[u8], Options, &mut [u8], &mut Work) -> Result<(), Refusal>;
+const ON_RECORDS: [OnRecord; 4] = [
+    |record, options, _, work| read(record, options, work).map(drop),
+    |record, options, out, work| resolve_attention(record, options, out, work).map(drop),
+    |record, options, out, work| resolve_headings(record, options, out, work).map(drop),
+    |record, options, out, work| resolve_lists(record, options, out, work).map(drop),
+];
+
+/// All four calls on a record refuse it.
+fn refused(record: &[u8], options: Options, work_length: usize, number: usize, place: usize) {
+    for (call, on_record) in ON_RECORDS.iter().enumerate() {
+        for out_length in [0, 1_000] {
+            let mut out = dirty(out_length);
+            let mut work = dirty_work(work_length);
+            let refusal = on_record(record, options, &mut out, &mut work);
+            assert_eq!(refusal, Err(Refusal { number, place }), "call {call}, record {record:?}");
+            assert!(is_dirty(&out));
+            assert_eq!(work.bytes().len(), work_length);
+            assert!(is_zero(&work));
+        }
+    }
+}
+
+fn refused_with(record: &[u8], number: usize, place: usize) {
+    refused(record, OPTIONS, Work::LENGTH, number, place);
+}
+
+#[test]
+fn number_1_work_memory() {
+    refused(&record(b"a", ""), OPTIONS, 65_535, 1, 0);
+    refused(&record(b"a", ""), OPTIONS, 0, 1, 0);
+    // before all others
+    refused(&[], OVER[0], 65_535, 1, 0);
+}
+
+#[test]
+fn number_2_options() {
+    for over in OVER {
+        refused(&record(b"a", ""), over, Work::LENGTH, 2, 0);
+        refused(&[], over, 70_000, 2, 0);
+    }
+}
+
+#[test]
+fn number_3_counts() {
+    // the first count: cut off, over its limit, past the record
+    refused_with(&[], 3, 0);
+    refused_with(&[0, 0, 0], 3, 0);
+    refused_with(&record(&[b'a'; 16_385], ""), 3, 0);
+    refused_with(&[5, 0, 0, 0, b'a', b'b', b'c', b'd'], 3, 0);
+    refused_with(&[255, 255, 255, 255, 0, 0, 0, 0], 3, 0);
+    // the second
+    refused_with(&[1, 0, 0, 0, b'a'], 3, 5);
+    refused_with(&record(b"", &"+0@0 -0@0 ".repeat(1_025)), 3, 4);
+    refused_with(&[0, 0, 0, 0, 1, 0, 0, 0, 0, 0, 0, 0, 0, 0, 0], 3, 4);
+    // bytes that follow, and a carriage return and an open event before them
+    let mut long = record(b"\r", "+0@0");
+    long.push(0);
+    refused_with(&long, 3, 17);
+}
+
+#[test]
+fn number_4_carriage_return() {
+    refused_with(&record(b"\r", ""), 4, 4);
+    refused_with(&record(b"ab\rc\r", "+25@0"), 4, 6);
+}
+
+#[test]
+fn number_5_events() {
+    let bad = |bytes: [u8; 8]| [&[1, 0, 0, 0, b'a', 1, 0, 0, 0][..], &bytes].concat();
+    refused_with(&bad([2, 0, 0, 0, 0, 0, 0, 0]), 5, 9);
+    refused_with(&bad([0, 25, 0, 0, 0, 0, 0, 0]), 5, 9);
+    refused_with(&bad([0, 0, 1, 0, 0, 0, 0, 0]), 5, 9);
+    refused_with(&bad([0, 0, 0, 1, 0, 0, 0, 0]), 5, 9);
+    refused_with(&bad([0, 0, 0, 0, 2, 0, 0, 0]), 5, 9);
+    refused_with(&bad([1, 0, 0, 0, 0, 0, 0, 0]), 5, 9);
+    // a place below the one before, an exit of another name, the 65th that is open, one left open
+    refused_with(&record(b"ab", "+0@1 -0@0"), 5, 18);
+    refused_with(&record(b"ab", "+0@0 -2@0"), 5, 18);
+    refused_with(&record(b"", &"+24@0 ".repeat(65)), 5, 8 + 8 * 64);
+    refused_with(&record(b"ab", "+0@0"), 5, 18);
+}
+
+#[test]
+fn number_6_shapes() {
+    let offends =
+        |resolver, document: &[u8], events, options, place| refuses(resolver, &record(document, events), options, 1_000, 6, place);
+
+    // a run of no length; of two bytes; that goes on; not left at once; whose option is off
+    offends(resolve_attention, b"*", "+1@0 -1@0", OPTIONS, 9);
+    offends(resolve_attention, b"*_", "+1@0 -1@2", OPTIONS, 10);
+    offends(resolve_attention, b"**", "+1@0 -1@1", OPTIONS, 10);
+    offends(resolve_attention, b"*", "+1@0 +0@0 -0@0 -1@1", OPTIONS, 9);
+    offends(resolve_attention, b"*", "+1@0 -1@1", Options::from_bits(62), 9);
+    offends(resolve_attention, b"~~", "+1@0 -1@2", Options::from_bits(61), 10);
+    // the earliest of two, behind a good one
+    offends(resolve_attention, b"*ab", "+1@0 -1@1 +1@1 -1@2 +1@2 -1@3", OPTIONS, 11 + 16);
+
+    // a heading with nothing in it; that does not begin with its `#`; with something else in it
+    offends(resolve_headings, b"", "+11@0 -11@0", OPTIONS, 8);
+    offends(resolve_headings, b"a", "+11@0 +0@0 -0@1 -11@1", OPTIONS, 9);
+    offends(
+        resolve_headings,
+        b"#",
+        "+0@0 -0@0 +11@0 +12@0 -12@1 +24@1 -24@1 -11@1",
+        OPTIONS,
+        9 + 16,
+    );
+
+    // an item with no prefix; whose mark is none; right behind another
+    offends(resolve_lists, b"", "+15@0 -15@0", OPTIONS, 8);
+    offends(resolve_lists, b"a", "+15@0 +16@0 +17@0 -17@1 -16@1 -15@1", OPTIONS, 9);
+    let two = "+15@0 +16@0 +17@0 -17@1 -16@1 -15@1 +15@1 +16@1 +17@1 -17@2 -16@2 -15@2";
+    offends(resolve_lists, b"--", two, OPTIONS, 10 + 48);
+
+    // before 8, and no matter of the other resolvers
+    refuses(resolve_attention, &record(b"*", "+1@0 -1@0"), OPTIONS, 0, 6, 9);
+    refuses(resolve_headings, &record(b"", "+11@0 -11@0"), OPTIONS, 0, 6, 8);
+    refuses(resolve_lists, &record(b"", "+15@0 -15@0"), OPTIONS, 0, 6, 8);
+    let mut work = dirty_work(Work::LENGTH);
+    for (resolver, events) in [
+        (resolve_attention as common::Resolver, "+11@0 -11@0 +15@0 -15@0"),
+        (resolve_headings, "+1@0 -1@0 +15@0 -15@0"),
+        (resolve_lists, "+1@0 -1@0 +11@0 -11@0"),
+    ] {
+        assert_eq!(
+            resolver(&record(b"*", events), OPTIONS, &mut dirty(36), &mut work).map(|resolved| resolved.events),
+            Ok(4)
+        );
+    }
+}
+
+#[test]
+fn number_8_output() {
+    // Two events that no resolver changes: 20 bytes. Number 7, and 8 at other lengths, stand with what is resolved.
+    for resolver in [resolve_attention as common::Resolver, resolve_headings, resolve_lists] {
+        let record = record(b"a", "+0@0 -0@1");
+        refuses(resolver, &record, OPTIONS, 19, 8, 0);
+        refuses(resolver, &record, OPTIONS, 0, 8, 0);
+        let mut work = dirty_work(Work::LENGTH);
+        assert_eq!(
+            resolver(&record, OPTIONS, &mut dirty(20), &mut work).map(|resolved| resolved.events),
+            Ok(2)
+        );
+    }
+}
+
+#[test]
+fn good_records() {
+    for work_length in [65_536, 70_000] {
+        let mut work = dirty_work(work_length);
+        let reading = |document, events| Ok(Reading { document, events });
+        assert_eq!(read(&[0; 8], OPTIONS, &mut work), reading(0, 0));
+        assert!(is_zero(&work));
+        let mut work = dirty_work(work_length);
+        let pairs = ["+0@0 -0@16384 ".to_string(), "+0@16384 -0@16384 ".repeat(1_023)].concat();
+        let largest = record(&[b'a'; 16_384], &pairs);
+        assert_eq!(read(&largest, Options::from_bits(63), &mut work), reading(16_384, 2_048));
+        assert!(is_zero(&work));
+        let mut work = dirty_work(work_length);
+        let deepest = ["+24@0 ".repeat(64), "-24@0 ".repeat(64)].concat();
+        assert_eq!(read(&record(b"", &deepest), Options::NONE, &mut work), reading(0, 128));
+        assert!(is_zero(&work));
+    }
+}
+
+/// A line reader, of which only the refusal matters here.
+type OnLine = fn(&[u8], Options, &mut [u8]) -> Result<(), Refusal>;
+const ON_LINES: [OnLine; 4] = [
+    |line, options, _| space_or_tab(line, options, 0, 3).map(drop),
+    |line, options, _| list_item(line, options, false).map(drop),
+    |line, options, _| {
+        let container = Container {
+            kind: ListKind::Bullet(b'-'),
+            size: 2,
+            blank: true,
+        };
+        continuation(line, options, container).map(drop)
+    },
+    |line, options, out| heading(line, options, out).map(drop),
+];
+
+#[test]
+fn numbers_2_3_and_4_of_lines() {
+    let refused = |line: &[u8], options, number, place| {
+        for (call, on_line) in ON_LINES.iter().enumerate() {
+            for out_length in [0, 1_000] {
+                let mut out = dirty(out_length);
+                let refusal = on_line(line, options, &mut out);
+                assert_eq!(refusal, Err(Refusal { number, place }), "call {call}, {} bytes", line.len());
+                assert!(is_dirty(&out));
+            }
+        }
+    };
+    for over in OVER {
+        refused(b"# a\r", over, 2, 0);
+    }
+    let mut long = vec![b'\r'; 16_385];
+    refused(&long, OPTIONS, 3, 16_384);
+    long[0] = b'\n';
+    refused(&long, OPTIONS, 3, 16_384);
+    refused(&long[..16_384], OPTIONS, 4, 1);
+    refused(b"x\r", OPTIONS, 4, 1);
+    refused(b"# a\n\r\r", OPTIONS, 4, 4);
+    for on_line in ON_LINES {
+        assert_eq!(on_line(&[b'a'; 16_384], OPTIONS, &mut []), Ok(()));
+    }
+}
+
+/// Each ` a` is two pairs, the `#` one, the heading itself one: with 1,999 of them 8,000 events.
+#[test]
+fn numbers_7_and_8_of_headings() {
+    let line = ["#".to_string(), " a".repeat(1_999)].concat();
+    let mut out = dirty(64_004);
+    assert_eq!(heading(line.as_bytes(), OPTIONS, &mut out), Ok(Some(8_000)));
+    let mut out = dirty(64_003);
+    assert_eq!(heading(line.as_bytes(), OPTIONS, &mut out), Err(Refusal { number: 8, place: 0 }));
+    assert!(is_dirty(&out));
+
+    let longer = line + " ";
+    for length in [0, 70_000] {
+        let mut out = dirty(length);
+        assert_eq!(heading(longer.as_bytes(), OPTIONS, &mut out), Err(Refusal { number: 7, place: 0 }));
+        assert!(is_dirty(&out));
+    }
+}

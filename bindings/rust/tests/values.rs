@@ -1,0 +1,173 @@
+//! Options, events, records and refusals as values: nothing here asks the library.
+
+use ledgerlark::{record, section_length, Event, Events, Kind, ListKind, Name, Options, Refusal, Work};
+
+#[test]
+fn options() {
+    let all = [
+        Options::ATTENTION,
+        Options::STRIKETHROUGH,
+        Options::SINGLE_TILDE,
+        Options::HEADING,
+        Options::LIST_ITEM,
+        Options::CODE_INDENTED,
+    ];
+    assert_eq!(all.map(Options::bits), [1, 2, 4, 8, 16, 32]);
+    let mut sum = Options::NONE;
+    for option in all {
+        assert!(!sum.contains(option));
+        sum |= option;
+        assert!(sum.contains(option));
+    }
+    assert_eq!(sum, Options::ALL);
+    assert_eq!(Options::ALL.bits(), 63);
+    assert_eq!(Options::default().bits(), 59);
+    assert_eq!(Options::default() | Options::SINGLE_TILDE, Options::ALL);
+    assert_eq!(Options::from_bits(u32::MAX).bits(), u32::MAX);
+}
+
+#[test]
+fn names() {
+    let numbered = [
+        (0, Name::DATA, "Data"),
+        (1, Name::ATTENTION_SEQUENCE, "AttentionSequence"),
+        (2, Name::EMPHASIS, "Emphasis"),
+        (3, Name::EMPHASIS_SEQUENCE, "EmphasisSequence"),
+        (4, Name::EMPHASIS_TEXT, "EmphasisText"),
+        (5, Name::STRONG, "Strong"),
+        (6, Name::STRONG_SEQUENCE, "StrongSequence"),
+        (7, Name::STRONG_TEXT, "StrongText"),
+        (8, Name::GFM_STRIKETHROUGH, "GfmStrikethrough"),
+        (9, Name::GFM_STRIKETHROUGH_SEQUENCE, "GfmStrikethroughSequence"),
+        (10, Name::GFM_STRIKETHROUGH_TEXT, "GfmStrikethroughText"),
+        (11, Name::HEADING_ATX, "HeadingAtx"),
+        (12, Name::HEADING_ATX_SEQUENCE, "HeadingAtxSequence"),
+        (13, Name::HEADING_ATX_TEXT, "HeadingAtxText"),
+        (14, Name::SPACE_OR_TAB, "SpaceOrTab"),
+        (15, Name::LIST_ITEM, "ListItem"),
+        (16, Name::LIST_ITEM_PREFIX, "ListItemPrefix"),
+        (17, Name::LIST_ITEM_MARKER, "ListItemMarker"),
+        (18, Name::LIST_ITEM_VALUE, "ListItemValue"),
+        (19, Name::LIST_ORDERED, "ListOrdered"),
+        (20, Name::LIST_UNORDERED, "ListUnordered"),
+        (21, Name::LINE_ENDING, "LineEnding"),
+        (22, Name::BLANK_LINE_ENDING, "BlankLineEnding"),
+        (23, Name::BLOCK_QUOTE_PREFIX, "BlockQuotePrefix"),
+        (24, Name::OTHER_CONTAINER, "OtherContainer"),
+    ];
+    for (number, name, word) in numbered {
+        assert_eq!((name.0, name.word(), name.to_string().as_str()), (number, Some(word), word));
+    }
+    assert_eq!((Name(25).word(), Name(255).to_string()), (None, "255".to_string()));
+}
+
+#[test]
+fn list_kinds() {
+    assert_eq!(ListKind::Bullet(b'+').mark(), b'+');
+    assert_eq!(ListKind::Ordered(b')').mark(), b')');
+}
+
+#[test]
+fn events_of_a_section() {
+    let bytes = [2, 0, 0, 0, 0, 5, 0, 0, 1, 2, 3, 0, 1, 255, 0, 0, 255, 255, 255, 255, 9, 9];
+    let (first, second) = (Event::enter(Name::STRONG, 0x030201), Event::exit(Name(255), 0xffff_ffff));
+    assert_eq!((first.kind, second.kind), (Kind::Enter, Kind::Exit));
+    let read = |bytes| Events::new(bytes).collect::<Vec<_>>();
+    assert_eq!(read(&bytes), [first, second]);
+    assert_eq!(section_length(2), 20);
+    assert_eq!(read(&bytes[..20]), [first, second]);
+    assert_eq!(read(&bytes[..19]), [first]);
+    assert_eq!(read(&bytes[..12]), [first]);
+    for short in 0..12 {
+        assert_eq!(read(&bytes[..short]), []);
+    }
+    assert_eq!(Events::new(&bytes).size_hint(), (0, Some(2)));
+}
+
+#[test]
+fn odd_bytes_end_the_events() {
+    // Three events, of which the second gets one wrong byte after the other.
+    let good = record(
+        b"",
+        &[Event::enter(Name::DATA, 0), Event::exit(Name::DATA, 0), Event::enter(Name::DATA, 0)],
+    );
+    let section = &good[4..];
+    assert_eq!(Events::new(section).count(), 3);
+    for (at, wrong) in [(0, 2), (0, 255), (2, 1), (3, 1), (3, 128)] {
+        let mut odd = section.to_vec();
+        odd[12 + at] = wrong;
+        let mut events = Events::new(&odd);
+        assert_eq!(events.next(), Some(Event::enter(Name::DATA, 0)));
+        assert_eq!((events.next(), events.next(), events.next()), (None, None, None));
+        assert_eq!(events.size_hint(), (0, Some(0)));
+    }
+}
+
+/// Many short buffers of the bytes 0 to 3, most of them sound in part, and read by offsets beside.
+#[test]
+fn any_bytes_will_do() {
+    let mut seed = 1u32;
+    let mut next = |below: u32| {
+        seed = seed.wrapping_mul(1_664_525).wrapping_add(1_013_904_223);
+        (seed >> 16) % below
+    };
+    let mut lengths = [0; 4];
+    for _ in 0..20_000 {
+        let length = next(50);
+        // The upper bytes of the count, and most kinds and zero bytes, are such as a section has.
+        let mut byte = |at: u32| match at {
+            0 => next(4),
+            1..=3 => 0,
+            _ if [0, 2, 3].contains(&((at - 4) % 8)) && next(5) > 0 => 0,
+            _ => next(4),
+        };
+        let bytes: Vec<u8> = (0..length).map(|at| byte(at) as u8).collect();
+        let count = if bytes.len() < 4 { 0 } else { bytes[0] as usize };
+        let mut expected = Vec::new();
+        for at in (0..count).map(|i| 4 + 8 * i) {
+            if at + 8 > bytes.len() || bytes[at] > 1 || bytes[at + 2] != 0 || bytes[at + 3] != 0 {
+                break;
+            }
+            let place = (0..4).map(|i| (bytes[at + 4 + i] as usize) << (8 * i)).sum();
+            let make = if bytes[at] == 0 { Event::enter } else { Event::exit };
+            expected.push(make(Name(bytes[at + 1]), place));
+        }
+        lengths[expected.len()] += 1;
+        assert_eq!(Events::new(&bytes).collect::<Vec<_>>(), expected, "{bytes:?}");
+    }
+    assert!(lengths.iter().all(|&times| times > 500), "{lengths:?}");
+}
+
+#[test]
+fn records() {
+    assert_eq!(record(b"", &[]), [0; 8]);
+    let events = [Event::enter(Name::DATA, 258), Event::exit(Name::STRONG, usize::MAX)];
+    assert_eq!(
+        record(b"a\n", &events),
+        [2, 0, 0, 0, b'a', b'\n', 2, 0, 0, 0, 0, 0, 0, 0, 2, 1, 0, 0, 1, 5, 0, 0, 255, 255, 255, 255]
+    );
+}
+
+#[test]
+fn refusals_in_words() {
+    let words = |number, place| Refusal { number, place }.to_string();
+    assert_eq!(words(1, 0), "the work memory is under 65,536 bytes");
+    assert_eq!(words(2, 0), "the options are over 63");
+    assert!(words(3, 17).starts_with("the lengths do not fit at byte 17: "));
+    assert_eq!(words(4, 6), "a carriage return stands at byte 6");
+    assert!(words(5, 18).starts_with("the events are unsound at byte 18: "));
+    assert!(words(6, 9).contains("entered at byte 9 of the record breaks its shape rule"));
+    assert_eq!(words(7, 0), "the result has over 8,000 events");
+    assert_eq!(words(8, 0), "the output is too short for the result");
+    assert_eq!(words(12, 3), "refused with number 12 at byte 3");
+    let error: Box<dyn std::error::Error + Send + Sync> = Refusal { number: 8, place: 0 }.into();
+    assert_eq!(error.to_string(), words(8, 0));
+}
+
+#[test]
+fn work_memory() {
+    assert_eq!(Work::new().bytes(), [0; 65_536]);
+    assert_eq!(Work::default().bytes().len(), Work::LENGTH);
+    assert_eq!(Work::from(vec![7; 3].into_boxed_slice()).bytes(), [7, 7, 7]);
+    assert_eq!(format!("{:?}", Work::new()), "Work(65536 bytes)");
+}
