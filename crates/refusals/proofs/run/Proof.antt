@@ -12,10 +12,10 @@ use Rattle.refusals.proofs.line.Reads as line-reads
 use Rattle.script.proofs.find.Reads as find-reads
 
 abbrev Inv-loop : tie.InvT-loop
-Inv-loop text bytes₀ work₀ i₀ bytes work i = (i ≤ length text) × (length bytes ≡ 65536) × (length work ≡ 131072)
+Inv-loop text bytes₀ out₀ work₀ i₀ bytes out work i = (i ≤ length text) × (length bytes ≡ 65536) × (length out ≡ 65536) × (length work ≡ 131072)
 
 abbrev μ-loop : tie.MeasureT-loop
-μ-loop text bytes₀ work₀ i₀ bytes work i = length text - i
+μ-loop text bytes₀ out₀ work₀ i₀ bytes out work i = length text - i
 
 loop-holds : tie.Need-loop-holds Inv-loop μ-loop
 loop-holds c = search needs
@@ -37,6 +37,9 @@ slice-aggregate-line c = search needs
 
 slice-aggregate-line-2 : tie.Need-slice-aggregate-line-2 Inv-loop μ-loop
 slice-aggregate-line-2 c = search needs
+
+slice-aggregate-line-3 : tie.Need-slice-aggregate-line-3 Inv-loop μ-loop
+slice-aggregate-line-3 c = search needs
 
 line-requires : tie.Need-line-requires Inv-loop μ-loop
 line-requires c κs = search needs
@@ -69,6 +72,7 @@ run-spec =
     part-line-end
     slice-aggregate-line
     slice-aggregate-line-2
+    slice-aggregate-line-3
     line-requires
     returns
     add-i
