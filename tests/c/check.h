@@ -276,21 +276,30 @@ static inline void refuses(resolver *call, const struct bytes *r, uint32_t optio
 /* --- the program --- */
 
 /* A touch outside of a slice ends the program; the case is named. */
-static void touched(int sig) {
+static inline void touched(int sig) {
     static const char text[] = "FAIL: memory that was not lent is touched: ";
     (void)sig;
     if (write(1, text, sizeof text - 1) < 0 || write(1, case_name, strlen(case_name)) < 0 || write(1, "\n", 1) < 0) _exit(2);
     _exit(1);
 }
 
-/* All cases of a test in every way. The last line says how many there are. */
-static int in_every_way(void (*all)(void)) {
+static inline void watch(void) {
     setvbuf(stdout, NULL, _IONBF, 0);
     signal(SIGSEGV, touched);
     signal(SIGBUS, touched);
-    for (way = 0; way < WAYS; way++) all();
+}
+
+/* The last line says how many cases there were. tests/run asks for it. */
+static inline int report(void) {
     printf("%u cases, %u failures\n", cases, failures);
     return failures != 0;
+}
+
+/* All cases of a test in every way. */
+static inline int in_every_way(void (*all)(void)) {
+    watch();
+    for (way = 0; way < WAYS; way++) all();
+    return report();
 }
 
 #endif

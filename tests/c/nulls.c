@@ -9,6 +9,16 @@ static const uint8_t empty[8] = {0}; /* no document, no events */
 static const uint8_t hash[] = {'#'};
 static unsigned cases, failures;
 
+/* The work memory is zero; it is made dirty again. */
+static int wiped(void) {
+    size_t i;
+    int held = 1;
+    for (i = 0; i < sizeof work; i++) held = held && work[i] == 0;
+    memset(work, 0xa5, sizeof work);
+    return held;
+}
+
+/* Something held, and the output is as it was: nothing here writes a section. */
 static void holds(const char *name, int held) {
     size_t i;
     cases++;
@@ -27,10 +37,10 @@ static int refused(struct lark_resolved r, size_t number, size_t place) {
 
 static void resolver_nulls(const char *name, resolver *call) {
     printf("%s\n", name);
-    holds("record", refused(call(NULL, 0, 63, out, sizeof out, work, sizeof work), 3, 0));
-    holds("output", refused(call(empty, sizeof empty, 63, NULL, 0, work, sizeof work), 8, 0));
+    holds("record", refused(call(NULL, 0, 63, out, sizeof out, work, sizeof work), 3, 0) && wiped());
+    holds("output", refused(call(empty, sizeof empty, 63, NULL, 0, work, sizeof work), 8, 0) && wiped());
     holds("work memory", refused(call(empty, sizeof empty, 63, out, sizeof out, NULL, 0), 1, 0));
-    holds("record and output", refused(call(NULL, 0, 63, NULL, 0, work, sizeof work), 3, 0));
+    holds("record and output", refused(call(NULL, 0, 63, NULL, 0, work, sizeof work), 3, 0) && wiped());
     holds("all three", refused(call(NULL, 0, 63, NULL, 0, NULL, 0), 1, 0));
 }
 
@@ -45,7 +55,7 @@ int main(void) {
 
     printf("lark_read\n");
     r = lark_read(NULL, 0, 63, work, sizeof work);
-    holds("record", r.number == 3 && r.place == 0 && r.document == 0 && r.events == 0);
+    holds("record", r.number == 3 && r.place == 0 && r.document == 0 && r.events == 0 && wiped());
     r = lark_read(empty, sizeof empty, 63, NULL, 0);
     holds("work memory", r.number == 1 && r.place == 0 && r.document == 0 && r.events == 0);
     r = lark_read(NULL, 0, 63, NULL, 0);
