@@ -7,7 +7,7 @@ static void attention(const char *text, uint32_t options, const char *events, si
     resolves(lark_resolve_attention, record(text, events), options, groups, tried, section(result));
 }
 
-/* The whole case, byte by byte, without the helpers that build records. */
+/* The whole case, byte by byte, without the functions of check.h that build records. */
 static void whole_case(void) {
     static const uint8_t in[] = {
         3, 0, 0, 0, '*', 'a', '*',  /* the document */
@@ -45,7 +45,7 @@ static void whole_case(void) {
     all_are("output past the section", out + sizeof want, sizeof out - sizeof want, 0xa5);
     all_are("work memory", work, sizeof work, 0);
 
-    begin("the helpers build the whole case");
+    begin("check.h builds the whole case");
     record("*a*", "+1@0 -1@1 +0@1 -0@2 +1@2 -1@3");
     equal("length of the record", record_bytes.n, sizeof in);
     same("the record", record_bytes.at, in, sizeof in);
