@@ -1,0 +1,54 @@
+# Everything by one word. The toolchain (rt) proves and compiles the library; the rest is gcc, cargo and the scripts that are named here.
+#
+#     make            the archive: target/staticlib/libledgerlark.a
+#     make check      the tests in C and Rust
+#     make install    archive, header and pkg-config file, to DESTDIR and PREFIX
+#     make bench      the measurements
+#     make oracle     the runs against the Rust crate
+#     make clean      all that was built goes, the proofs' results too
+#
+# LARK_ARCHIVE names an archive that is there already; then none is built.
+
+PREFIX ?= /usr/local
+DESTDIR ?=
+LIBDIR ?= $(PREFIX)/lib
+INCLUDEDIR ?= $(PREFIX)/include
+
+VERSION := $(shell sed -n 's/^.define LARK_VERSION "\(.*\)"$$/\1/p' include/ledgerlark.h)
+
+ifdef LARK_ARCHIVE
+ARCHIVE := $(LARK_ARCHIVE)
+else
+ARCHIVE := target/staticlib/libledgerlark.a
+SOURCES := crates.txt $(shell find crates -name '*.rt' -o -name '*.antt')
+
+# rt leaves alone what has not changed, so the date is set here.
+$(ARCHIVE): $(SOURCES)
+	rt staticlib ledgerlark
+	@touch $@
+endif
+
+.PHONY: all check install bench oracle clean
+.DEFAULT_GOAL := all
+
+all: $(ARCHIVE)
+
+check: $(ARCHIVE)
+	LARK_ARCHIVE=$(abspath $(ARCHIVE)) tests/run
+
+install: $(ARCHIVE)
+	install -d '$(DESTDIR)$(LIBDIR)/pkgconfig' '$(DESTDIR)$(INCLUDEDIR)'
+	install -m 644 '$(ARCHIVE)' '$(DESTDIR)$(LIBDIR)/libledgerlark.a'
+	install -m 644 include/ledgerlark.h '$(DESTDIR)$(INCLUDEDIR)/ledgerlark.h'
+	sed -e 's|@PREFIX@|$(PREFIX)|' -e 's|@LIBDIR@|$(LIBDIR)|' -e 's|@INCLUDEDIR@|$(INCLUDEDIR)|' -e 's|@VERSION@|$(VERSION)|' ledgerlark.pc.in \
+	    > '$(DESTDIR)$(LIBDIR)/pkgconfig/ledgerlark.pc'
+	chmod 644 '$(DESTDIR)$(LIBDIR)/pkgconfig/ledgerlark.pc'
+
+bench: $(ARCHIVE)
+	LARK_ARCHIVE=$(abspath $(ARCHIVE)) bench/run
+
+oracle: $(ARCHIVE)
+	LARK_ARCHIVE=$(abspath $(ARCHIVE)) oracle/run
+
+clean:
+	rm -rf target bindings/rust/target

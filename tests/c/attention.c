@@ -1,0 +1,207 @@
+/* lark_resolve_attention: document 01's whole case in bare bytes, its cases by line, and numbers 6, 7 and 8. Every section is written here by
+ * hand from the document's rules: closing pieces in match order, the leftover, opening pieces with the last match first.
+ */
+#include "check.h"
+
+static void attention(const char *text, uint32_t options, const char *events, size_t groups, size_t tried, const char *result) {
+    resolves(lark_resolve_attention, record(text, events), options, groups, tried, section(result));
+}
+
+/* The whole case, byte by byte, without the functions of check.h that build records. */
+static void whole_case(void) {
+    static const uint8_t in[] = {
+        3, 0, 0, 0, '*', 'a', '*',  /* the document */
+        6, 0, 0, 0,                 /* six events */
+        0, 1, 0, 0, 0, 0, 0, 0,     /* +1@0 */
+        1, 1, 0, 0, 1, 0, 0, 0,     /* -1@1 */
+        0, 0, 0, 0, 1, 0, 0, 0,     /* +0@1 */
+        1, 0, 0, 0, 2, 0, 0, 0,     /* -0@2 */
+        0, 1, 0, 0, 2, 0, 0, 0,     /* +1@2 */
+        1, 1, 0, 0, 3, 0, 0, 0};    /* -1@3 */
+    static const uint8_t want[] = {
+        10, 0, 0, 0,                /* ten events */
+        0, 2, 0, 0, 0, 0, 0, 0,     /* +2@0 */
+        0, 3, 0, 0, 0, 0, 0, 0,     /* +3@0 */
+        1, 3, 0, 0, 1, 0, 0, 0,     /* -3@1 */
+        0, 4, 0, 0, 1, 0, 0, 0,     /* +4@1 */
+        0, 0, 0, 0, 1, 0, 0, 0,     /* +0@1 */
+        1, 0, 0, 0, 2, 0, 0, 0,     /* -0@2 */
+        1, 4, 0, 0, 2, 0, 0, 0,     /* -4@2 */
+        0, 3, 0, 0, 2, 0, 0, 0,     /* +3@2 */
+        1, 3, 0, 0, 3, 0, 0, 0,     /* -3@3 */
+        1, 2, 0, 0, 3, 0, 0, 0};    /* -2@3 */
+    static uint8_t out[200], work[LARK_WORK_BYTES];
+    struct lark_resolved got;
+    begin("the whole case, byte by byte");
+    memset(out, 0xa5, sizeof out);
+    memset(work, 0xa5, sizeof work);
+    got = lark_resolve_attention(in, sizeof in, 59, out, sizeof out, work, sizeof work);
+    equal("number", got.number, 0);
+    equal("place", got.place, 0);
+    equal("events", got.events, 10);
+    equal("groups", got.groups, 1);
+    equal("tried", got.tried, 1);
+    same("the section", out, want, sizeof want);
+    all_are("output past the section", out + sizeof want, sizeof out - sizeof want, 0xa5);
+    all_are("work memory", work, sizeof work, 0);
+
+    begin("check.h builds the whole case");
+    record("*a*", "+1@0 -1@1 +0@1 -0@2 +1@2 -1@3");
+    equal("length of the record", record_bytes.n, sizeof in);
+    same("the record", record_bytes.at, in, sizeof in);
+    section("+2@0 +3@0 -3@1 +4@1 +0@1 -0@2 -4@2 +3@2 -3@3 -2@3");
+    equal("length of the section", section_bytes.n, sizeof want);
+    same("the section", section_bytes.at, want, sizeof want);
+}
+
+static void by_line(void) {
+    begin("`*a*`");
+    attention("*a*", 59, "+1@0 -1@1 +0@1 -0@2 +1@2 -1@3", 1, 1, "+2@0 +3@0 -3@1 +4@1 +0@1 -0@2 -4@2 +3@2 -3@3 -2@3");
+    begin("`*a*` with its option alone");
+    attention("*a*", 1, "+1@0 -1@1 +0@1 -0@2 +1@2 -1@3", 1, 1, "+2@0 +3@0 -3@1 +4@1 +0@1 -0@2 -4@2 +3@2 -3@3 -2@3");
+    begin("`**a**`");
+    attention("**a**", 59, "+1@0 -1@2 +0@2 -0@3 +1@3 -1@5", 1, 1, "+5@0 +6@0 -6@2 +7@2 +0@2 -0@3 -7@3 +6@3 -6@5 -5@5");
+    begin("`**a*`: leftover at 0, emphasis 1");
+    attention("**a*", 59, "+1@0 -1@2 +0@2 -0@3 +1@3 -1@4", 1, 1, "+0@0 -0@1 +2@1 +3@1 -3@2 +4@2 +0@2 -0@3 -4@3 +3@3 -3@4 -2@4");
+    begin("`*a**`: leftover at 3");
+    attention("*a**", 59, "+1@0 -1@1 +0@1 -0@2 +1@2 -1@4", 1, 1, "+2@0 +3@0 -3@1 +4@1 +0@1 -0@2 -4@2 +3@2 -3@3 -2@3 +0@3 -0@4");
+    begin("`***a***`: strong inside emphasis");
+    attention("***a***", 59, "+1@0 -1@3 +0@3 -0@4 +1@4 -1@7", 2, 2,
+              "+2@0 +3@0 -3@1 +4@1 +5@1 +6@1 -6@3 +7@3 +0@3 -0@4 -7@4 +6@4 -6@6 -5@6 -4@6 +3@6 -3@7 -2@7");
+    begin("`a**b*c`: none");
+    attention("a**b*c", 59, "+0@0 -0@1 +1@1 -1@3 +0@3 -0@4 +1@4 -1@5 +0@5 -0@6", 0, 1,
+              "+0@0 -0@1 +0@1 -0@3 +0@3 -0@4 +0@4 -0@5 +0@5 -0@6");
+    begin("`a***b***c`: two groups");
+    attention("a***b***c", 59, "+0@0 -0@1 +1@1 -1@4 +0@4 -0@5 +1@5 -1@8 +0@8 -0@9", 2, 2,
+              "+0@0 -0@1 +2@1 +3@1 -3@2 +4@2 +5@2 +6@2 -6@4 +7@4 +0@4 -0@5 -7@5 +6@5 -6@7 -5@7 -4@7 +3@7 -3@8 -2@8 +0@8 -0@9");
+    begin("`a_b_c`: none");
+    attention("a_b_c", 59, "+0@0 -0@1 +1@1 -1@2 +0@2 -0@3 +1@3 -1@4 +0@4 -0@5", 0, 0,
+              "+0@0 -0@1 +0@1 -0@2 +0@2 -0@3 +0@3 -0@4 +0@4 -0@5");
+    begin("`~~a~~`");
+    attention("~~a~~", 2, "+1@0 -1@2 +0@2 -0@3 +1@3 -1@5", 1, 1, "+8@0 +9@0 -9@2 +10@2 +0@2 -0@3 -10@3 +9@3 -9@5 -8@5");
+    begin("`~~~a~~~`: none");
+    attention("~~~a~~~", 59, "+1@0 -1@3 +0@3 -0@4 +1@4 -1@7", 0, 1, "+0@0 -0@3 +0@3 -0@4 +0@4 -0@7");
+    begin("`~a~` without option 4: none");
+    attention("~a~", 59, "+1@0 -1@1 +0@1 -0@2 +1@2 -1@3", 0, 1, "+0@0 -0@1 +0@1 -0@2 +0@2 -0@3");
+    begin("`~a~` with option 4");
+    attention("~a~", 63, "+1@0 -1@1 +0@1 -0@2 +1@2 -1@3", 1, 1, "+8@0 +9@0 -9@1 +10@1 +0@1 -0@2 -10@2 +9@2 -9@3 -8@3");
+    begin("`*a _b* c_`: one group");
+    attention("*a _b* c_", 59, "+1@0 -1@1 +0@1 -0@3 +1@3 -1@4 +0@4 -0@5 +1@5 -1@6 +0@6 -0@8 +1@8 -1@9", 1, 1,
+              "+2@0 +3@0 -3@1 +4@1 +0@1 -0@3 +0@3 -0@4 +0@4 -0@5 -4@5 +3@5 -3@6 -2@6 +0@6 -0@8 +0@8 -0@9");
+    begin("`****a** b*c`: one group, as the crate has it");
+    attention("****a** b*c", 59, "+1@0 -1@4 +0@4 -0@5 +1@5 -1@7 +0@7 -0@9 +1@9 -1@10 +0@10 -0@11", 1, 2,
+              "+0@0 -0@2 +5@2 +6@2 -6@4 +7@4 +0@4 -0@5 -7@5 +6@5 -6@7 -5@7 +0@7 -0@9 +0@9 -0@10 +0@10 -0@11");
+    begin("`a*_b_*`: two groups, as the crate has it");
+    attention("a*_b_*", 59, "+0@0 -0@1 +1@1 -1@2 +1@2 -1@3 +0@3 -0@4 +1@4 -1@5 +1@5 -1@6", 2, 2,
+              "+0@0 -0@1 +2@1 +3@1 -3@2 +4@2 +2@2 +3@2 -3@3 +4@3 +0@3 -0@4 -4@4 +3@4 -3@5 -2@5 -4@5 +3@5 -3@6 -2@6");
+    begin("runs in two containers do not match");
+    attention("*a*", 59, "+24@0 +1@0 -1@1 -24@1 +0@1 -0@2 +24@2 +1@2 -1@3 -24@3", 0, 0,
+              "+24@0 +0@0 -0@1 -24@1 +0@1 -0@2 +24@2 +0@2 -0@3 -24@3");
+    begin("no runs: the events as they are");
+    attention("ab", 0, "+11@0 +13@0 -13@2 -11@2", 0, 0, "+11@0 +13@0 -13@2 -11@2");
+}
+
+/* Refused with 6 at a place, with ample output and with none. */
+static void shape(const char *text, uint32_t options, const char *events, size_t place) {
+    refuses(lark_resolve_attention, record(text, events), options, LARK_OUT_BYTES, LARK_WORK_BYTES, 6, place);
+    refuses(lark_resolve_attention, record(text, events), options, 0, LARK_WORK_BYTES, 6, place);
+}
+
+static void number_6(void) {
+    begin("6: a run of no bytes");
+    shape("*", 63, "+1@0 -1@0", 9);
+    begin("6: an event inside a run");
+    shape("*", 63, "+1@0 +0@0 -0@0 -1@1", 9);
+    begin("6: a run inside a run: the outer offends");
+    shape("*", 63, "+1@0 +1@0 -1@1 -1@1", 9);
+    begin("6: two markers in one run");
+    shape("*_", 63, "+1@0 -1@2", 10);
+    begin("6: a byte that is no marker");
+    shape("a", 63, "+1@0 -1@1", 9);
+    begin("6: the marker goes on behind the run");
+    shape("**", 63, "+1@0 -1@1", 10);
+    begin("6: option 1 is off");
+    shape("*", 62, "+1@0 -1@1", 9);
+    shape("_", 62, "+1@0 -1@1", 9);
+    begin("6: option 2 is off");
+    shape("~~", 61, "+1@0 -1@2", 10);
+    begin("6: the earliest run that offends");
+    shape("*a*ba", 63, "+0@0 -0@0 +1@0 -1@1 +0@1 -0@2 +1@2 -1@4 +1@4 -1@5", 13 + 8 * 6);
+    begin("a run behind its own marker is good");
+    attention("**", 63, "+1@1 -1@2", 0, 0, "+0@1 -0@2");
+}
+
+/* `n` markers, `a`, `n` markers, as two runs and nothing else. */
+static const struct bytes *twice(size_t n) {
+    record_bytes.n = 0;
+    put_number(&record_bytes, (uint32_t)(2 * n + 1));
+    put_many(&record_bytes, '*', n);
+    put_many(&record_bytes, 'a', 1);
+    put_many(&record_bytes, '*', n);
+    put_number(&record_bytes, 4);
+    put_event(&record_bytes, LARK_ENTER, 1, 0);
+    put_event(&record_bytes, LARK_EXIT, 1, n);
+    put_event(&record_bytes, LARK_ENTER, 1, n + 1);
+    put_event(&record_bytes, LARK_EXIT, 1, 2 * n + 1);
+    return &record_bytes;
+}
+
+static void number_7(void) {
+    size_t i;
+    begin("7: 1,001 groups, 8,008 events");
+    refuses(lark_resolve_attention, twice(2001), 63, LARK_OUT_BYTES, LARK_WORK_BYTES, 7, 0);
+    refuses(lark_resolve_attention, twice(2001), 63, 100000, LARK_WORK_BYTES, 7, 0);
+    begin("7 comes before 8");
+    refuses(lark_resolve_attention, twice(2001), 63, 0, LARK_WORK_BYTES, 7, 0);
+    begin("7: 4,096 groups");
+    refuses(lark_resolve_attention, twice(8191), 63, LARK_OUT_BYTES, LARK_WORK_BYTES, 7, 0);
+    begin("6 comes before 7, also behind the last group");
+    twice(2001);
+    record_bytes.n = 4 + 4003;
+    put_number(&record_bytes, 6);
+    put_event(&record_bytes, LARK_ENTER, 1, 0);
+    put_event(&record_bytes, LARK_EXIT, 1, 2001);
+    put_event(&record_bytes, LARK_ENTER, 1, 2002);
+    put_event(&record_bytes, LARK_EXIT, 1, 4003);
+    put_event(&record_bytes, LARK_ENTER, 1, 4003);
+    put_event(&record_bytes, LARK_EXIT, 1, 4003);
+    refuses(lark_resolve_attention, &record_bytes, 63, LARK_OUT_BYTES, LARK_WORK_BYTES, 6, 8 + 4003 + 8 * 4);
+
+    begin("1,000 groups, 8,000 events: the longest result");
+    section_bytes.n = 0;
+    put_number(&section_bytes, 8000);
+    for (i = 0; i < 1000; i++) {
+        put_event(&section_bytes, LARK_ENTER, 5, 2 * i);
+        put_event(&section_bytes, LARK_ENTER, 6, 2 * i);
+        put_event(&section_bytes, LARK_EXIT, 6, 2 * i + 2);
+        put_event(&section_bytes, LARK_ENTER, 7, 2 * i + 2);
+    }
+    for (i = 0; i < 1000; i++) {
+        put_event(&section_bytes, LARK_EXIT, 7, 2001 + 2 * i);
+        put_event(&section_bytes, LARK_ENTER, 6, 2001 + 2 * i);
+        put_event(&section_bytes, LARK_EXIT, 6, 2003 + 2 * i);
+        put_event(&section_bytes, LARK_EXIT, 5, 2003 + 2 * i);
+    }
+    resolves(lark_resolve_attention, twice(2000), 63, 1000, 1000, &section_bytes);
+    begin("8: the longest result, a byte short");
+    refuses(lark_resolve_attention, twice(2000), 63, LARK_OUT_BYTES - 1, LARK_WORK_BYTES, 8, 0);
+}
+
+static void number_8(void) {
+    size_t n;
+    begin("8: every length under 84 for `*a*`");
+    for (n = 0; n < 84; n++) refuses(lark_resolve_attention, record("*a*", "+1@0 -1@1 +0@1 -0@2 +1@2 -1@3"), 59, n, LARK_WORK_BYTES, 8, 0);
+    begin("8: no output for no events");
+    refuses(lark_resolve_attention, record("", ""), 59, 0, LARK_WORK_BYTES, 8, 0);
+    refuses(lark_resolve_attention, record("", ""), 59, 3, LARK_WORK_BYTES, 8, 0);
+}
+
+static void all(void) {
+    whole_case();
+    by_line();
+    number_6();
+    number_7();
+    number_8();
+}
+
+int main(void) { return in_every_way(all); }

@@ -1,0 +1,148 @@
+/* lark_heading: what is a heading and what is not, the events of its line, and numbers 2, 3, 4, 7 and 8. */
+#include "check.h"
+
+static void heading_with(const char *text, size_t n, uint32_t options, size_t out_length, size_t number, size_t place, size_t found,
+                         size_t events, const struct bytes *result) {
+    struct slice line = lend_bytes((const uint8_t *)text, n), out = lend(out_length);
+    struct lark_headed got = lark_heading(line.p, line.n, options, out.p, out.n);
+    equal("number", got.number, number);
+    equal("place", got.place, place);
+    equal("found", got.found, found);
+    equal("events", got.events, events);
+    same("the line", line.p, (const uint8_t *)text, n);
+    output_is(out, result);
+    take_back(line);
+    take_back(out);
+}
+
+/* The section comes into ample output, and into output of just its length. */
+static void gives(const char *text, size_t n, uint32_t options, const struct bytes *result) {
+    size_t events = (result->n - 4) / 8;
+    heading_with(text, n, options, LARK_OUT_BYTES, 0, 0, 1, events, result);
+    heading_with(text, n, options, result->n, 0, 0, 1, events, result);
+    heading_with(text, n, options, result->n + 1, 0, 0, 1, events, result);
+}
+#define heading(text, options, result) gives(text, sizeof(text) - 1, options, section(result))
+
+static void none(const char *text, size_t n, uint32_t options) {
+    heading_with(text, n, options, LARK_OUT_BYTES, 0, 0, 0, 0, NULL);
+    heading_with(text, n, options, 0, 0, 0, 0, 0, NULL);
+}
+#define no_heading(text, options) none(text, sizeof(text) - 1, options)
+
+static void refused(const char *text, size_t n, uint32_t options, size_t out_length, size_t number, size_t place) {
+    heading_with(text, n, options, out_length, number, place, 0, 0, NULL);
+}
+
+static void found(void) {
+    begin("`# a b`");
+    heading("# a b", 59, "+11@0 +12@0 -12@1 +14@1 -14@2 +0@2 -0@3 +14@3 -14@4 +0@4 -0@5 -11@5");
+    begin("its option alone");
+    heading("# a b", 8, "+11@0 +12@0 -12@1 +14@1 -14@2 +0@2 -0@3 +14@3 -14@4 +0@4 -0@5 -11@5");
+    begin("`# a#`");
+    heading("# a#", 59, "+11@0 +12@0 -12@1 +14@1 -14@2 +0@2 -0@4 -11@4");
+    begin("`# #a#`: a `#` run followed directly by Data");
+    heading("# #a#", 59, "+11@0 +12@0 -12@1 +14@1 -14@2 +12@2 -12@3 +0@3 -0@5 -11@5");
+    begin("`## a ##`");
+    heading("## a ##", 59, "+11@0 +12@0 -12@2 +14@2 -14@3 +0@3 -0@4 +14@4 -14@5 +12@5 -12@7 -11@7");
+    begin("six `#` alone");
+    heading("######", 59, "+11@0 +12@0 -12@6 -11@6");
+    begin("`#` and a line feed");
+    heading("#\na", 59, "+11@0 +12@0 -12@1 -11@1");
+    begin("`#` and a tab");
+    heading("#\ta", 59, "+11@0 +12@0 -12@1 +14@1 -14@2 +0@2 -0@3 -11@3");
+    begin("three spaces in front, and spaces behind");
+    heading("   # a \t", 59, "+11@0 +14@0 -14@3 +12@3 -12@4 +14@4 -14@5 +0@5 -0@6 +14@6 -14@8 -11@8");
+    begin("four spaces in front without option 32");
+    heading("    # a", 27, "+11@0 +14@0 -14@4 +12@4 -12@5 +14@5 -14@6 +0@6 -0@7 -11@7");
+    begin("zero bytes and bytes from 128 up are Data");
+    heading("# \0\xc3\xa9", 59, "+11@0 +12@0 -12@1 +14@1 -14@2 +0@2 -0@5 -11@5");
+}
+
+static void not_found(void) {
+    begin("an empty line is none");
+    no_heading("", 59);
+    begin("text is none");
+    no_heading("a", 59);
+    no_heading("\n# a", 59);
+    begin("seven `#` are none");
+    no_heading("#######", 59);
+    no_heading("####### a", 59);
+    begin("`#a` is none");
+    no_heading("#a", 59);
+    begin("`#` and a form feed is none");
+    no_heading("#\fa", 59);
+    begin("four spaces in front with option 32: none");
+    no_heading("    # a", 59);
+    begin("none without option 8");
+    no_heading("# a", 55);
+}
+
+static void refusals(void) {
+    static const uint32_t over[] = {64, 65, 128, 256, 65536, 0x80000000u, 0xffffffffu};
+    static char longer[20000];
+    size_t i;
+    memset(longer, ' ', sizeof longer);
+    longer[0] = '#';
+    begin("2: options over 63");
+    for (i = 0; i < sizeof over / sizeof *over; i++) refused("# a", 3, over[i], LARK_OUT_BYTES, 2, 0);
+    begin("2 comes before 3 and 4");
+    refused("\r", 1, 64, LARK_OUT_BYTES, 2, 0);
+    refused(longer, 16385, 64, LARK_OUT_BYTES, 2, 0);
+    begin("3: a line of 16,385 bytes");
+    refused(longer, 16385, 63, LARK_OUT_BYTES, 3, 16384);
+    refused(longer, sizeof longer, 63, 0, 3, 16384);
+    begin("3: also past a line feed, and before 4");
+    longer[1] = '\n';
+    longer[2] = '\r';
+    refused(longer, 16385, 63, LARK_OUT_BYTES, 3, 16384);
+    begin("4: a carriage return");
+    refused("# a\r\n", 5, 63, LARK_OUT_BYTES, 4, 3);
+    refused("a\r", 2, 63, 0, 4, 1);
+    begin("4: also past a line feed");
+    refused("# a\n\r", 5, 63, LARK_OUT_BYTES, 4, 4);
+    begin("8: every length under 68 for `# a`");
+    for (i = 0; i < 68; i++) refused("# a", 3, 63, i, 8, 0);
+    heading("# a", 63, "+11@0 +12@0 -12@1 +14@1 -14@2 +0@2 -0@3 -11@3");
+}
+
+/* `#` and 1,999 times ` a`: 3,999 pieces, 8,000 events. One more space is one piece more. */
+static void longest(void) {
+    static char line[1 + 2 * 1999 + 1];
+    size_t i;
+    line[0] = '#';
+    section_bytes.n = 0;
+    put_number(&section_bytes, 8000);
+    put_event(&section_bytes, LARK_ENTER, 11, 0);
+    put_event(&section_bytes, LARK_ENTER, 12, 0);
+    put_event(&section_bytes, LARK_EXIT, 12, 1);
+    for (i = 0; i < 1999; i++) {
+        size_t at = 1 + 2 * i;
+        line[at] = ' ';
+        line[at + 1] = 'a';
+        put_event(&section_bytes, LARK_ENTER, 14, at);
+        put_event(&section_bytes, LARK_EXIT, 14, at + 1);
+        put_event(&section_bytes, LARK_ENTER, 0, at + 1);
+        put_event(&section_bytes, LARK_EXIT, 0, at + 2);
+    }
+    put_event(&section_bytes, LARK_EXIT, 11, 3999);
+    line[3999] = ' ';
+    begin("8,000 events: the longest section");
+    gives(line, 3999, 63, &section_bytes);
+    begin("8: the longest section, a byte short");
+    refused(line, 3999, 63, LARK_OUT_BYTES - 1, 8, 0);
+    begin("7: 8,002 events");
+    refused(line, 4000, 63, LARK_OUT_BYTES, 7, 0);
+    refused(line, 4000, 63, 100000, 7, 0);
+    begin("7 comes before 8");
+    refused(line, 4000, 63, 0, 7, 0);
+}
+
+static void all(void) {
+    found();
+    not_found();
+    refusals();
+    longest();
+}
+
+int main(void) { return in_every_way(all); }

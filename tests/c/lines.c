@@ -1,0 +1,264 @@
+/* The three line readers that write nothing: lark_space_or_tab, lark_list_item and lark_continuation. Document 01's cases by line, every finding,
+ * and numbers 2, 3 and 4.
+ */
+#include "check.h"
+
+#define LINE(text) text, sizeof(text) - 1
+
+static void spaces_with(const char *text, size_t n, uint32_t options, size_t min, size_t max, size_t number, size_t place, size_t found,
+                        size_t taken) {
+    struct slice line = lend_bytes((const uint8_t *)text, n);
+    struct lark_spaces got = lark_space_or_tab(line.p, line.n, options, min, max);
+    equal("number", got.number, number);
+    equal("place", got.place, place);
+    equal("found", got.found, found);
+    equal("taken", got.taken, taken);
+    same("the line", line.p, (const uint8_t *)text, n);
+    take_back(line);
+}
+
+static void item_with(const char *text, size_t n, uint32_t options, uint32_t interrupting, size_t number, size_t place, size_t found,
+                      size_t taken, size_t size, size_t blank, size_t mark) {
+    struct slice line = lend_bytes((const uint8_t *)text, n);
+    struct lark_item got = lark_list_item(line.p, line.n, options, interrupting);
+    equal("number", got.number, number);
+    equal("place", got.place, place);
+    equal("found", got.found, found);
+    equal("taken", got.taken, taken);
+    equal("size", got.size, size);
+    equal("blank", got.blank, blank);
+    equal("mark", got.mark, mark);
+    same("the line", line.p, (const uint8_t *)text, n);
+    take_back(line);
+}
+
+/* A continuation, with each kind of mark: the answer does not depend on it. */
+static void going_with(const char *text, size_t n, uint32_t options, size_t size, uint32_t flag, size_t number, size_t place, size_t found,
+                       size_t taken, size_t blank) {
+    static const uint32_t marks[] = {'-', '*', '+', '.', ')', 0, 'a', 256 + '.', 0xffffffffu};
+    size_t i;
+    for (i = 0; i < sizeof marks / sizeof *marks; i++) {
+        struct slice line = lend_bytes((const uint8_t *)text, n);
+        struct lark_going got = lark_continuation(line.p, line.n, options, size, flag, marks[i]);
+        equal("number", got.number, number);
+        equal("place", got.place, place);
+        equal("found", got.found, found);
+        equal("taken", got.taken, taken);
+        equal("blank", got.blank, blank);
+        same("the line", line.p, (const uint8_t *)text, n);
+        take_back(line);
+    }
+}
+
+static void taken(const char *text, size_t n, size_t min, size_t max, size_t want) { spaces_with(text, n, 63, min, max, 0, 0, 1, want); }
+static void too_few(const char *text, size_t n, size_t min, size_t max) { spaces_with(text, n, 63, min, max, 0, 0, 0, 0); }
+
+static void item(const char *text, size_t n, uint32_t options, uint32_t interrupting, size_t bytes, size_t size, size_t blank, char mark) {
+    item_with(text, n, options, interrupting, 0, 0, 1, bytes, size, blank, (size_t)mark);
+}
+static void no_item(const char *text, size_t n, uint32_t options, uint32_t interrupting) {
+    item_with(text, n, options, interrupting, 0, 0, 0, 0, 0, 0, 0);
+}
+
+static void goes(const char *text, size_t n, size_t size, uint32_t flag, size_t bytes, size_t blank) {
+    going_with(text, n, 63, size, flag, 0, 0, 1, bytes, blank);
+}
+static void stops(const char *text, size_t n, size_t size, uint32_t flag, size_t blank) {
+    going_with(text, n, 63, size, flag, 0, 0, 0, 0, blank);
+}
+
+/* All three refuse alike. The flag of a continuation is then 0, whatever was passed. */
+static void all_refuse(const char *text, size_t n, uint32_t options, size_t number, size_t place) {
+    spaces_with(text, n, options, 0, 9, number, place, 0, 0);
+    item_with(text, n, options, 0, number, place, 0, 0, 0, 0, 0);
+    item_with(text, n, options, 1, number, place, 0, 0, 0, 0, 0);
+    going_with(text, n, options, 2, 0, number, place, 0, 0, 0);
+    going_with(text, n, options, 2, 1, number, place, 0, 0, 0);
+}
+
+static void space_or_tab(void) {
+    static char longest[16384];
+    uint32_t options;
+    memset(longest, ' ', sizeof longest);
+    begin("space-or-tab: an empty line, none asked for");
+    taken(LINE(""), 0, 3, 0);
+    begin("space-or-tab: an empty line is too few for one");
+    too_few(LINE(""), 1, 3);
+    begin("space-or-tab: spaces and tabs, counted in bytes");
+    taken(LINE("\t \ta"), 2, 9, 3);
+    begin("space-or-tab: up to the maximum");
+    taken(LINE("    a"), 1, 2, 2);
+    begin("space-or-tab: too few");
+    too_few(LINE("  a"), 3, 9);
+    begin("space-or-tab: exactly the minimum");
+    taken(LINE("  a"), 2, 9, 2);
+    begin("space-or-tab: a minimum over the maximum is too few");
+    too_few(LINE("   a"), 2, 1);
+    begin("space-or-tab: a maximum of 0");
+    taken(LINE("  a"), 0, 0, 0);
+    begin("space-or-tab: the line ends before its first line feed");
+    taken(LINE("  \n  "), 0, 9, 2);
+    too_few(LINE("\n  "), 1, 9);
+    begin("space-or-tab: other white space is not taken");
+    taken(LINE(" \f "), 0, 9, 1);
+    taken(LINE(" \v "), 0, 9, 1);
+    taken(LINE(" \0 "), 0, 9, 1);
+    begin("space-or-tab: the largest numbers");
+    taken(LINE("   a"), 0, SIZE_MAX, 3);
+    too_few(LINE("   a"), SIZE_MAX, SIZE_MAX);
+    begin("space-or-tab: a line of 16,384 spaces");
+    taken(longest, sizeof longest, 16384, SIZE_MAX, 16384);
+    too_few(longest, sizeof longest, 16385, SIZE_MAX);
+    begin("space-or-tab: every options number");
+    for (options = 0; options <= 63; options++) spaces_with(LINE("  a"), options, 0, 9, 0, 0, 1, 2);
+}
+
+static void list_item(void) {
+    begin("item: `- a`");
+    item(LINE("- a"), 59, 0, 2, 2, 0, '-');
+    begin("item: `* a` and `+ a`");
+    item(LINE("* a"), 59, 0, 2, 2, 0, '*');
+    item(LINE("+ a"), 59, 0, 2, 2, 0, '+');
+    begin("item: its option alone");
+    item(LINE("- a"), 16, 0, 2, 2, 0, '-');
+    begin("item: none without option 16");
+    no_item(LINE("- a"), 47, 0);
+    begin("item: `123456789. a` has size 11");
+    item(LINE("123456789. a"), 59, 0, 11, 11, 0, '.');
+    begin("item: `1) a`");
+    item(LINE("1) a"), 59, 0, 3, 3, 0, ')');
+    begin("item: ten digits are none");
+    no_item(LINE("1234567890. a"), 59, 0);
+    begin("item: digits alone are none");
+    no_item(LINE("12"), 59, 0);
+    no_item(LINE("12 a"), 59, 0);
+    begin("item: `-    a` (4 spaces) has size 5");
+    item(LINE("-    a"), 59, 0, 5, 5, 0, '-');
+    begin("item: `-     a` (5 spaces) has size 2");
+    item(LINE("-     a"), 59, 0, 2, 2, 0, '-');
+    begin("item: no space after the marker");
+    no_item(LINE("-a"), 59, 0);
+    begin("item: a tab after the marker is one byte");
+    item(LINE("-\ta"), 59, 0, 2, 2, 0, '-');
+    begin("item: `   - a` has an indentation of 3");
+    item(LINE("   - a"), 59, 0, 5, 5, 0, '-');
+    begin("item: `    - a` is none with option 32");
+    no_item(LINE("    - a"), 59, 0);
+    begin("item: `    - a` is one without option 32");
+    item(LINE("    - a"), 27, 0, 6, 6, 0, '-');
+    begin("item: `- - -` is a thematic break");
+    no_item(LINE("- - -"), 59, 0);
+    no_item(LINE("***"), 59, 0);
+    no_item(LINE("* *\t* \nx"), 59, 0);
+    begin("item: two marks are no thematic break, nor are `+`");
+    item(LINE("- -"), 59, 0, 2, 2, 0, '-');
+    item(LINE("+ + +"), 59, 0, 2, 2, 0, '+');
+    begin("item: a blank start");
+    item(LINE("-"), 59, 0, 1, 2, 1, '-');
+    item(LINE(" 12.  \t\na"), 59, 0, 4, 5, 1, '.');
+    begin("item: a form feed is not blank");
+    item(LINE("- \f"), 59, 0, 2, 2, 0, '-');
+    begin("item: `2. a` interrupting is none");
+    no_item(LINE("2. a"), 59, 1);
+    item(LINE("2. a"), 59, 0, 3, 3, 0, '.');
+    begin("item: `1. a` interrupting");
+    item(LINE("1. a"), 59, 1, 3, 3, 0, '.');
+    begin("item: `01. a` interrupting is none");
+    no_item(LINE("01. a"), 59, 1);
+    begin("item: a blank start interrupting is none");
+    no_item(LINE("-"), 59, 1);
+    no_item(LINE("1.  "), 59, 1);
+    begin("item: a bullet interrupting");
+    item(LINE("- a"), 59, 1, 2, 2, 0, '-');
+    begin("item: any value but 0 is interrupting");
+    no_item(LINE("2. a"), 59, 2);
+    no_item(LINE("2. a"), 59, 256);
+    no_item(LINE("2. a"), 59, 0x80000000u);
+    no_item(LINE("2. a"), 59, 0xffffffffu);
+    begin("item: an empty line is none");
+    no_item(LINE(""), 59, 0);
+    no_item(LINE("\n- a"), 59, 0);
+    begin("item: text is none");
+    no_item(LINE("a"), 59, 0);
+}
+
+static void continuation(void) {
+    begin("continuation: a filled line with size of spaces");
+    goes(LINE("  a"), 2, 0, 2, 0);
+    begin("continuation: more spaces stay");
+    goes(LINE("     a"), 2, 0, 2, 0);
+    begin("continuation: tabs count as one byte");
+    goes(LINE("\t a"), 2, 0, 2, 0);
+    begin("continuation: too few spaces stop it");
+    stops(LINE(" a"), 2, 0, 0);
+    begin("continuation: no space stops it");
+    stops(LINE("a"), 2, 0, 0);
+    begin("continuation: a filled line clears the flag, whether it goes on");
+    goes(LINE("  a"), 2, 1, 2, 0);
+    begin("continuation: a filled line clears the flag, or not");
+    stops(LINE(" a"), 2, 1, 0);
+    begin("continuation: a blank line goes on and takes up to size");
+    goes(LINE(""), 2, 0, 0, 0);
+    goes(LINE(" "), 2, 0, 1, 0);
+    goes(LINE("    "), 2, 0, 2, 0);
+    goes(LINE(" \n   a"), 2, 0, 1, 0);
+    begin("continuation: a blank line stops it if the flag is set, which stays");
+    stops(LINE(""), 2, 1, 1);
+    stops(LINE("   "), 2, 1, 1);
+    stops(LINE("\na"), 2, 1, 1);
+    begin("continuation: any value but 0 is a flag, and comes back as 1");
+    stops(LINE(""), 2, 2, 1);
+    stops(LINE(""), 2, 256, 1);
+    stops(LINE(""), 2, 0x80000000u, 1);
+    stops(LINE(""), 2, 0xffffffffu, 1);
+    begin("continuation: size 0 still asks for a space or tab");
+    stops(LINE("a"), 0, 0, 0);
+    goes(LINE(" a"), 0, 0, 0, 0);
+    begin("continuation: the largest size");
+    stops(LINE("   a"), SIZE_MAX, 0, 0);
+    goes(LINE("   "), SIZE_MAX, 0, 3, 0);
+    begin("continuation: no option need be on");
+    going_with(LINE("  a"), 0, 2, 0, 0, 0, 1, 2, 0);
+}
+
+static void refusals(void) {
+    static const uint32_t over[] = {64, 65, 128, 256, 65536, 0x80000000u, 0xffffffffu};
+    static char longer[20000];
+    size_t i;
+    memset(longer, ' ', sizeof longer);
+    begin("2: options over 63");
+    for (i = 0; i < sizeof over / sizeof *over; i++) all_refuse(LINE("- a"), over[i], 2, 0);
+    begin("2 comes before 3 and 4");
+    all_refuse(LINE("\r"), 64, 2, 0);
+    all_refuse(longer, 16385, 64, 2, 0);
+    begin("3: a line of 16,385 bytes");
+    all_refuse(longer, 16385, 63, 3, 16384);
+    begin("3: a line of 20,000 bytes");
+    all_refuse(longer, sizeof longer, 63, 3, 16384);
+    begin("3: also past a line feed");
+    longer[0] = '\n';
+    all_refuse(longer, 16385, 63, 3, 16384);
+    begin("3 comes before 4");
+    longer[0] = '\r';
+    all_refuse(longer, 16385, 63, 3, 16384);
+    begin("4: a carriage return");
+    all_refuse(LINE("\r"), 63, 4, 0);
+    all_refuse(LINE("- a\r\n"), 63, 4, 3);
+    begin("4: the first of two");
+    all_refuse(LINE("a\rb\r"), 63, 4, 1);
+    begin("4: also past a line feed");
+    all_refuse(LINE("\n\r"), 63, 4, 1);
+    begin("4: the last byte of the longest line");
+    longer[0] = ' ';
+    longer[16383] = '\r';
+    all_refuse(longer, 16384, 63, 4, 16383);
+}
+
+static void all(void) {
+    space_or_tab();
+    list_item();
+    continuation();
+    refusals();
+}
+
+int main(void) { return in_every_way(all); }

@@ -1,0 +1,94 @@
+/* NULL with length 0 is an empty slice: for each slice of each call by itself, and for all of them together. */
+#include <ledgerlark.h>
+
+#include <stdio.h>
+#include <string.h>
+
+static uint8_t out[LARK_OUT_BYTES], work[LARK_WORK_BYTES];
+static const uint8_t empty[8] = {0}; /* no document, no events */
+static const uint8_t hash[] = {'#'};
+static unsigned cases, failures;
+
+/* The work memory is zero; it is made dirty again. */
+static int wiped(void) {
+    size_t i;
+    int held = 1;
+    for (i = 0; i < sizeof work; i++) held = held && work[i] == 0;
+    memset(work, 0xa5, sizeof work);
+    return held;
+}
+
+/* Something held, and the output is as it was: nothing here writes a section. */
+static void holds(const char *name, int held) {
+    size_t i;
+    cases++;
+    for (i = 0; i < sizeof out; i++) held = held && out[i] == 0xa5;
+    if (!held) {
+        printf("FAIL: %s\n", name);
+        failures++;
+    }
+}
+
+typedef struct lark_resolved resolver(const uint8_t *, size_t, uint32_t, uint8_t *, size_t, uint8_t *, size_t);
+
+static int refused(struct lark_resolved r, size_t number, size_t place) {
+    return r.number == number && r.place == place && r.events == 0 && r.groups == 0 && r.tried == 0;
+}
+
+static void resolver_nulls(const char *name, resolver *call) {
+    printf("%s\n", name);
+    holds("record", refused(call(NULL, 0, 63, out, sizeof out, work, sizeof work), 3, 0) && wiped());
+    holds("output", refused(call(empty, sizeof empty, 63, NULL, 0, work, sizeof work), 8, 0) && wiped());
+    holds("work memory", refused(call(empty, sizeof empty, 63, out, sizeof out, NULL, 0), 1, 0));
+    holds("record and output", refused(call(NULL, 0, 63, NULL, 0, work, sizeof work), 3, 0) && wiped());
+    holds("all three", refused(call(NULL, 0, 63, NULL, 0, NULL, 0), 1, 0));
+}
+
+int main(void) {
+    struct lark_reading r;
+    struct lark_spaces s;
+    struct lark_item i;
+    struct lark_going g;
+    struct lark_headed h;
+    memset(out, 0xa5, sizeof out);
+    memset(work, 0xa5, sizeof work);
+
+    printf("lark_read\n");
+    r = lark_read(NULL, 0, 63, work, sizeof work);
+    holds("record", r.number == 3 && r.place == 0 && r.document == 0 && r.events == 0 && wiped());
+    r = lark_read(empty, sizeof empty, 63, NULL, 0);
+    holds("work memory", r.number == 1 && r.place == 0 && r.document == 0 && r.events == 0);
+    r = lark_read(NULL, 0, 63, NULL, 0);
+    holds("both", r.number == 1 && r.place == 0 && r.document == 0 && r.events == 0);
+
+    resolver_nulls("lark_resolve_attention", lark_resolve_attention);
+    resolver_nulls("lark_resolve_headings", lark_resolve_headings);
+    resolver_nulls("lark_resolve_lists", lark_resolve_lists);
+
+    printf("lark_space_or_tab\n");
+    s = lark_space_or_tab(NULL, 0, 63, 0, 3);
+    holds("line, none asked for", s.number == 0 && s.place == 0 && s.found == 1 && s.taken == 0);
+    s = lark_space_or_tab(NULL, 0, 63, 1, 3);
+    holds("line, one asked for", s.number == 0 && s.place == 0 && s.found == 0 && s.taken == 0);
+
+    printf("lark_list_item\n");
+    i = lark_list_item(NULL, 0, 63, 0);
+    holds("line", i.number == 0 && i.place == 0 && i.found == 0 && i.taken == 0 && i.size == 0 && i.blank == 0 && i.mark == 0);
+
+    printf("lark_continuation\n");
+    g = lark_continuation(NULL, 0, 63, 2, 0, '-');
+    holds("line", g.number == 0 && g.place == 0 && g.found == 1 && g.taken == 0 && g.blank == 0);
+    g = lark_continuation(NULL, 0, 63, 2, 1, '-');
+    holds("line, flag set", g.number == 0 && g.place == 0 && g.found == 0 && g.taken == 0 && g.blank == 1);
+
+    printf("lark_heading\n");
+    h = lark_heading(NULL, 0, 63, out, sizeof out);
+    holds("line", h.number == 0 && h.place == 0 && h.found == 0 && h.events == 0);
+    h = lark_heading(hash, sizeof hash, 63, NULL, 0);
+    holds("output", h.number == 8 && h.place == 0 && h.found == 0 && h.events == 0);
+    h = lark_heading(NULL, 0, 63, NULL, 0);
+    holds("both", h.number == 0 && h.place == 0 && h.found == 0 && h.events == 0);
+
+    printf("%u cases, %u failures\n", cases, failures);
+    return failures != 0;
+}

@@ -1,0 +1,263 @@
+/* What all four calls on a record have in common: numbers 1 to 5 of document 01's table, each at its boundary, and the limits that are still
+ * good. Each case runs through lark_read and through the three resolvers, with ample output and with none.
+ */
+#include "check.h"
+
+static resolver *const resolvers[] = {lark_resolve_attention, lark_resolve_headings, lark_resolve_lists};
+
+/* All four refuse alike. */
+static void all_refuse_with(const struct bytes *r, uint32_t options, size_t work_length, size_t number, size_t place) {
+    size_t i;
+    reads(r, options, work_length, number, place, 0, 0);
+    for (i = 0; i < 3; i++) {
+        refuses(resolvers[i], r, options, LARK_OUT_BYTES, work_length, number, place);
+        refuses(resolvers[i], r, options, 0, work_length, number, place);
+    }
+}
+
+static void all_refuse(const struct bytes *r, size_t number, size_t place) {
+    all_refuse_with(r, 63, LARK_WORK_BYTES, number, place);
+}
+
+/* All four accept a record without runs, headings and items; the resolvers write its events as they are, from `from` to its end. */
+static void all_accept(const struct bytes *r, uint32_t options, size_t document, size_t events) {
+    static struct bytes copy;
+    size_t i;
+    copy.n = 0;
+    put(&copy, r->at + 4 + document, 4 + 8 * events);
+    reads(r, options, LARK_WORK_BYTES, 0, 0, document, events);
+    reads(r, options, LARK_WORK_BYTES + 4099, 0, 0, document, events);
+    for (i = 0; i < 3; i++) resolves(resolvers[i], r, options, 0, 0, &copy);
+}
+
+/* One event in bare bytes, in a record with the document `ab`. */
+static const struct bytes *one_event(unsigned kind, unsigned name, unsigned zero, unsigned nought, uint32_t place) {
+    record_bytes.n = 0;
+    put_document(&record_bytes, "ab", 2);
+    put_number(&record_bytes, 1);
+    put_many(&record_bytes, (uint8_t)kind, 1);
+    put_many(&record_bytes, (uint8_t)name, 1);
+    put_many(&record_bytes, (uint8_t)zero, 1);
+    put_many(&record_bytes, (uint8_t)nought, 1);
+    put_number(&record_bytes, place);
+    return &record_bytes;
+}
+
+/* A document of `d` letters, and `pairs` empty pairs of Data at its end. */
+static const struct bytes *large(size_t d, size_t pairs) {
+    size_t i;
+    record_bytes.n = 0;
+    put_number(&record_bytes, (uint32_t)d);
+    put_many(&record_bytes, 'a', d);
+    put_number(&record_bytes, (uint32_t)(2 * pairs));
+    for (i = 0; i < pairs; i++) {
+        put_event(&record_bytes, LARK_ENTER, LARK_NAME_DATA, d);
+        put_event(&record_bytes, LARK_EXIT, LARK_NAME_DATA, d);
+    }
+    return &record_bytes;
+}
+
+/* `enters` containers that are entered and then `exits` that are left, at place 0 of an empty document. */
+static const struct bytes *deep(size_t enters, size_t exits) {
+    size_t i;
+    record_bytes.n = 0;
+    put_number(&record_bytes, 0);
+    put_number(&record_bytes, (uint32_t)(enters + exits));
+    for (i = 0; i < enters; i++) put_event(&record_bytes, LARK_ENTER, LARK_NAME_OTHER_CONTAINER, 0);
+    for (i = 0; i < exits; i++) put_event(&record_bytes, LARK_EXIT, LARK_NAME_OTHER_CONTAINER, 0);
+    return &record_bytes;
+}
+
+static void accepted(void) {
+    uint32_t options;
+    begin("no document, no events");
+    all_accept(RAW("\0\0\0\0\0\0\0\0"), 63, 0, 0);
+    begin("a pair of Data");
+    all_accept(record("ab", "+0@0 -0@2"), 63, 2, 2);
+    begin("equal places, and a place at the document's end");
+    all_accept(record("ab", "+24@0 +0@0 -0@0 +0@2 -0@2 -24@2"), 63, 2, 6);
+    begin("bytes of every value but a carriage return");
+    {
+        unsigned byte;
+        record_bytes.n = 0;
+        put_number(&record_bytes, 255);
+        for (byte = 0; byte < 256; byte++)
+            if (byte != 13) put_many(&record_bytes, (uint8_t)byte, 1);
+        put_number(&record_bytes, 0);
+        all_accept(&record_bytes, 63, 255, 0);
+    }
+    begin("13 as a count, a name and a place is no carriage return");
+    all_accept(record("aaaaaaaaaaaaa", "+13@13 -13@13"), 63, 13, 2);
+    begin("a document of 16,384 bytes and 2,048 events");
+    all_accept(large(16384, 1024), 63, 16384, 2048);
+    begin("64 events open");
+    all_accept(deep(64, 64), 63, 0, 128);
+    begin("every options number");
+    for (options = 0; options <= 63; options++) reads(record("ab", "+0@0 -0@2"), options, LARK_WORK_BYTES, 0, 0, 2, 2);
+}
+
+static void number_1(void) {
+    begin("1: no work memory");
+    all_refuse_with(record("ab", "+0@0 -0@2"), 63, 0, 1, 0);
+    begin("1: one byte of work memory");
+    all_refuse_with(record("ab", "+0@0 -0@2"), 63, 1, 1, 0);
+    begin("1: 65,535 bytes of work memory");
+    all_refuse_with(record("ab", "+0@0 -0@2"), 63, 65535, 1, 0);
+    begin("1 comes before 2, 3, 4 and 5");
+    all_refuse_with(RAW("\1\0\0\0\r\1\0\0\0\7\7\7\7\7\7\7\7\7"), 64, 65535, 1, 0);
+    begin("1: and no record either");
+    all_refuse_with(RAW(""), 63, 65535, 1, 0);
+}
+
+static void number_2(void) {
+    static const uint32_t over[] = {64, 65, 127, 128, 256, 65536, 0x80000000u, 0xffffffffu};
+    size_t i;
+    begin("2: options over 63");
+    for (i = 0; i < sizeof over / sizeof *over; i++) all_refuse_with(record("ab", "+0@0 -0@2"), over[i], LARK_WORK_BYTES, 2, 0);
+    begin("2 comes before 3");
+    all_refuse_with(RAW("\1"), 64, LARK_WORK_BYTES, 2, 0);
+    begin("2 comes before 4 and 5");
+    all_refuse_with(RAW("\1\0\0\0\r\1\0\0\0\7\7\7\7\7\7\7\7"), 64, LARK_WORK_BYTES, 2, 0);
+}
+
+static void number_3(void) {
+    begin("3: no record");
+    all_refuse(RAW(""), 3, 0);
+    begin("3: a first count of one byte");
+    all_refuse(RAW("\0"), 3, 0);
+    begin("3: a first count of three bytes");
+    all_refuse(RAW("\0\0\0"), 3, 0);
+    begin("3: a document that runs past the record");
+    all_refuse(RAW("\5\0\0\0abcd"), 3, 0);
+    begin("3: a document of 16,385 bytes");
+    all_refuse(large(16385, 0), 3, 0);
+    begin("3: a document of 2^32 - 1 bytes");
+    all_refuse(RAW("\xff\xff\xff\xff\0\0\0\0"), 3, 0);
+    begin("3: a document of 2^32 - 4 bytes");
+    all_refuse(RAW("\xfc\xff\xff\xff\0\0\0\0"), 3, 0);
+    begin("3: no second count");
+    all_refuse(RAW("\0\0\0\0"), 3, 4);
+    begin("3: a second count of three bytes");
+    all_refuse(RAW("\2\0\0\0ab\0\0\0"), 3, 6);
+    begin("3: events that run past the record by a byte");
+    all_refuse(RAW("\2\0\0\0ab\1\0\0\0\0\0\0\0\0\0\0"), 3, 6);
+    begin("3: 2,050 events that are all there");
+    all_refuse(large(3, 1025), 3, 7);
+    begin("3: 2,049 events that are all there");
+    record_bytes.n = 0;
+    put_document(&record_bytes, "abc", 3);
+    put_number(&record_bytes, 2049);
+    put_many(&record_bytes, 0, 8 * 2049);
+    all_refuse(&record_bytes, 3, 7);
+    begin("3: 2^32 - 1 events");
+    all_refuse(RAW("\0\0\0\0\xff\xff\xff\xff"), 3, 4);
+    begin("3: events whose bytes count to 2^32");
+    all_refuse(RAW("\0\0\0\0\0\0\0\x20"), 3, 4);
+    begin("3: a byte follows");
+    all_refuse(RAW("\0\0\0\0\0\0\0\0\0"), 3, 8);
+    begin("3: bytes follow the last event");
+    all_refuse(RAW("\1\0\0\0a\2\0\0\0\0\0\0\0\0\0\0\0\1\0\0\0\0\0\0\0ab"), 3, 25);
+    begin("3 comes before 4, also at a later place");
+    all_refuse(RAW("\1\0\0\0\r"), 3, 5);
+    all_refuse(RAW("\1\0\0\0\r\0\0\0\0\0"), 3, 9);
+    begin("3 comes before 5");
+    all_refuse(RAW("\0\0\0\0\1\0\0\0\7\7\7\7\7\7\7\7\7"), 3, 16);
+}
+
+static void number_4(void) {
+    begin("4: a carriage return alone");
+    all_refuse(record("\r", ""), 4, 4);
+    begin("4: the first of two");
+    all_refuse(record("ab\r\n\r", ""), 4, 6);
+    begin("4: at the document's end");
+    all_refuse(record("ab\r", "+0@0 -0@3"), 4, 6);
+    begin("4 comes before 5");
+    all_refuse(record("ab\r", "-0@0"), 4, 6);
+}
+
+static void number_5(void) {
+    begin("5: kind 2");
+    all_refuse(one_event(2, 0, 0, 0, 0), 5, 10);
+    begin("5: kind 255");
+    all_refuse(one_event(255, 0, 0, 0, 0), 5, 10);
+    begin("5: name 25");
+    all_refuse(one_event(0, 25, 0, 0, 0), 5, 10);
+    begin("5: name 255");
+    all_refuse(one_event(0, 255, 0, 0, 0), 5, 10);
+    begin("5: the first of the zero bytes");
+    all_refuse(one_event(0, 0, 1, 0, 0), 5, 10);
+    begin("5: the second of the zero bytes");
+    all_refuse(one_event(0, 0, 0, 128, 0), 5, 10);
+    begin("5: a place past the document");
+    all_refuse(one_event(0, 0, 0, 0, 3), 5, 10);
+    begin("5: the largest place");
+    all_refuse(one_event(0, 0, 0, 0, 0xffffffffu), 5, 10);
+    begin("5: a place past an empty document");
+    all_refuse(record("", "+0@0 -0@1"), 5, 16);
+    begin("5: a place below the event before");
+    all_refuse(record("ab", "+0@0 -0@2 +0@1 -0@1"), 5, 26);
+    begin("5: an exit without its enter");
+    all_refuse(record("ab", "-0@0"), 5, 10);
+    begin("5: an exit of another name");
+    all_refuse(record("ab", "+0@0 -14@1"), 5, 18);
+    begin("5: an exit of an event that is not the innermost");
+    all_refuse(record("ab", "+24@0 +0@0 -24@1 -0@1"), 5, 26);
+    begin("5: the enter of a 65th open event");
+    all_refuse(deep(65, 65), 5, 8 + 8 * 64);
+    begin("5: an event left open");
+    all_refuse(record("ab", "+0@0"), 5, 18);
+    begin("5: 64 events left open");
+    all_refuse(deep(64, 0), 5, 8 + 8 * 64);
+    begin("5: an event left open under one that was closed");
+    all_refuse(record("ab", "+24@0 +0@0 -0@1"), 5, 34);
+    begin("5: the earliest of several");
+    all_refuse(record("ab", "+0@0 -0@1 -0@1 +25@1 +0@9"), 5, 26);
+    begin("5 comes before the shape of runs, headings and items");
+    all_refuse(record("ab", "+1@0 -1@0 +11@0 -11@0 +15@0 -15@0 +0@0"), 5, 66);
+}
+
+/* A buffer that is used again: a short record in front of the rest of an earlier one. What is lent is the short record alone. */
+static void reused(void) {
+    static const struct bytes *r;
+    static struct bytes buffer;
+    static uint8_t out[LARK_OUT_BYTES], work[LARK_WORK_BYTES];
+    struct lark_reading got;
+    struct lark_resolved done;
+    size_t i, n;
+    begin("a buffer that is used again");
+    r = record("a message meant for another", "+0@0 -0@27");
+    buffer.n = 0;
+    put(&buffer, r->at, r->n);
+    /* the same document, cut off: its count says 27, but 10 bytes are lent */
+    got = lark_read(buffer.at, 10, 63, work, sizeof work);
+    equal("number", got.number, 3);
+    equal("place", got.place, 0);
+    equal("document", got.document, 0);
+    equal("events", got.events, 0);
+    /* its events cut off: the earlier record's are still in the buffer behind what is lent */
+    for (n = 4 + 27 + 4; n < r->n; n++) {
+        got = lark_read(buffer.at, n, 63, work, sizeof work);
+        equal("number", got.number, 3);
+        equal("place", got.place, 31);
+        for (i = 0; i < 3; i++) {
+            memset(out, 0xa5, sizeof out);
+            done = resolvers[i](buffer.at, n, 63, out, sizeof out, work, sizeof work);
+            equal("number", done.number, 3);
+            equal("place", done.place, 31);
+            all_are("output that must stay", out, sizeof out, 0xa5);
+            all_are("work memory", work, sizeof work, 0);
+        }
+    }
+}
+
+static void all(void) {
+    accepted();
+    number_1();
+    number_2();
+    number_3();
+    number_4();
+    number_5();
+    reused();
+}
+
+int main(void) { return in_every_way(all); }
