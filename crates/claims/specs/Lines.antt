@@ -3,23 +3,27 @@
 -- nothing and take no memory, so there is nothing a buffer held that could show. The heading reader has isolation too, and no refusal and no finding of
 -- it writes.
 -- Assumes nothing.
-use Prim.Native.Nat.{ℕ, _<_}
+use Prim.Native.Nat.{ℕ, _+_, _*_, _<_, _≤_}
 use native.Mathlib.Omega.{arith}
 use mathlib.Core.Path.{_≡_, refl, sym, ap, _∙_}
 use mathlib.Core.Bool.{Bool, true, false}
 use mathlib.Core.List.{List, []}
 use lib.ListN.{length, take, drop}
-use lib.Dec.{leb}
+use lib.Dec.{leb, ltb}
+use borrow.Author.Tests.{ltb-false}
+use Rattle.record.proofs.Sections.{length-section}
+use Rattle.record.specs.declared.event.Event.{Event}
 use lib.Seq.{take-append-seam, drop-append-seam}
 use Rattle.record.specs.Choice.{choose, and}
 use Rattle.record.specs.Outcome.{Outcome, accepted, refused, sized, onto}
 use Rattle.record.specs.Rows.{Least}
+use Rattle.record.specs.declared.check.Refusal.{Refusal}
 use Rattle.lines.specs.Line.{lineOf, refusal, checkedLine, reading}
 use Rattle.lines.specs.declared.line.Checked.{Checked}
 use Rattle.lines.specs.declared.line.Checked.the-variants.{Ends, Bad}
-use Rattle.lines.specs.Rows.{Row, WritingRow}
-use Rattle.lines.specs.Spaces.{spacesOf}
-use Rattle.lines.specs.Item.{startOf}
+use Rattle.lines.specs.Rows.{Row, row-2, row-3, row-4, WritingRow, reading as reading-row, row-7, row-8, Exactly, headingFound}
+use Rattle.lines.specs.Spaces.{spacesIn, spacesOf}
+use Rattle.lines.specs.Item.{startIn, startOf}
 use Rattle.lines.specs.Run.{blank, blanks, blanksUpTo}
 use Rattle.lines.specs.Going.{cleared, blankGoing, filledGoing, goingIn, goingOf}
 use Rattle.lines.specs.Heading.{Result, nothing, headed, isHeading, headingEvents, headedIn, headedOf}
@@ -39,28 +43,44 @@ use Rattle.ledgerlark.specs.declared.line.LarkGoing.{LarkGoing}
 use Rattle.ledgerlark.specs.declared.line.LarkHeaded.{LarkHeaded}
 use Rattle.claims.specs.Told.{Told}
 
--- the claim of a call that answers only: `answer` is what its promise fixes, `R` the rows of the table that it can give
-pub record Claim {A : Type 0} (number : A → ℕ) (refusal : ℕ → ℕ → A) (As : A → Type 0) (R : ℕ → ℕ → Type 0) : Type 0 where
+-- the claim of a call that answers only: `As` is its promise, `R` the rows of the table that it can give, and `found` what it answers where none of
+-- them holds
+pub record Claim {A : Type 0} (number place : A → ℕ) (refusal : ℕ → ℕ → A) (As : A → Type 0) (R : ℕ → ℕ → Type 0) (found : A) : Type 0 where
   pub unique : (r₁ r₂ : A) → As r₁ → As r₂ → r₁ ≡ r₂
-  pub exactly : (r : A) → As r → Told number refusal R r
+  pub exactly : (r : A) → As r → Told number place refusal R r
+  pub finds : (r : A) → As r → ((n p : ℕ) → R n p → ⊥) → r ≡ found
 
--- from the reader's own "exactly when": `numbers` reads an answer and `refuse` is a refusal; what has a number is a refusal, and what is no refusal has
--- number 0
-module _ {A B : Type 0} (number : B → ℕ) (no : ℕ → ℕ → B) (numbers : A → B) (refuse : ℕ → ℕ → A) (R : ℕ → ℕ → Type 0) (answer : A)
-    (read : (n p : ℕ) → numbers (refuse n p) ≡ no n p)
-    (only-refusals : (n p : ℕ) → 0 < n → numbers answer ≡ no n p → answer ≡ refuse n p)
-    (zero-else : ((n p : ℕ) → answer ≡ refuse n p → ⊥) → number (numbers answer) ≡ 0)
-    (refused-least : (n p : ℕ) → answer ≡ refuse n p → Least R n p) (given-least : (n p : ℕ) → Least R n p → answer ≡ refuse n p) where
-  told : (r : B) → r ≡ numbers answer → Told number no R r
+-- from the reader's own "exactly when": `numbers` reads an answer and `refuse` is a refusal; what has a number is a refusal, what is no refusal has
+-- number 0, and a row's number is not 0
+module _ {A B : Type 0} (number place : B → ℕ) (no : ℕ → ℕ → B) (numbers : A → B) (refuse : Refusal → A) (R : ℕ → ℕ → Type 0) (found answer : A)
+    (x : Exactly R refuse found answer)
+    (read : (n p : ℕ) → numbers (refuse (refusal n p)) ≡ no n p)
+    (named : (n p : ℕ) → number (no n p) ≡ n)
+    (only-refusals : (n p : ℕ) → 0 < n → numbers answer ≡ no n p → answer ≡ refuse (refusal n p))
+    (zero-else : ((n p : ℕ) → answer ≡ refuse (refusal n p) → ⊥) → number (numbers answer) ≡ 0)
+    (whole : 0 < number (numbers answer) → numbers answer ≡ no (number (numbers answer)) (place (numbers answer)))
+    (above : (n p : ℕ) → R n p → 0 < n) where
+  told : (r : B) → r ≡ numbers answer → Told number place no R r
   told r a =
       record {
-        given = λ n p l. a ∙ ap numbers (given-least n p l) ∙ read n p;
-        only = λ n p h q. refused-least n p (only-refusals n p h (sym a ∙ q));
-        accepted = λ none. ap number a ∙ zero-else (λ n p e. none n p (refused-least n p e .holds));
+        given = λ n p l. a ∙ ap numbers (x .given n p l) ∙ read n p;
+        only = λ n p h q. x .refused n p (only-refusals n p h (sym a ∙ q));
+        accepted = λ none. ap number a ∙ zero-else (λ n p e. none n p (x .refused n p e .holds));
+        none-holds = λ z. x .none
+            (λ n p e.
+            let k = above n p (x .refused n p e .holds) in
+            let q : number r ≡ n = ap number (a ∙ ap numbers e ∙ read n p) ∙ named n p in
+            omega arith);
+        nothing-more = λ h. rw a (whole (rw a at h));
       }
 
-  claimed : Claim number no (λ (r : B). r ≡ numbers answer) R
-  claimed = record { unique = λ r₁ r₂ p q. p ∙ sym q; exactly = told }
+  claimed : Claim number place no (λ (r : B). r ≡ numbers answer) R (numbers found)
+  claimed = record { unique = λ r₁ r₂ p q. p ∙ sym q; exactly = told; finds = λ r a none. a ∙ ap numbers (x .finds none) }
+
+row-number : {s : List ℕ} {options n p : ℕ} → Row s options n p → 0 < n
+row-number (row-2 h e f) = omega arith
+row-number (row-3 h e f) = omega arith
+row-number (row-4 h g e) = omega arith
 
 -- lark_space_or_tab
 
@@ -81,12 +101,17 @@ spaces-zero (Taken k) f = refl
 spaces-zero TooFew f = refl
 spaces-zero (SpacesRefused x) f = absurd (f (x .number) (x .place) refl)
 
-pub spaces-claim : (s : List ℕ) (options min max : ℕ) → Claim (λ (x : LarkSpaces). x .number) spacesRefusal (SpacesAs s options min max) (Row s options)
+spaces-whole : (a : Spaces) → 0 < spacesNumbers a .number → spacesNumbers a ≡ spacesRefusal (spacesNumbers a .number) (spacesNumbers a .place)
+spaces-whole (Taken k) h = absurd (omega arith)
+spaces-whole TooFew h = absurd (omega arith)
+spaces-whole (SpacesRefused x) h = refl
+
+pub spaces-claim : (s : List ℕ) (options min max : ℕ) →
+    Claim (λ (x : LarkSpaces). x .number) (λ (x : LarkSpaces). x .place) spacesRefusal (SpacesAs s options min max) (Row s options) (spacesNumbers (spacesIn (lineOf s) min max))
 spaces-claim s options min max =
     let a = spacesOf s options min max in
-    let x = spaces-exactly s options min max in
-    claimed (λ (x : LarkSpaces). x .number) spacesRefusal spacesNumbers (λ n p. SpacesRefused (refusal n p)) (Row s options) a (λ n p. refl)
-    (spaces-back a) (spaces-zero a) (x .refused) (x .given)
+    claimed (λ (x : LarkSpaces). x .number) (λ (x : LarkSpaces). x .place) spacesRefusal spacesNumbers SpacesRefused (Row s options) (spacesIn (lineOf s) min max) a (spaces-exactly s options min max) (λ n p. refl)
+    (λ n p. refl) (spaces-back a) (spaces-zero a) (spaces-whole a) (λ n p. row-number)
 
 -- lark_list_item
 
@@ -107,12 +132,17 @@ item-zero (Item taken held) f = refl
 item-zero NotItem f = refl
 item-zero (StartRefused x) f = absurd (f (x .number) (x .place) refl)
 
-pub item-claim : (s : List ℕ) (options interrupting : ℕ) → Claim (λ (x : LarkItem). x .number) itemRefusal (ItemAs s options interrupting) (Row s options)
+item-whole : (a : Start) → 0 < itemOf a .number → itemOf a ≡ itemRefusal (itemOf a .number) (itemOf a .place)
+item-whole (Item taken held) h = absurd (omega arith)
+item-whole NotItem h = absurd (omega arith)
+item-whole (StartRefused x) h = refl
+
+pub item-claim : (s : List ℕ) (options interrupting : ℕ) →
+    Claim (λ (x : LarkItem). x .number) (λ (x : LarkItem). x .place) itemRefusal (ItemAs s options interrupting) (Row s options) (itemOf (startIn (lineOf s) options (flagged interrupting)))
 item-claim s options interrupting =
     let a = startOf s options (flagged interrupting) in
-    let x = start-exactly s options (flagged interrupting) in
-    claimed (λ (x : LarkItem). x .number) itemRefusal itemOf (λ n p. StartRefused (refusal n p)) (Row s options) a (λ n p. refl)
-    (item-back a) (item-zero a) (x .refused) (x .given)
+    claimed (λ (x : LarkItem). x .number) (λ (x : LarkItem). x .place) itemRefusal itemOf StartRefused (Row s options) (startIn (lineOf s) options (flagged interrupting)) a (start-exactly s options (flagged interrupting)) (λ n p. refl)
+    (λ n p. refl) (item-back a) (item-zero a) (item-whole a) (λ n p. row-number)
 
 -- lark_continuation
 
@@ -133,13 +163,17 @@ going-zero (Goes taken held) f = refl
 going-zero (Stops held) f = refl
 going-zero (GoingRefused x) f = absurd (f (x .number) (x .place) refl)
 
+going-whole : (a : Going) → 0 < goingNumbers a .number → goingNumbers a ≡ goingRefusal (goingNumbers a .number) (goingNumbers a .place)
+going-whole (Goes taken held) h = absurd (omega arith)
+going-whole (Stops held) h = absurd (omega arith)
+going-whole (GoingRefused x) h = refl
+
 pub going-claim : (s : List ℕ) (options size blank mark : ℕ) →
-    Claim (λ (x : LarkGoing). x .number) goingRefusal (GoingAs s options size blank mark) (Row s options)
+    Claim (λ (x : LarkGoing). x .number) (λ (x : LarkGoing). x .place) goingRefusal (GoingAs s options size blank mark) (Row s options) (goingNumbers (goingIn (lineOf s) (containerOf size blank mark)))
 going-claim s options size blank mark =
     let a = goingOf s options (containerOf size blank mark) in
-    let x = going-exactly s options (containerOf size blank mark) in
-    claimed (λ (x : LarkGoing). x .number) goingRefusal goingNumbers (λ n p. GoingRefused (refusal n p)) (Row s options) a (λ n p. refl)
-    (going-back a) (going-zero a) (x .refused) (x .given)
+    claimed (λ (x : LarkGoing). x .number) (λ (x : LarkGoing). x .place) goingRefusal goingNumbers GoingRefused (Row s options) (goingIn (lineOf s) (containerOf size blank mark)) a (going-exactly s options (containerOf size blank mark)) (λ n p. refl)
+    (λ n p. refl) (going-back a) (going-zero a) (going-whole a) (λ n p. row-number)
 
 -- the mark that goes in does not show in the answer
 same-going : (c : Checked) (line-blank flag-set enough : Bool) (size blank₁ n m₁ m₂ : ℕ) →
@@ -183,6 +217,11 @@ headed-zero (Heading events) f = refl
 headed-zero NotHeading f = refl
 headed-zero (HeadedRefused x) f = absurd (f (x .number) (x .place) refl)
 
+headed-whole : (a : Headed) → 0 < headedNumbers a .number → headedNumbers a ≡ headedRefusal (headedNumbers a .number) (headedNumbers a .place)
+headed-whole (Heading events) h = absurd (omega arith)
+headed-whole NotHeading h = absurd (omega arith)
+headed-whole (HeadedRefused x) h = refl
+
 -- the one reader that writes, with an output of the length `outs`
 pub record WritingClaim (As : List ℕ → LarkHeaded → List ℕ → Type 0) (bytes : ℕ → List ℕ) (R : ℕ → ℕ → ℕ → Type 0) : Type 0 where
   pub unique : (out : List ℕ) (r₁ r₂ : LarkHeaded) (o₁ o₂ : List ℕ) → As out r₁ o₁ → As out r₂ o₂ → (r₁ ≡ r₂) × (o₁ ≡ o₂)
@@ -190,7 +229,9 @@ pub record WritingClaim (As : List ℕ → LarkHeaded → List ℕ → Type 0) (
       (r₁ ≡ r₂) × (take (length (bytes (length out₁))) o₁ ≡ take (length (bytes (length out₁))) o₂)
   pub rest-kept : (out : List ℕ) (r : LarkHeaded) (out′ : List ℕ) → As out r out′ →
       drop (length (bytes (length out))) out′ ≡ drop (length (bytes (length out))) out
-  pub exactly : (out : List ℕ) (r : LarkHeaded) (out′ : List ℕ) → As out r out′ → Told (λ (x : LarkHeaded). x .number) headedRefusal (R (length out)) r
+  pub exactly : (out : List ℕ) (r : LarkHeaded) (out′ : List ℕ) → As out r out′ →
+      Told (λ (x : LarkHeaded). x .number) (λ (x : LarkHeaded). x .place) headedRefusal (R (length out)) r
+  pub fits : (out : List ℕ) → length (bytes (length out)) ≤ length out
   pub only-a-heading-writes : (out : List ℕ) (r : LarkHeaded) (out′ : List ℕ) → As out r out′ → r .found ≡ 0 → out′ ≡ out
 
 seam : (bs out o : List ℕ) → o ≡ onto bs out → (take (length bs) o ≡ bs) × (drop (length bs) o ≡ drop (length bs) out)
@@ -200,13 +241,18 @@ seam bs out o e = (
   ap (λ (l : List ℕ). drop (length bs) l) e ∙ drop-append-seam bs (drop (length bs) out),
 )
 
+writing-number : {s : List ℕ} {options outs n p : ℕ} → WritingRow s options outs n p → 0 < n
+writing-number (reading-row r) = row-number r
+writing-number (row-7 h g e f) = omega arith
+writing-number (row-8 h g e f) = omega arith
+
 heading-told : (s : List ℕ) (options outs : ℕ) (r : LarkHeaded) → r ≡ headedNumbers (headedOf s options outs .answer) →
-    Told (λ (x : LarkHeaded). x .number) headedRefusal (WritingRow s options outs) r
+    Told (λ (x : LarkHeaded). x .number) (λ (x : LarkHeaded). x .place) headedRefusal (WritingRow s options outs) r
 heading-told s options outs =
     let a = headedOf s options outs .answer in
-    let x = heading-exactly s options outs in
-    told (λ (x : LarkHeaded). x .number) headedRefusal headedNumbers (λ n p. HeadedRefused (refusal n p)) (WritingRow s options outs) a (λ n p. refl)
-    (headed-back a) (headed-zero a) (x .refused) (x .given)
+    told (λ (x : LarkHeaded). x .number) (λ (x : LarkHeaded). x .place) headedRefusal headedNumbers HeadedRefused (WritingRow s options outs)
+    (headingFound (lineOf s) options) a (heading-exactly s options outs) (λ n p. refl) (λ n p. refl) (headed-back a) (headed-zero a) (headed-whole a)
+    (λ n p. writing-number)
 
 -- only where a heading is found are there bytes to write
 abbrev Silent : Result → Type 0
@@ -236,6 +282,36 @@ nothing-onto : (out : List ℕ) → onto [] out ≡ out
 unfolding onto
 nothing-onto out = refl
 
+-- what is written fits
+within-choice : (z : Bool) (a b : Outcome) (outs : ℕ) → (z ≡ false → length (headed b .bytes) ≤ outs) → length (headed a .bytes) ≤ outs →
+    length (headed (choose z a b) .bytes) ≤ outs
+unfolding choose
+within-choice true a b outs f g = g
+within-choice false a b outs f g = f refl
+
+within-sized : (es : List Event) (outs : ℕ) → length (headed (sized es outs) .bytes) ≤ outs
+unfolding sized
+within-sized es outs =
+    within-choice (ltb 8000 (length es)) _ _ outs
+    (λ q. within-choice (ltb outs (4 + 8 * length es)) _ _ outs (λ k. let h = ltb-false _ _ k in rw length-section h) (omega arith))
+    (omega arith)
+
+within-line : (z : Bool) (o : Outcome) (outs : ℕ) → length (headed o .bytes) ≤ outs → length (choose z (headed o) (nothing NotHeading) .bytes) ≤ outs
+unfolding choose
+within-line true o outs h = h
+within-line false o outs h = omega arith
+
+within-reading : (c : Checked) (x : Result) (outs : ℕ) → length (x .bytes) ≤ outs → length (reading c (λ r. nothing (HeadedRefused r)) x .bytes) ≤ outs
+unfolding reading
+within-reading (Ends n) x outs h = h
+within-reading (Bad r) x outs h = omega arith
+
+within : (s : List ℕ) (options outs : ℕ) → length (headedOf s options outs .bytes) ≤ outs
+unfolding headedOf headedIn
+within s options outs =
+    within-reading (checkedLine s options) (choose (isHeading (lineOf s) options) (headed (sized (headingEvents (lineOf s)) outs)) (nothing NotHeading)) outs
+    (within-line (isHeading (lineOf s) options) (sized (headingEvents (lineOf s)) outs) outs (within-sized (headingEvents (lineOf s)) outs))
+
 pub heading-claim : (s : List ℕ) (options : ℕ) → WritingClaim (HeadedAs s options) (λ outs. headedOf s options outs .bytes) (WritingRow s options)
 heading-claim s options =
     record {
@@ -249,6 +325,7 @@ heading-claim s options =
           );
       rest-kept = λ out r out′ a. seam (headedOf s options (length out) .bytes) out out′ (a .output) .1;
       exactly = λ out r out′ a. heading-told s options (length out) r (a .answer);
+      fits = λ out. within s options (length out);
       only-a-heading-writes = λ out r out′ a z.
           let none = silent s options (length out) (sym (ap (λ (x : LarkHeaded). x .found) (a .answer)) ∙ z) in
           a .output ∙ ap (λ (bs : List ℕ). onto bs out) none ∙ nothing-onto out;

@@ -2,21 +2,25 @@
 -- For each: any two results that its promise allows are equal; what a buffer held before is in nothing that it answers or writes; each
 -- number is given exactly when the table says; no refusal writes.
 -- Assumes nothing.
-use Prim.Native.Nat.{ℕ, _<_}
+use Prim.Native.Nat.{ℕ, _+_, _*_, _<_, _≤_}
 use native.Mathlib.Omega.{arith}
 use mathlib.Core.Path.{_≡_, refl, sym, ap, _∙_}
+use mathlib.Core.Bool.{Bool, true, false}
 use mathlib.Core.List.{List, []}
 use lib.ListN.{length, take, drop, replicate}
+use lib.Dec.{leb}
+use borrow.Author.Tests.{leb-true, leb-false}
 use Rattle.record.specs.Check.{admitted, refuse}
 use Rattle.record.specs.Event.{documentOf, eventsOf}
-use Rattle.record.specs.Rows.{Least, Row, documentCount, eventCount}
-use Rattle.record.specs.Written.{WrittenRow, ExactlyWritten}
+use Rattle.record.specs.Rows.{Least, Row, row-1, row-2, row-3, row-4, row-5, documentCount, eventCount}
+use Rattle.record.specs.Written.{WrittenRow, by-check, row-6, row-7, row-8, ExactlyWritten}
 use Rattle.record.specs.Outcome.{Outcome, accepted, refused, refusing, Resolution, outcome, onto, bytesWritten}
 use Rattle.record.specs.Promise.{Writes, writes-determined, writes-same-answer, writes-same-work, writes-same-bytes, writes-keep-rest}
 use Rattle.record.specs.declared.check.Reading.{Reading}
 use Rattle.record.specs.declared.check.Reading.the-variants.{Good, Refused}
 use Rattle.record.specs.declared.event.Event.{Event}
 use Rattle.record.proofs.Exactly.{exactly}
+use Rattle.record.proofs.Sections.{length-section}
 use Rattle.attention.specs.Attention.{attention}
 use Rattle.attention.specs.Promise.{resolution as attentionOutcome, answerOf as attentionAnswer}
 use Rattle.attention.specs.Shape.{Offends as RunOffends}
@@ -42,6 +46,21 @@ readRefusal n p = record { number = n; place = p; document = 0; events = 0 }
 abbrev pub refusal : ℕ → ℕ → LarkResolved
 refusal n p = record { number = n; place = p; events = 0; groups = 0; tried = 0 }
 
+-- a row of the table has a number from 1 up
+row-number : {s : List ℕ} {options works n p : ℕ} → Row s options works n p → 0 < n
+row-number (row-1 h e f) = omega arith
+row-number (row-2 h e f) = omega arith
+row-number (row-3 h e) = omega arith
+row-number (row-4 h e) = omega arith
+row-number (row-5 h e) = omega arith
+
+pub written-number : {s : List ℕ} {options works : ℕ} {Offends : ℕ → Type 0} {made : Resolution} {outs n p : ℕ} →
+    WrittenRow s options works Offends made outs n p → 0 < n
+written-number (by-check r) = row-number r
+written-number (row-6 k h e f) = omega arith
+written-number (row-7 es h g e f) = omega arith
+written-number (row-8 es h g e f) = omega arith
+
 -- lark_read
 
 pub read-unique : {s : List ℕ} {options : ℕ} {work : List ℕ} {r₁ r₂ : LarkReading} {w₁ w₂ : List ℕ} →
@@ -61,14 +80,27 @@ read-back (Refused x) n p h q =
     let e₃ : refuse (x .number) (x .place) ≡ refuse n p = cc in
     e₃
 
+read-whole : (a : Reading) → 0 < readingOf a .number → readingOf a ≡ readRefusal (readingOf a .number) (readingOf a .place)
+read-whole (Good d e) h = absurd (omega arith)
+read-whole (Refused x) h = refl
+
 pub read-exactly : {s : List ℕ} {options : ℕ} {work : List ℕ} {r : LarkReading} {work′ : List ℕ} → ReadAs s options work r work′ →
-    Told (λ (x : LarkReading). x .number) readRefusal (Row s options (length work)) r
-read-exactly {s} {options} {work} a =
+    Told (λ (x : LarkReading). x .number) (λ (x : LarkReading). x .place) readRefusal (Row s options (length work)) r
+read-exactly {s} {options} {work} {r} a =
     record {
       given = λ n p l. a .answer ∙ ap readingOf (exactly s options (length work) .given n p l);
       only = λ n p h q. exactly s options (length work) .refused n p (read-back (admitted s options (length work)) n p h (sym (a .answer) ∙ q));
       accepted = λ none. ap (λ (x : LarkReading). x .number) (a .answer ∙ ap readingOf (exactly s options (length work) .accepted none));
+      none-holds = λ z. read-none (admitted s options (length work)) refl z;
+      nothing-more = λ h. rw (a .answer) (read-whole (admitted s options (length work)) (rw (a .answer) at h));
     }
+  where
+    read-none : (o : Reading) → admitted s options (length work) ≡ o → r .number ≡ 0 → (n p : ℕ) → Row s options (length work) n p → ⊥
+    read-none (Good d e) q z = exactly s options (length work) .good d e q .2
+    read-none (Refused x) q z =
+        let h = row-number (exactly s options (length work) .refused (x .number) (x .place) q .holds) in
+        let k : r .number ≡ x .number = ap (λ (y : LarkReading). y .number) (a .answer ∙ ap readingOf q) in
+        absurd (omega arith)
 
 -- every call that writes, once: what it comes to, and how its answer reads that
 
@@ -77,8 +109,8 @@ pub record Reads (answers : Outcome → LarkResolved) : Type 0 where
   pub of-refused : (n p : ℕ) → answers (refusing n p) ≡ refusal n p
   pub of-accepted : (es : List Event) → answers (accepted es) .number ≡ 0
 
--- the calls of two messages on two pairs of buffers, each of the same length as the other's: the same answer, the same bytes written, work memory
--- alike, and behind what is written each output as it was
+-- two calls on one record, with one option number, on two pairs of buffers of the same lengths, whatever these held: the same answer, the same
+-- bytes written, work memory alike, and behind what is written each output as it was
 pub record Isolated (bytes out₁ out₂ : List ℕ) (r₁ r₂ : LarkResolved) (o₁ o₂ w₁ w₂ : List ℕ) : Type 0 where
   pub answer : r₁ ≡ r₂
   pub first : take (length bytes) o₁ ≡ bytes
@@ -130,7 +162,7 @@ back {answers} reads (refused x) n p h q =
     e₃
 
 abbrev pub Numbered : (ℕ → ℕ → Type 0) → LarkResolved → Type 0
-Numbered R r = Told (λ (x : LarkResolved). x .number) refusal R r
+Numbered R r = Told (λ (x : LarkResolved). x .number) (λ (x : LarkResolved). x .place) refusal R r
 
 -- the rows as the resolver's own crate states them, read as numbers
 told : {comes : ℕ → ℕ → Outcome} {answers : Outcome → LarkResolved} {s : List ℕ} {options : ℕ} {Offends : ℕ → Type 0} {resolve : ℕ → ℕ → Resolution}
@@ -143,12 +175,28 @@ told {comes} {answers} {s} {options} {Offends} {resolve} {out} {work} {r} reads 
       given = λ n p l. a .answer ∙ ap answers (e ∙ x .given n p l) ∙ reads .of-refused n p;
       only = λ n p h q. x .refused n p (sym e ∙ back reads (comes (length out) (length work)) n p h (sym (a .answer) ∙ q));
       accepted = λ none. zero-number (outcome (admitted s options (length work)) resolve (length out)) e none;
+      none-holds = λ z. none-held (outcome (admitted s options (length work)) resolve (length out)) e z;
+      nothing-more = λ h. whole (comes (length out) (length work)) (a .answer) h;
     }
   where
     zero-number : (o : Outcome) → comes (length out) (length work) ≡ o →
         ((n p : ℕ) → WrittenRow s options (length work) Offends (resolve (documentCount s) (eventCount s)) (length out) n p → ⊥) → r .number ≡ 0
     zero-number (accepted es) c none = ap (λ (y : LarkResolved). y .number) (a .answer ∙ ap answers c) ∙ reads .of-accepted es
     zero-number (refused y) c none = absurd (none (y .number) (y .place) (x .refused (y .number) (y .place) (sym e ∙ c) .holds))
+
+    none-held : (o : Outcome) → comes (length out) (length work) ≡ o → r .number ≡ 0 →
+        (n p : ℕ) → WrittenRow s options (length work) Offends (resolve (documentCount s) (eventCount s)) (length out) n p → ⊥
+    none-held (accepted es) c z = x .good es (sym e ∙ c) .1
+    none-held (refused y) c z =
+        let h = written-number (x .refused (y .number) (y .place) (sym e ∙ c) .holds) in
+        let k : r .number ≡ y .number = ap (λ (v : LarkResolved). v .number) (a .answer ∙ ap answers c ∙ reads .of-refused (y .number) (y .place)) in
+        absurd (omega arith)
+
+    whole : (o : Outcome) → r ≡ answers o → 0 < r .number → r ≡ refusal (r .number) (r .place)
+    whole (accepted es) q h = let z : r .number ≡ 0 = ap (λ (v : LarkResolved). v .number) q ∙ reads .of-accepted es in absurd (omega arith)
+    whole (refused y) q h =
+        let k : r ≡ refusal (y .number) (y .place) = q ∙ reads .of-refused (y .number) (y .place) in
+        rw k refl
 
 -- the claim of a call that writes, of one record and one option number: `As` is its promise, `bytes` what it writes with an output and a work
 -- memory of these lengths, and `R` the rows of the table that it can give
@@ -160,7 +208,15 @@ pub record Claim (As : List ℕ → List ℕ → LarkResolved → List ℕ → L
       Isolated (bytes (length out₁) (length work₁)) out₁ out₂ r₁ r₂ o₁ o₂ w₁ w₂
   pub exactly : (out work : List ℕ) (r : LarkResolved) (out′ work′ : List ℕ) → As out work r out′ work′ → Numbered (R (length out) (length work)) r
   pub refusal-writes-nothing : (out work : List ℕ) (r : LarkResolved) (out′ work′ : List ℕ) → As out work r out′ work′ → 0 < r .number → out′ ≡ out
+  pub fits : (out work : List ℕ) → length (bytes (length out) (length work)) ≤ length out
   pub wiped : (out work : List ℕ) (r : LarkResolved) (out′ work′ : List ℕ) → As out work r out′ work′ → work′ ≡ replicate (length work) 0
+
+at-most : (a b : ℕ) → (b < a → ⊥) → a ≤ b
+at-most a b f = go (leb a b) refl
+  where
+    go : (z : Bool) → leb a b ≡ z → a ≤ b
+    go true q = leb-true _ _ q
+    go false q = absurd (f (leb-false _ _ q))
 
 -- which holds of each, by its promise alone
 claimed : (comes : ℕ → ℕ → Outcome) (answers : Outcome → LarkResolved) (s : List ℕ) (options : ℕ) (Offends : ℕ → Type 0) (resolve : ℕ → ℕ → Resolution) →
@@ -174,8 +230,16 @@ claimed comes answers s options Offends resolve reads e x =
       isolated = λ out₁ out₂ work₁ work₂ r₁ r₂ o₁ o₂ w₁ w₂ eo ew p q. writes-isolated eo ew p q;
       exactly = λ out work r out′ work′ a. told reads (e (length out) (length work)) (x (length out) (length work)) a;
       refusal-writes-nothing = λ out work r out′ work′ a h. no-refusal-writes reads a h;
+      fits = λ out work. room (length out) (length work) (comes (length out) (length work)) refl;
       wiped = λ out work r out′ work′ a. a .wiped;
     }
+  where
+    -- where the section did not fit, row 8 would hold
+    room : (outs works : ℕ) (o : Outcome) → comes outs works ≡ o → length (bytesWritten (comes outs works)) ≤ outs
+    room outs works (refused y) c = rw c (omega arith)
+    room outs works (accepted es) c =
+        let g = x outs works .good es (sym (e outs works) ∙ c) in
+        rw (c, length-section es) (at-most (4 + 8 * length es) outs (λ h. g .1 8 0 (row-8 es (g .0) h refl refl)))
 
 -- lark_resolve_attention: what offends is a run
 pub attention-claim : (s : List ℕ) (options : ℕ) →

@@ -51,12 +51,14 @@ exactly {A} {R} {refuse} {found} {answer} same apart (least-row n p e l) =
           rw (a, b) at l;
       given = λ m q k. let x = least-only l k in e ∙ ap (λ (y : ℕ). refuse (refusal y p)) (x .0) ∙ ap (λ (y : ℕ). refuse (refusal m y)) (x .1);
       finds = λ f. absurd (f n p (l .holds));
+      none = λ h. absurd (h n p e);
     }
 exactly {A} {R} {refuse} {found} {answer} same apart (no-row e f) =
     record {
       refused = λ m q k. absurd (apart (refusal m q) (sym e ∙ k));
       given = λ m q k. absurd (f m q (k .holds));
       finds = λ g. e;
+      none = λ h. f;
     }
 
 module _ (s : List ℕ) (options : ℕ) where

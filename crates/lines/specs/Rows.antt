@@ -27,11 +27,12 @@ pub data WritingRow (s : List ℕ) (options outs n p : ℕ) : Type 0 where
   row-8 : isHeading (lineOf s) options ≡ true → outs < 4 + 8 * length (headingEvents (lineOf s)) → n ≡ 8 → p ≡ 0 → WritingRow s options outs n p
 
 -- "Given exactly when": an answer is the refusal n at p just where (n, p) is the least row that holds, and where none does it is what is
--- found. Proved in proofs/ExactlyRead.antt, of each reader, for every line and all arguments
+-- found; where it is no refusal none does. Proved in proofs/ExactlyRead.antt, of each reader, for every line and all arguments
 pub record Exactly {A : Type 0} (R : ℕ → ℕ → Type 0) (refuse : Refusal → A) (found answer : A) : Type 0 where
   pub refused : (n p : ℕ) → answer ≡ refuse (refusal n p) → Least R n p
   pub given : (n p : ℕ) → Least R n p → answer ≡ refuse (refusal n p)
   pub finds : ((n p : ℕ) → R n p → ⊥) → answer ≡ found
+  pub none : ((n p : ℕ) → answer ≡ refuse (refusal n p) → ⊥) → (n p : ℕ) → R n p → ⊥
 
 -- what the heading reader finds where no row holds
 abbrev pub headingFound : List ℕ → ℕ → Headed
