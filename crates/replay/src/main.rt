@@ -1,8 +1,9 @@
 // Makes our calls on a stored list of the crate's own answers, and says whether they agree.
 //
-// The list is the file `answers`, in the form that `entry` describes. It is read entry by entry, so that its length does not matter. The
-// first difference is said in full and the others are counted. A list that is missing, empty, cut or otherwise ill-formed is said to be so,
-// and then nothing is said to agree.
+// The list is the file `answers`, in the form that `entry` describes; `oracle/run --store` writes it, and asks the crate alone. It is read
+// entry by entry, so that its length does not matter. The first difference is said in full and the others are counted. A list that is
+// missing, empty, cut or otherwise ill-formed is said to be so, and then nothing is said to agree. A program has no exit status here: what it
+// writes is its result, and is held to the file `stdout`.
 
 mod entry; // one entry of the list: a question, and what the crate answers
 mod ask; // our answer, in the numbers of the list

@@ -29,26 +29,14 @@ fn say_with(text: &[u8], n: usize) {
 }
 
 fn say_call(call: usize) {
-    if call == ATTENTION {
-        say(b"attention");
-    }
-    if call == HEADINGS {
-        say(b"headings");
-    }
-    if call == LISTS {
-        say(b"lists");
-    }
-    if call == SPACE_OR_TAB {
-        say(b"space_or_tab");
-    }
-    if call == LIST_ITEM {
-        say(b"list_item");
-    }
-    if call == CONTINUATION {
-        say(b"continuation");
-    }
-    if call == HEADING {
-        say(b"heading");
+    match call {
+        ATTENTION => say(b"attention"),
+        HEADINGS => say(b"headings"),
+        LISTS => say(b"lists"),
+        SPACE_OR_TAB => say(b"space_or_tab"),
+        LIST_ITEM => say(b"list_item"),
+        CONTINUATION => say(b"continuation"),
+        _ => say(b"heading"),
     }
 }
 
