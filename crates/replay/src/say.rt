@@ -1,0 +1,137 @@
+// What is written to standard output. Entries are counted from 1, places in a section or buffer from 0.
+
+use crate::compare::Verdict;
+use crate::entry::ATTENTION;
+use crate::entry::CALLS;
+use crate::entry::CONTINUATION;
+use crate::entry::HEADING;
+use crate::entry::HEADINGS;
+use crate::entry::LIST_ITEM;
+use crate::entry::LISTS;
+use crate::entry::Numbers;
+use crate::entry::Question;
+use crate::entry::SPACE_OR_TAB;
+use crate::tally::Tally;
+use libc::STDOUT_FILENO;
+
+pub fn say(text: &[u8]) {
+    io::write_all(STDOUT_FILENO, text);
+}
+
+fn say_number(n: usize) {
+    io::print_decimal(STDOUT_FILENO, n as u64);
+}
+
+// Words and a number.
+fn say_with(text: &[u8], n: usize) {
+    say(text);
+    say_number(n);
+}
+
+fn say_call(call: usize) {
+    match call {
+        ATTENTION => say(b"attention"),
+        HEADINGS => say(b"headings"),
+        LISTS => say(b"lists"),
+        SPACE_OR_TAB => say(b"space_or_tab"),
+        LIST_ITEM => say(b"list_item"),
+        CONTINUATION => say(b"continuation"),
+        _ => say(b"heading"),
+    }
+}
+
+fn say_question(number: usize, question: Question) {
+    say_with(b"entry ", number);
+    say(b", ");
+    say_call(question.call);
+    say_with(b": options ", question.options as usize);
+    say_with(b", arguments ", question.a);
+    say_with(b" ", question.b);
+    say_with(b" ", question.c);
+    say_with(b", input of ", question.length);
+    say(b" bytes\n");
+}
+
+fn say_numbers(numbers: Numbers) {
+    say_number(numbers.first);
+    say_with(b" ", numbers.second);
+    say_with(b" ", numbers.third);
+    say_with(b" ", numbers.fourth);
+    say_with(b" ", numbers.fifth);
+    say_with(b", section of ", numbers.section);
+    say(b" bytes\n");
+}
+
+fn say_verdict(verdict: Verdict) {
+    match verdict {
+        Verdict::Agrees => say(b"the same\n"),
+        Verdict::Refused(refusal) => {
+            say_with(b"refused ", refusal.number);
+            say_with(b" at ", refusal.place);
+            say(b"\n");
+        }
+        Verdict::Numbers(ours) => say_numbers(ours),
+        Verdict::Byte { at, crates, ours } => {
+            say_with(b"the same numbers, but at ", at);
+            say_with(b" of the section ", ours as usize);
+            say_with(b" where the crate has ", crates as usize);
+            say(b"\n");
+        }
+        Verdict::Behind(at) => {
+            say_with(b"the output is changed behind the section, at ", at);
+            say(b"\n");
+        }
+        Verdict::Work(at) => {
+            say_with(b"the work memory is not zero, at ", at);
+            say(b"\n");
+        }
+    }
+}
+
+// An entry on which we differ.
+pub fn say_difference(number: usize, question: Question, told: Numbers, verdict: Verdict) {
+    say(b"the first difference: ");
+    say_question(number, question);
+    say(b"  the crate: ");
+    say_numbers(told);
+    say(b"  ours: ");
+    say_verdict(verdict);
+}
+
+// A list that is none, and how many entries stand before the place where that shows.
+pub fn say_ill(before: usize) {
+    say_with(b"the list of answers is ill-formed, behind ", before);
+    say(b" entries\n");
+}
+
+fn say_count(tally: Tally, call: usize) {
+    if call < CALLS {
+        say(b"  ");
+        say_call(call);
+        say_with(b" ", tally.of[call]);
+        say(b"\n");
+    }
+}
+
+// The whole list has been read.
+pub fn say_result(tally: Tally, entries: usize) {
+    if entries == 0 {
+        say(b"the list of answers is empty\n");
+        return;
+    }
+    say_number(entries);
+    say(b" answers of the crate: ");
+    if tally.differ == 0 {
+        say(b"all agree\n");
+    } else {
+        say_number(tally.differ);
+        say(b" DIFFER\n");
+    }
+    say_count(tally, ATTENTION);
+    say_count(tally, HEADINGS);
+    say_count(tally, LISTS);
+    say_count(tally, SPACE_OR_TAB);
+    say_count(tally, LIST_ITEM);
+    say_count(tally, CONTINUATION);
+    say_count(tally, HEADING);
+}
