@@ -6,27 +6,39 @@
 -- The plain rule (`plain`, `closerFrom`) stands over the list of all earlier runs and knows of no chain. What is done in memory is said by three
 -- contracts: `find_groups` ensures `Answers`, `handle_closer` ensures `Handles` (both crates/matcher/src/closers.rt), and `next_match`
 -- (crates/chains/src/walk.rt), source of every group and candidate, is equal in match, count and memory to `onward`, which reads run by run onward
--- only that run's own slot and, at a closer, its chain from the head (crates/chains/specs/Walk.antt). What the first two say is drawn out here.
+-- only that run's own slot and, at a closer, its chain from the head (crates/chains/specs/Walk.antt). That these two find their groups by `next_match`
+-- and by nothing else is not in a contract: their bodies, some forty lines, show it. What the contracts say is drawn out here.
 -- Assumes nothing.
-use Prim.Native.Nat.{ℕ, _<_}
+use Prim.Native.Nat.{ℕ, _+_, _<_, _≤_}
 use native.Mathlib.Omega.{arith}
 use mathlib.Core.Path.{_≡_, refl, sym, ap, _∙_}
+use mathlib.Core.Bool.{true}
 use mathlib.Core.List.{List}
 use mathlib.Core.Option.{Option, none, some}
 use lib.ListN.{length}
 use Rattle.record.specs.Event.{documentOf, eventsOf, sectionBytes}
-use Rattle.record.specs.Rows.{documentCount, eventCount, Row, row-1, row-2, row-3, row-4, row-5}
-use Rattle.record.specs.Written.{WrittenRow, by-check, row-6, row-7, row-8}
-use Rattle.record.specs.Outcome.{Outcome, accepted, refused, Resolution, gives, onto, bytesWritten}
+use Rattle.record.specs.Rows.{documentCount, eventCount}
+use Rattle.record.specs.Check.{admitted}
+use Rattle.record.specs.Sound.{sound}
+use Rattle.record.specs.declared.check.Reading.{Reading}
+use Rattle.record.specs.declared.check.Reading.the-variants.{Good, Refused}
+use Rattle.record.proofs.Exactly.{exactly}
+use Rattle.record.proofs.Good.{admission}
+use Rattle.record.proofs.Parts.{length-document}
+use Rattle.record.specs.Outcome.{Outcome, accepted, refused, Resolution, gives, outcome as outcomeOf, onto, bytesWritten}
 use Rattle.record.specs.declared.event.Event.{Event}
-use Rattle.runs.specs.Runs.{offender}
-use Rattle.runs.specs.Plain.{Standing, Group, plain}
+use Rattle.runs.specs.Runs.{runsOf, offender}
+use Rattle.runs.specs.Plain.{Standing, Group, forth, plain}
+use Rattle.runs.specs.declared.Next.the-variants.{Done}
 use Rattle.runs.specs.Rule.{Rule, crate}
 use Rattle.runs.specs.Pieces.{outcome}
 use Rattle.runs.specs.Output.{output}
-use Rattle.groups.specs.Theorems.{groupsOf, GroupsNeverCross, ContainersNeverCrossed, ContainerIsOne}
+use Rattle.groups.specs.Theorems.{groupsOf}
+use Rattle.groups.specs.Spans.{Held, NeverCross}
+use Rattle.groups.specs.Containers.{NeverCrosses, OneContainer}
 use Rattle.groups.proofs.Theorems as groups
-use Rattle.output.specs.Theorems.{EachDivided, EachMarkerOnce, OnlyMarkers}
+use Rattle.output.specs.Accepted.{Accepted}
+use Rattle.output.specs.Tiling.{allPieces, holding, Marker}
 use Rattle.output.proofs.MarkerBytes as pieces
 use Rattle.attention.specs.Attention.{unlessOffended, attention}
 use Rattle.attention.specs.Promise.{resolution, answerOf}
@@ -38,32 +50,51 @@ use Rattle.matcher.specs.Closer.{closerFrom}
 use Rattle.matcher.specs.Chains.{Listed}
 use Rattle.matcher.specs.Groups.{Grouped}
 use Rattle.matcher.specs.State.{Fresh, Ready}
+use Rattle.matcher.proofs.Chained.{onward-went}
+use Rattle.chains.specs.Walk.{onward}
+use Rattle.claims.specs.Records.{written-number}
 use Rattle.matcher.specs.declared.closers.Step.the-variants.{Closed}
 use Rattle.matcher.specs.declared.closers.Found.the-variants.{Groups}
-
--- a row of the table has a number from 1 up
-row-number : {s : List ℕ} {options works n p : ℕ} → Row s options works n p → 0 < n
-row-number (row-1 h e f) = omega arith
-row-number (row-2 h e f) = omega arith
-row-number (row-3 h e) = omega arith
-row-number (row-4 h e) = omega arith
-row-number (row-5 h e) = omega arith
-
-written-number : {s : List ℕ} {options works : ℕ} {Offends : ℕ → Type 0} {made : Resolution} {outs n p : ℕ} → WrittenRow s options works Offends made outs n p → 0 < n
-written-number (by-check r) = row-number r
-written-number (row-6 k h e f) = omega arith
-written-number (row-7 es h g e f) = omega arith
-written-number (row-8 es h g e f) = omega arith
 
 the-output : (o : Option ℕ) (all es : List Event) → unlessOffended o all ≡ gives es → es ≡ all
 the-output none all es q = cc
 the-output (some j) all es q = let z : _≡_ {A = ℕ} 0 1 = cc in absurd (omega arith)
 
--- the call: with number 0 it reports the groups and the candidates tried of the plain rule, and writes the events that the plain rule's groups make
+none-offended : (o : Option ℕ) (all es : List Event) → unlessOffended o all ≡ gives es → o ≡ none
+none-offended none all es q = refl
+none-offended (some j) all es q = let z : _≡_ {A = ℕ} 0 1 = cc in absurd (omega arith)
+
+-- a record, its document and its events, and the groups that the plain rule makes of them
+abbrev pub docOf : List ℕ → List ℕ
+docOf s = documentOf s (documentCount s)
+
+abbrev pub allEvents : List ℕ → List Event
+allEvents s = eventsOf s (documentCount s) (eventCount s)
+
+abbrev pub plainGroups : List ℕ → ℕ → List Group
+plainGroups s options = groupsOf crate options (docOf s) (allEvents s)
+
+-- the call: with number 0 it reports how many groups the plain rule makes and how many candidates that rule counts, and writes the events that these
+-- groups make; and the record is one that the theorems on groups speak of
 pub record AsThePlainRule (s : List ℕ) (options : ℕ) (out : List ℕ) (r : LarkResolved) (out′ : List ℕ) : Type 0 where
-  pub groups : r .groups ≡ length (groupsOf crate options (documentOf s (documentCount s)) (eventsOf s (documentCount s) (eventCount s)))
-  pub tried : r .tried ≡ outcome crate options (documentOf s (documentCount s)) (eventsOf s (documentCount s) (eventCount s)) .tried
-  pub written : out′ ≡ onto (sectionBytes (output crate options (documentOf s (documentCount s)) (eventsOf s (documentCount s) (eventCount s)))) out
+  pub record-good : Accepted 64 options (docOf s) (allEvents s)
+  pub groups : r .groups ≡ length (plainGroups s options)
+  pub tried : r .tried ≡ outcome crate options (docOf s) (allEvents s) .tried
+  pub events : r .events ≡ length (output crate options (docOf s) (allEvents s))
+  pub written : out′ ≡ onto (sectionBytes (output crate options (docOf s) (allEvents s))) out
+
+good-record : (s : List ℕ) (options works : ℕ) (o : Reading) (resolve : ℕ → ℕ → Resolution) (outs : ℕ) (es : List Event) →
+    admitted s options works ≡ o → outcomeOf o resolve outs ≡ accepted es → sound 64 (length (docOf s)) (allEvents s) ≡ true
+good-record s options works (Refused x) resolve outs es q e = let z : _≡_ {A = ℕ} 0 1 = cc in absurd (omega arith)
+good-record s options works (Good d k) resolve outs es q e =
+    let g = exactly s options works .good d k q in
+    let t = admission s options works d k q .good in
+    let long = t .whole in
+    let same : d ≡ documentCount s = g .0 in
+    let same′ : k ≡ eventCount s = g .1 in
+    let l : length (documentOf s d) ≡ d = length-document s d (omega arith) in
+    let h : sound 64 (length (documentOf s d)) (eventsOf s d k) ≡ true = rw l (t .sound-events) in
+    rw (same, same′) at h
 
 pub accepted-as-the-plain-rule : (s : List ℕ) (options : ℕ) (out work : List ℕ) (r : LarkResolved) (out′ work′ : List ℕ) →
     AttentionAs s options out work r out′ work′ → r .number ≡ 0 → AsThePlainRule s options out r out′
@@ -73,18 +104,51 @@ accepted-as-the-plain-rule s options out work r out′ work′ a z = go (resolut
     go : (o : Outcome) → resolution s options (length out) (length work) ≡ o → AsThePlainRule s options out r out′
     go (accepted es) e =
         let x = exactly-resolved s options (length work) (length out) .good es e in
-        let same = the-output (offender (documentOf s (documentCount s)) options (eventsOf s (documentCount s) (eventCount s)))
-        (output crate options (documentOf s (documentCount s)) (eventsOf s (documentCount s) (eventCount s))) es (x .0) in
+        let same = the-output (offender (docOf s) options (allEvents s)) (output crate options (docOf s) (allEvents s)) es (x .0) in
         let q = a .answer ∙ ap (λ (o : Outcome). attentionOf (answerOf s options o)) e in
         record {
+          record-good =
+              record {
+                events =
+                    good-record s options (length work) (admitted s options (length work)) (λ d k. attention options (documentOf s d) (eventsOf s d k))
+                    (length out) es refl e;
+                shapes = none-offended (offender (docOf s) options (allEvents s)) (output crate options (docOf s) (allEvents s)) es (x .0);
+              };
           groups = ap (λ (y : LarkResolved). y .groups) q;
           tried = ap (λ (y : LarkResolved). y .tried) q;
+          events = ap (λ (y : LarkResolved). y .events) q ∙ ap (λ (l : List Event). length l) same;
           written = a .output ∙ ap (λ (o : Outcome). onto (bytesWritten o) out) e ∙ ap (λ (l : List Event). onto (sectionBytes l) out) same;
         }
     go (refused y) e =
         let q : r .number ≡ y .number = ap (λ (y : LarkResolved). y .number) (a .answer ∙ ap (λ (o : Outcome). attentionOf (answerOf s options o)) e) in
         let h = written-number (exactly-resolved s options (length work) (length out) .refused (y .number) (y .place) e .holds) in
         absurd (omega arith)
+
+-- of an accepted record: no two groups cross; no group crosses a container, that is any pair of the record that is no run, and both its runs stand in
+-- one; each group is where its pieces are; and each marker byte of a run lies in exactly one piece of a group or one leftover, which hold no
+-- other byte
+pub record Nests (s : List ℕ) (options : ℕ) : Type 0 where
+  pub groups-never-cross : NeverCross (runsOf (docOf s) (allEvents s)) (plainGroups s options)
+  pub containers-never-crossed : NeverCrosses (allEvents s) (runsOf (docOf s) (allEvents s)) (plainGroups s options)
+  pub container-is-one : OneContainer (runsOf (docOf s) (allEvents s)) (plainGroups s options)
+  pub each-held : (i : ℕ) → i < length (plainGroups s options) → Held (runsOf (docOf s) (allEvents s)) (plainGroups s options) i
+  pub each-marker-once : (at : ℕ) → Marker at (runsOf (docOf s) (allEvents s)) →
+      holding at (allPieces (plainGroups s options) 0 (runsOf (docOf s) (allEvents s))) ≡ 1
+  pub only-markers : (at : ℕ) → 0 < holding at (allPieces (plainGroups s options) 0 (runsOf (docOf s) (allEvents s))) →
+      Marker at (runsOf (docOf s) (allEvents s))
+
+pub accepted-nests : (s : List ℕ) (options : ℕ) (out work : List ℕ) (r : LarkResolved) (out′ work′ : List ℕ) →
+    AttentionAs s options out work r out′ work′ → r .number ≡ 0 → Nests s options
+accepted-nests s options out work r out′ work′ a z =
+    let good = accepted-as-the-plain-rule s options out work r out′ work′ a z .record-good in
+    record {
+      groups-never-cross = groups.groups-never-cross crate options (docOf s) (allEvents s) 64 (length (docOf s)) (good .events);
+      containers-never-crossed = groups.containers-never-crossed crate options (docOf s) (allEvents s) 64 (length (docOf s)) (good .events);
+      container-is-one = groups.container-is-one crate options (docOf s) (allEvents s);
+      each-held = groups.each-held crate options (docOf s) (allEvents s) 64 (length (docOf s)) (good .events);
+      each-marker-once = pieces.each-marker-once crate options (docOf s) (allEvents s) 64 good;
+      only-markers = pieces.only-markers crate options (docOf s) (allEvents s);
+    }
 
 -- the same groups in the same order, and exactly the candidates tried: whatever runs the memory held before the first match, after it the memory
 -- holds the plain rule's groups of them in match order
@@ -93,29 +157,25 @@ pub groups-are-the-plain-rule's : (rule : Rule) (w : List ℕ) (n made tried : �
     (made ≡ length (plain rule rs .groups)) × (tried ≡ plain rule rs .tried) × Grouped w′ (plain rule rs .groups) n
 groups-are-the-plain-rule's rule w n made tried w′ a rs f = let x = a .of rs f in (x .made, x .count, x .grouped)
 
--- after each closer the chains hold exactly the runs up to it that can still open, as the plain rule has them on finishing that closer
-pub chains-after-each-closer : (rule : Rule) (w : List ℕ) (height n from groups tried next height′ groups′ tried′ : ℕ) (w′ : List ℕ) →
+-- after each closer the chains hold exactly the runs up to it that can still open, as the plain rule has them on finishing that closer. A closer
+-- that takes an opener is a step of its own: this is what the step promises
+pub chains-after-a-match : (rule : Rule) (w : List ℕ) (height n from groups tried next height′ groups′ tried′ : ℕ) (w′ : List ℕ) →
     Handles rule w height n from groups tried (Closed next height′ groups′ tried′) w′ → (rs : List Standing) (gs : List Group) →
     Ready w height rs gs n from → length gs ≡ groups →
     (next ≡ closerFrom rule rs from gs tried .next) × Listed w′ height′ (closerFrom rule rs from gs tried .runs) (closerFrom rule rs from gs tried .next)
-chains-after-each-closer rule w height n from groups tried next height′ groups′ tried′ w′ h rs gs r e = let x = h .of rs gs r e in (x .at, x .ready .listed)
+chains-after-a-match rule w height n from groups tried next height′ groups′ tried′ w′ h rs gs r e = let x = h .of rs gs r e in (x .at, x .ready .listed)
 
--- no two groups cross, no group crosses a container, and both its runs stand in the same one
-pub groups-never-cross : GroupsNeverCross
-groups-never-cross = groups.groups-never-cross
+-- and a closer that takes none is passed: `onward`, which `next_match` is equal to, has after any number of passed runs chains that list exactly
+-- the runs up to the last of them
+pub chains-after-passing : (rule : Rule) (w : List ℕ) (height : ℕ) (rs : List Standing) (gs : List Group) (n from passed t u : ℕ) (w′ : List ℕ) (height′ : ℕ) →
+    Ready w height rs gs n from → from + passed ≤ n → onward passed rule w height from t ≡ (Done u, (w′, height′)) →
+    Listed w′ height′ rs (from + passed)
+chains-after-passing rule w height rs gs n from passed t u w′ height′ r h e =
+    let went = onward-went passed rule w height rs gs n from t r h in
+    let at-end : Ready w′ height′ rs gs n (from + passed) = rw e at (went .ready) in
+    at-end .listed
 
-pub containers-never-crossed : ContainersNeverCrossed
-containers-never-crossed = groups.containers-never-crossed
-
-pub container-is-one : ContainerIsOne
-container-is-one = groups.container-is-one
-
--- each marker byte of a run lies in exactly one piece of a group or one leftover; these divide the run, and hold no other byte
-pub each-divided : EachDivided
-each-divided = pieces.each-divided
-
-pub each-marker-once : EachMarkerOnce
-each-marker-once = pieces.each-marker-once
-
-pub only-markers : OnlyMarkers
-only-markers = pieces.only-markers
+-- where chains and runs agree, what `onward` finds along the chains, and how many it tries, is what the plain rule finds among all earlier runs
+pub chains-find-the-same : (rule : Rule) (w : List ℕ) (height : ℕ) (rs : List Standing) (gs : List Group) (n from m t : ℕ) →
+    Ready w height rs gs n from → from + m ≤ n → onward m rule w height from t .0 ≡ forth rule m rs from t
+chains-find-the-same rule w height rs gs n from m t r h = onward-went m rule w height rs gs n from t r h .next
