@@ -1,1 +1,2 @@
 mod Numbered
+mod Passed

@@ -1,0 +1,27 @@
+-- A promise passed on: what the call below promises, and the numbers of its answer, are the exported call's promise.
+-- Assumes nothing.
+use Prim.Native.Nat.{ℕ}
+use mathlib.Core.Path.{_≡_, ap, _∙_}
+use mathlib.Core.List.{List}
+use Rattle.record.specs.Outcome.{Outcome}
+use Rattle.record.specs.Promise.{Read, Writes}
+use Rattle.record.specs.declared.check.Reading.{Reading}
+use Rattle.lines.specs.Promise.{HeadedBy}
+use Rattle.lines.specs.declared.heading.Headed.{Headed}
+use Rattle.ledgerlark.specs.Answers.{readingOf, headedOf, ReadAs, HeadedAs}
+use Rattle.ledgerlark.specs.declared.resolve.LarkReading.{LarkReading}
+use Rattle.ledgerlark.specs.declared.resolve.LarkResolved.{LarkResolved}
+use Rattle.ledgerlark.specs.declared.line.LarkHeaded.{LarkHeaded}
+
+pub read-on : (s : List ℕ) (options : ℕ) (work : List ℕ) (a : Reading) (r : LarkReading) (work′ : List ℕ) →
+    Read s options work a work′ → r ≡ readingOf a → ReadAs s options work r work′
+read-on s options work a r work′ p e = record { answer = e ∙ ap readingOf (p .answer); wiped = p .wiped }
+
+pub written-on : {A : Type 0} (comes : ℕ → ℕ → Outcome) (answers : Outcome → A) (numbers : A → LarkResolved) (out work : List ℕ) (a : A) (r : LarkResolved)
+    (out′ work′ : List ℕ) → Writes comes answers out work a out′ work′ → r ≡ numbers a →
+    Writes comes (λ (o : Outcome). numbers (answers o)) out work r out′ work′
+written-on comes answers numbers out work a r out′ work′ p e = record { answer = e ∙ ap numbers (p .answer); output = p .output; wiped = p .wiped }
+
+pub headed-on : (s : List ℕ) (options : ℕ) (out : List ℕ) (a : Headed) (r : LarkHeaded) (out′ : List ℕ) →
+    HeadedBy s options out a out′ → r ≡ headedOf a → HeadedAs s options out r out′
+headed-on s options out a r out′ p e = record { answer = e ∙ ap headedOf (p .answer); output = p .output }
