@@ -2,13 +2,16 @@
 -- Assumes nothing.
 use Prim.Native.Nat.{ℕ}
 use mathlib.Core.Path.{_≡_, ap, _∙_}
+use mathlib.Core.Bool.{Bool}
 use mathlib.Core.List.{List}
 use Rattle.record.specs.Outcome.{Outcome}
 use Rattle.record.specs.Promise.{Read, Writes}
 use Rattle.record.specs.declared.check.Reading.{Reading}
 use Rattle.lines.specs.Promise.{HeadedBy}
+use Rattle.lines.specs.Going.{goingOf as goingIn}
+use Rattle.lines.specs.declared.container.Kind.{Kind}
 use Rattle.lines.specs.declared.heading.Headed.{Headed}
-use Rattle.ledgerlark.specs.Answers.{readingOf, headedOf, ReadAs, HeadedAs}
+use Rattle.ledgerlark.specs.Answers.{readingOf, headedOf, kindOf, ReadAs, HeadedAs}
 use Rattle.ledgerlark.specs.declared.resolve.LarkReading.{LarkReading}
 use Rattle.ledgerlark.specs.declared.resolve.LarkResolved.{LarkResolved}
 use Rattle.ledgerlark.specs.declared.line.LarkHeaded.{LarkHeaded}
@@ -25,3 +28,8 @@ written-on comes answers numbers out work a r out′ work′ p e = record { answ
 pub headed-on : (s : List ℕ) (options : ℕ) (out : List ℕ) (a : Headed) (r : LarkHeaded) (out′ : List ℕ) →
     HeadedBy s options out a out′ → r ≡ headedOf a → HeadedAs s options out r out′
 headed-on s options out a r out′ p e = record { answer = e ∙ ap headedOf (p .answer); output = p .output }
+
+-- the container that is passed on has the kind that its mark stands for
+pub held-kind : (s : List ℕ) (options size : ℕ) (blank : Bool) (kind : Kind) (mark : ℕ) → kind ≡ kindOf mark →
+    goingIn s options (record { kind = kind; size = size; blank = blank }) ≡ goingIn s options (record { kind = kindOf mark; size = size; blank = blank })
+held-kind s options size blank kind mark e = ap (λ (k : Kind). goingIn s options (record { kind = k; size = size; blank = blank })) e

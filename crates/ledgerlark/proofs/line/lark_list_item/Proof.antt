@@ -1,5 +1,8 @@
 -- `ledgerlark::line::lark_list_item` meets its contract: the promise of the call below, in numbers.
 -- Assumes nothing.
+use mathlib.Core.Path.{ap, _∙_}
+use Rattle.lines.specs.declared.item.Start.{Start}
+use Rattle.ledgerlark.specs.Answers.{itemOf}
 use borrow.Author.Needs.{needs}
 use Rattle.ledgerlark.proofs.line.lark_list_item.Statement.{statement}
 use Rattle.ledgerlark.proofs.line.lark_list_item.Tie as tie
@@ -15,7 +18,7 @@ item-of-requires : tie.Need-item-of-requires
 item-of-requires c κs = search needs
 
 returns : tie.Need-returns
-returns c = cc
+returns c = c .item-of .ensures ∙ ap (λ (x : Start). itemOf x) (c .before .list-item .ensures)
 
 pub lark-list-item-spec : {M : Type 1} → statement M
 lark-list-item-spec = tie.close (tie.spec list-item-requires item-of-requires returns)
