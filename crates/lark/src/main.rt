@@ -27,7 +27,7 @@ use say::blame;
 use say::done;
 use words::same;
 
-// What the descriptor is that a status is written to, where it is asked for.
+// The descriptor that a status is written to, where that is asked for.
 const STATUS_FILENO: i32 = 3;
 
 // The commands on a record.
@@ -50,6 +50,16 @@ fn run_on_record(command: &[u8], next: usize) -> u8 {
     blame(b"no such command", next - 1)
 }
 
+fn asks_for_help(command: &[u8]) -> bool {
+    if same(command, b"help") {
+        return true;
+    }
+    if same(command, b"--help") {
+        return true;
+    }
+    same(command, b"-h")
+}
+
 // The commands on a text, and help; `next` is the number of the argument behind the command.
 fn run(command: &[u8], next: usize) -> u8 {
     if same(command, b"show") {
@@ -61,7 +71,7 @@ fn run(command: &[u8], next: usize) -> u8 {
     if same(command, b"record") {
         return show::write_record(arguments(next, TEXT));
     }
-    if same(command, b"help") {
+    if asks_for_help(command) {
         return done(help::say_help(libc::STDOUT_FILENO));
     }
     run_on_record(command, next)
