@@ -1,0 +1,213 @@
+// The arguments behind a command: options, and at most one operand, which is a text or the name of a file.
+//
+// A text may begin with a dash, as the line of a list item does. So where the operand is a text, only the options that the command has are
+// options; where it is a file, any other word with a dash is wrong.
+
+use crate::say::blame;
+use crate::say::wrong;
+
+// What a command takes: a text, a text that is a line, a file.
+pub const TEXT: u8 = 0;
+
+pub const LINE: u8 = 1;
+
+pub const FILE: u8 = 2;
+
+// What is wrong with the arguments.
+const NO_NUMBER: u8 = 1;
+
+const UNKNOWN: u8 = 2;
+
+const ONE_TOO_MANY: u8 = 3;
+
+// The options without -o: all but the single tilde.
+const USUAL: u32 = 59;
+
+// What is asked for. The operand is given by its number among the arguments, or is 0 where there is none. `awaits` says that the next word is
+// the number of -o, `ended` that -- was there. Where something is wrong, `culprit` is the number of that argument.
+pub struct Asked {
+    pub options: u32,
+    pub as_text: bool,
+    pub interrupting: bool,
+    pub operand: usize,
+    pub awaits: bool,
+    pub ended: bool,
+    pub wrong: u8,
+    pub culprit: usize,
+}
+
+// A word that is to be a number.
+enum Number {
+    Is(u32),
+    Not,
+}
+
+// The number that a word of digits spells. One of more than six digits is cut off there: all over 63 are refused alike.
+fn spelled(word: &[u8]) -> Number {
+    if word.len() == 0 {
+        return Number::Not;
+    }
+    let mut value: u32 = 0;
+    let mut i = 0;
+    while i < word.len() {
+        let byte = word[i];
+        if byte < b'0' {
+            return Number::Not;
+        }
+        if byte > b'9' {
+            return Number::Not;
+        }
+        value = with_digit(value, byte - b'0');
+        i += 1;
+    }
+    Number::Is(value)
+}
+
+fn with_digit(value: u32, digit: u8) -> u32 {
+    if value > 99999 {
+        return value;
+    }
+    value * 10 + digit as u32
+}
+
+// Argument i as the number of -o.
+fn take_number(asked: Asked, i: usize) -> Asked {
+    let mut asked = asked;
+    let mut word = [0u8; 32];
+    let n = os::arg(i, &mut word);
+    match spelled(&word[..n]) {
+        Number::Is(value) => {
+            asked.options = value;
+            asked.awaits = false;
+        }
+        Number::Not => {
+            asked.wrong = NO_NUMBER;
+            asked.culprit = i;
+        }
+    }
+    asked
+}
+
+// Argument i as the operand.
+fn take_operand(asked: Asked, i: usize) -> Asked {
+    let mut asked = asked;
+    if asked.operand == 0 {
+        asked.operand = i;
+    } else {
+        asked.wrong = ONE_TOO_MANY;
+        asked.culprit = i;
+    }
+    asked
+}
+
+// The letter of an option, or 0.
+fn letter(word: &[u8]) -> u8 {
+    if word.len() != 2 {
+        return 0;
+    }
+    if word[0] != b'-' {
+        return 0;
+    }
+    word[1]
+}
+
+// Whether an option is none that the command has: a dash and more. Of a longer word `first` is all that is known.
+fn is_unknown(first: u8, n: usize, takes: u8) -> bool {
+    if takes != FILE {
+        return false;
+    }
+    if first != b'-' {
+        return false;
+    }
+    n != 1
+}
+
+// Argument i where no number is awaited and -- was not there.
+fn take_word(asked: Asked, i: usize, takes: u8) -> Asked {
+    let mut asked = asked;
+    let mut word = [0u8; 3];
+    let n = os::arg(i, &mut word);
+    let option = letter(&word[..n]);
+    if option == b'o' {
+        asked.awaits = true;
+        return asked;
+    }
+    if option == b'-' {
+        asked.ended = true;
+        return asked;
+    }
+    if option == b't' {
+        if takes == FILE {
+            asked.as_text = true;
+            return asked;
+        }
+    }
+    if option == b'i' {
+        if takes == LINE {
+            asked.interrupting = true;
+            return asked;
+        }
+    }
+    if is_unknown(word[0], n, takes) {
+        asked.wrong = UNKNOWN;
+        asked.culprit = i;
+        return asked;
+    }
+    take_operand(asked, i)
+}
+
+// Argument i. What is wrong first is what is said.
+fn take(asked: Asked, i: usize, takes: u8) -> Asked {
+    if asked.wrong != 0 {
+        return asked;
+    }
+    if asked.awaits {
+        return take_number(asked, i);
+    }
+    if asked.ended {
+        return take_operand(asked, i);
+    }
+    take_word(asked, i, takes)
+}
+
+// The arguments from a number on.
+pub fn arguments(from: usize, takes: u8) -> Asked {
+    let count = os::arg_count();
+    let mut asked = Asked {
+        options: USUAL,
+        as_text: false,
+        interrupting: false,
+        operand: 0,
+        awaits: false,
+        ended: false,
+        wrong: 0,
+        culprit: 0,
+    };
+    let mut i = from;
+    while i < count {
+        asked = take(asked, i, takes);
+        i += 1;
+    }
+    asked
+}
+
+// Whether the arguments are good; says what is wrong where they are not.
+pub fn are_good(asked: Asked) -> bool {
+    if asked.wrong == NO_NUMBER {
+        blame(b"-o wants a number", asked.culprit);
+        return false;
+    }
+    if asked.wrong == UNKNOWN {
+        blame(b"no such option", asked.culprit);
+        return false;
+    }
+    if asked.wrong == ONE_TOO_MANY {
+        blame(b"one argument too many", asked.culprit);
+        return false;
+    }
+    if asked.awaits {
+        wrong(b"-o wants a number");
+        return false;
+    }
+    true
+}

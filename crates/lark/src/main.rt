@@ -1,0 +1,108 @@
+// lark: what the library makes of a text, a line or a record, for the terminal. `help.rt` has the commands.
+//
+// A Rattle program has no exit status of its own to give. So where its first argument is `--status` it writes the digit 0, 1 or 2 to
+// descriptor 3, and the script `lark` at the repository's root, which asks for that, leaves with it. Nobody else needs to pass it.
+//
+// Each command finds its whole answer first and writes then, so that nothing is on standard output where something is wrong.
+
+mod args; // the arguments behind a command
+mod events; // a section of events, read and said
+mod help; // the commands, in words
+mod input; // texts and records, from arguments, files and standard input
+mod line; // the command `line`
+mod resolve; // the commands on records
+mod say; // words on standard output and standard error, and the statuses
+mod show; // the commands `show` and `record`
+mod split; // a text made into a record
+mod tree; // groups as an indented tree
+mod words; // bytes compared and copied
+
+use args::FILE;
+use args::LINE;
+use args::TEXT;
+use args::arguments;
+use resolve::Call;
+use say::WRONG;
+use say::blame;
+use say::done;
+use words::same;
+
+// The descriptor that a status is written to, where that is asked for.
+const STATUS_FILENO: i32 = 3;
+
+// The commands on a record.
+fn run_on_record(command: &[u8], next: usize) -> u8 {
+    if same(command, b"attention") {
+        return resolve::run(Call::Attention, arguments(next, FILE));
+    }
+    if same(command, b"headings") {
+        return resolve::run(Call::Headings, arguments(next, FILE));
+    }
+    if same(command, b"lists") {
+        return resolve::run(Call::Lists, arguments(next, FILE));
+    }
+    if same(command, b"read") {
+        return resolve::run(Call::Read, arguments(next, FILE));
+    }
+    if next == 0 {
+        return WRONG;
+    }
+    blame(b"no such command", next - 1)
+}
+
+fn asks_for_help(command: &[u8]) -> bool {
+    if same(command, b"help") {
+        return true;
+    }
+    if same(command, b"--help") {
+        return true;
+    }
+    same(command, b"-h")
+}
+
+// The commands on a text, and help; `next` is the number of the argument behind the command.
+fn run(command: &[u8], next: usize) -> u8 {
+    if same(command, b"show") {
+        return show::show(arguments(next, TEXT));
+    }
+    if same(command, b"line") {
+        return line::run(arguments(next, LINE));
+    }
+    if same(command, b"record") {
+        return show::write_record(arguments(next, TEXT));
+    }
+    if asks_for_help(command) {
+        return done(help::say_help(libc::STDOUT_FILENO));
+    }
+    run_on_record(command, next)
+}
+
+// The command is argument i. One that does not fit the word is none of ours.
+fn command_at(i: usize) -> u8 {
+    let mut word = [0u8; 16];
+    let n = os::arg(i, &mut word);
+    if i >= os::arg_count() {
+        help::say_help(libc::STDERR_FILENO);
+        return WRONG;
+    }
+    run(&word[..n], i + 1)
+}
+
+// Whether the first argument asks for the status on its descriptor.
+fn wants_status() -> bool {
+    let mut word = [0u8; 16];
+    let n = os::arg(1, &mut word);
+    same(&word[..n], b"--status")
+}
+
+fn tell(status: u8) {
+    io::print_decimal(STATUS_FILENO, status as u64);
+}
+
+fn main() {
+    if wants_status() {
+        tell(command_at(2));
+    } else {
+        command_at(1);
+    }
+}

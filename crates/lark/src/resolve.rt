@@ -1,0 +1,137 @@
+// The commands on a record: `attention`, `headings`, `lists` and `read`.
+
+use crate::args::Asked;
+use crate::args::are_good;
+use crate::events::say_events;
+use crate::input::Got;
+use crate::input::RECORD_ROOM;
+use crate::input::record_asked;
+use crate::say::WRONG;
+use crate::say::done;
+use crate::say::refuse;
+use crate::say::say;
+use crate::say::say_number;
+use record::check::Reading;
+use record::check::Refusal;
+use record::limits::MAX_RESULT;
+
+// Which call of the library is asked for.
+pub enum Call {
+    Attention,
+    Headings,
+    Lists,
+    Read,
+}
+
+// What a resolver made: how many events its section has, or a refusal.
+enum Made {
+    Events(usize),
+    Refused(Refusal),
+}
+
+fn make_attention(rec: &[u8], options: u32, out: &mut [u8], work: &mut [u8]) -> Made {
+    match attention::call::resolve_attention(rec, options, out, work) {
+        attention::call::Answer::Resolved {
+            events,
+            groups,
+            tried,
+        } => Made::Events(events),
+        attention::call::Answer::Refused(refusal) => Made::Refused(refusal),
+    }
+}
+
+fn make_headings(rec: &[u8], options: u32, out: &mut [u8], work: &mut [u8]) -> Made {
+    match heading::resolve::resolve_headings(rec, options, out, work) {
+        heading::resolve::Answer::Resolved { events } => Made::Events(events),
+        heading::resolve::Answer::Refused(refusal) => Made::Refused(refusal),
+    }
+}
+
+fn make_lists(rec: &[u8], options: u32, out: &mut [u8], work: &mut [u8]) -> Made {
+    match list::call::resolve_lists(rec, options, out, work) {
+        list::call::Answer::Resolved { events } => Made::Events(events),
+        list::call::Answer::Refused(refusal) => Made::Refused(refusal),
+    }
+}
+
+// A section of so many events, as bytes.
+fn say_section(out: &[u8], events: usize) -> bool {
+    if events > MAX_RESULT {
+        return false;
+    }
+    let end = 4 + 8 * events;
+    if end > out.len() {
+        return false;
+    }
+    say(&out[0..end])
+}
+
+fn say_made(made: Made, out: &[u8], as_text: bool) -> u8 {
+    match made {
+        Made::Events(events) => {
+            if as_text {
+                return done(say_events(out, events));
+            }
+            return done(say_section(out, events));
+        }
+        Made::Refused(refusal) => {
+            return refuse(refusal);
+        }
+    }
+}
+
+// The two counts of a good record.
+fn say_reading(reading: Reading) -> u8 {
+    match reading {
+        Reading::Good { document, events } => {
+            say(b"document ");
+            say_number(document);
+            say(b" events ");
+            say_number(events);
+            return done(say(b"\n"));
+        }
+        Reading::Refused(refusal) => {
+            return refuse(refusal);
+        }
+    }
+}
+
+fn run_on(call: Call, rec: &[u8], options: u32, as_text: bool) -> u8 {
+    let mut out = [0u8; 65536];
+    let mut work = [0u8; 65536];
+    match call {
+        Call::Attention => {
+            let made = make_attention(rec, options, &mut out, &mut work);
+            return say_made(made, &out, as_text);
+        }
+        Call::Headings => {
+            let made = make_headings(rec, options, &mut out, &mut work);
+            return say_made(made, &out, as_text);
+        }
+        Call::Lists => {
+            let made = make_lists(rec, options, &mut out, &mut work);
+            return say_made(made, &out, as_text);
+        }
+        Call::Read => {
+            return say_reading(record::call::read(rec, options, &mut work));
+        }
+    }
+}
+
+pub fn run(call: Call, asked: Asked) -> u8 {
+    if !are_good(asked) {
+        return WRONG;
+    }
+    let mut rec = [0u8; RECORD_ROOM];
+    match record_asked(asked, &mut rec) {
+        Got::Bytes(n) => {
+            if n > RECORD_ROOM {
+                return WRONG;
+            }
+            return run_on(call, &rec[0..n], asked.options, asked.as_text);
+        }
+        Got::Nothing => {
+            return WRONG;
+        }
+    }
+}

@@ -1,0 +1,179 @@
+// Words on standard output and on standard error, and the statuses that a command leaves with.
+//
+// `say` answers whether its words were written. A command asks that of its last words alone: a full disk or a closed output fails them too.
+
+use libc::STDERR_FILENO;
+use libc::STDOUT_FILENO;
+use record::check::Refusal;
+ghost use Prim.Native.Nat.{_≤_};
+ghost use lib.ListN.{length};
+
+pub const ANSWERED: u8 = 0;
+
+pub const REFUSED: u8 = 1;
+
+// Bad arguments, or an input or output that fails.
+pub const WRONG: u8 = 2;
+
+pub fn say(text: &[u8]) -> bool {
+    io::write_all(STDOUT_FILENO, text)
+}
+
+pub fn say_number(n: usize) {
+    io::print_decimal(STDOUT_FILENO, n as u64);
+}
+
+fn complain(text: &[u8]) {
+    io::write_all(STDERR_FILENO, text);
+}
+
+fn complain_number(n: usize) {
+    io::print_decimal(STDERR_FILENO, n as u64);
+}
+
+// The status of a command whose last words were written, or were not.
+pub fn done(written: bool) -> u8 {
+    if written {
+        return ANSWERED;
+    }
+    complain(b"lark: standard output cannot be written\n");
+    WRONG
+}
+
+// What is wrong, in a line.
+pub fn wrong(what: &[u8]) -> u8 {
+    complain(b"lark: ");
+    complain(what);
+    complain(b"; see lark help\n");
+    WRONG
+}
+
+// What is wrong with argument i, in a line; of a long argument the beginning is said.
+pub fn blame(what: &[u8], i: usize) -> u8 {
+    let mut word = [0u8; 40];
+    let n = os::arg(i, &mut word);
+    let whole = os::errno() == 0;
+    complain(b"lark: ");
+    complain(what);
+    complain(b": ");
+    if whole {
+        complain(&word[..n]);
+    } else {
+        complain(&word);
+        complain(b"..");
+    }
+    complain(b"; see lark help\n");
+    WRONG
+}
+
+// What failed, as a file's name or other words, in a line that ends with the system's reason.
+pub fn fail(what: &[u8]) -> u8 {
+    complain(b"lark: ");
+    os::fail(what);
+    WRONG
+}
+
+// The row of document 01's table that a number stands for. Number 1 and number 8 are never given here, where 65,536 bytes of each are lent.
+fn complain_row(number: usize) {
+    match number {
+        1 => complain(b"the work memory is under 65,536 bytes"),
+        2 => complain(b"the options are over 63"),
+        3 => complain(
+            b"a count does not fit, is over its limit or runs past the record, bytes follow the last section, or a line is over 16,384 bytes",
+        ),
+        4 => complain(b"a carriage return"),
+        5 => complain(
+            b"a bad kind, name, zero byte or place, an exit without its enter, a depth over 64, or events left open",
+        ),
+        6 => complain(b"a run, heading or item that breaks the resolver's shape rule"),
+        7 => complain(b"the result is over 8,000 events"),
+        _ => complain(b"the output is too short"),
+    }
+}
+
+// A refusal in a line: its number, its place and its row's words.
+pub fn refuse(refusal: Refusal) -> u8 {
+    complain(b"lark: refused ");
+    complain_number(refusal.number);
+    complain(b" at ");
+    complain_number(refusal.place);
+    complain(b": ");
+    complain_row(refusal.number);
+    complain(b"\n");
+    REFUSED
+}
+
+// From one place up to another.
+pub fn say_range(from: usize, to: usize) {
+    say_number(from);
+    say(b"..");
+    say_number(to);
+}
+
+// Whether a byte is said as it stands: no control byte, no quote and no backslash.
+fn is_plain(byte: u8) -> bool {
+    if byte < 32 {
+        return false;
+    }
+    if byte == 127 {
+        return false;
+    }
+    if byte == b'"' {
+        return false;
+    }
+    byte != b'\\'
+}
+
+// The place of the next byte that is not said as it stands, or the end.
+fn plain_end(text: &[u8], at: usize) -> usize
+    requires { ⌜ at ≤ length (now text) ⌝ }
+    ensures { λ r. ⌜ (at ≤ r) × (r ≤ length (now (text .entry))) ⌝ }
+{
+    let mut i = at;
+    while i < text.len() {
+        if !is_plain(text[i]) {
+            return i;
+        }
+        i += 1;
+    }
+    i
+}
+
+// A byte that is not said as it stands.
+fn say_odd(byte: u8) {
+    match byte {
+        b'\n' => {
+            say(b"\\n");
+        }
+        b'\t' => {
+            say(b"\\t");
+        }
+        b'"' => {
+            say(b"\\\"");
+        }
+        b'\\' => {
+            say(b"\\\\");
+        }
+        _ => {
+            say(b"\\x");
+            io::print_hex(STDOUT_FILENO, byte as u64, 2);
+        }
+    }
+}
+
+// A text between quotes, on one line whatever its bytes are, and with nothing in it that a terminal would take for a command.
+pub fn say_quoted(text: &[u8]) {
+    say(b"\"");
+    let mut at = 0;
+    while at < text.len() {
+        let end = plain_end(text, at);
+        say(&text[at..end]);
+        if end == text.len() {
+            say(b"\"");
+            return;
+        }
+        say_odd(text[end]);
+        at = end + 1;
+    }
+    say(b"\"");
+}

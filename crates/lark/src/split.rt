@@ -1,0 +1,106 @@
+// A text made into a record: each longest run of one marker whose option is on is an attention run, and all between is data.
+
+use crate::input::RECORD_ROOM;
+use crate::input::TEXT_ROOM;
+use crate::words::copy_in;
+use record::bytes::put_u32;
+use record::event::put_event;
+use record::limits::ATTENTION_SEQUENCE;
+use record::limits::DATA;
+use record::limits::ENTER;
+use record::limits::EXIT;
+use record::limits::MAX_EVENTS;
+ghost use Prim.Native.Nat.{_≤_, _<_};
+ghost use lib.ListN.{length};
+
+// The marker that a byte is, or 0 where it is none or its option is off.
+fn marker(byte: u8, options: u32) -> u8 {
+    if byte == b'~' {
+        if options / 2 % 2 == 1 {
+            return byte;
+        }
+        return 0;
+    }
+    if options % 2 != 1 {
+        return 0;
+    }
+    if byte == b'*' {
+        return byte;
+    }
+    if byte == b'_' {
+        return byte;
+    }
+    0
+}
+
+// The name of a piece that begins with a byte.
+fn name_of(byte: u8, options: u32) -> u8 {
+    if marker(byte, options) == 0 {
+        return DATA;
+    }
+    ATTENTION_SEQUENCE
+}
+
+// The place behind the piece that begins at a place.
+fn piece_end(text: &[u8], at: usize, options: u32) -> usize
+    requires { ⌜ at < length (now text) ⌝ }
+    ensures { λ r. ⌜ (at < r) × (r ≤ length (now (text .entry))) ⌝ }
+{
+    let first = marker(text[at], options);
+    let mut end = at + 1;
+    while end < text.len() {
+        if marker(text[end], options) != first {
+            return end;
+        }
+        end += 1;
+    }
+    end
+}
+
+// Writes the enter and exit of each piece, from a place of the record on; how many events. A pair past the limit is enough for the record to
+// be refused for it.
+fn put_pieces(text: &[u8], options: u32, rec: &mut [u8], from: usize) -> usize {
+    let mut i = 0;
+    let mut to = from;
+    let mut events = 0;
+    while i < text.len() {
+        if events > MAX_EVENTS {
+            return events;
+        }
+        if to > rec.len() {
+            return events;
+        }
+        if rec.len() - to < 16 {
+            return events;
+        }
+        let end = piece_end(text, i, options);
+        let name = name_of(text[i], options);
+        put_event(rec, to, ENTER, name, i);
+        put_event(rec, to + 8, EXIT, name, end);
+        to += 16;
+        events += 2;
+        i = end;
+    }
+    events
+}
+
+// Writes the record of a text; its length. RECORD_ROOM bytes have room for any that is over a limit by as much as it takes to be refused.
+pub fn put_record(text: &[u8], options: u32, rec: &mut [u8]) -> usize
+    ensures { λ r. ⌜ r ≤ length (now (rec .exit)) ⌝ }
+{
+    let d = text.len();
+    if d > TEXT_ROOM {
+        return 0;
+    }
+    if rec.len() < RECORD_ROOM {
+        return 0;
+    }
+    put_u32(rec, 0, d);
+    copy_in(text, rec, 4);
+    let events = put_pieces(text, options, rec, 8 + d);
+    put_u32(rec, 4 + d, events);
+    if events > 4096 {
+        return 0;
+    }
+    8 + d + 8 * events
+}
