@@ -7,12 +7,14 @@ mod answer;
 mod chance;
 mod compare;
 mod damage;
+mod departures;
 mod documents;
 mod domain;
 mod library;
 mod lines;
 mod paper;
 mod records;
+mod store;
 mod tally;
 
 use std::io::Write;
@@ -237,11 +239,13 @@ fn main() {
     let mut directories = vec![];
     let mut scale = 1;
     let mut rows = String::new();
+    let mut stored = None;
     let mut arguments = std::env::args().skip(1);
     while let Some(argument) = arguments.next() {
         let mut value = || arguments.next().unwrap_or_else(|| panic!("{argument} wants a value"));
         match argument.as_str() {
             "--markdown" => directories.push(value()),
+            "--store" => stored = Some(value()),
             "--differences" => rows = std::fs::read_to_string(value()).expect("the list of differences"),
             "--scale" => scale = value().parse().expect("a number"),
             other => panic!("no such argument: {other}"),
@@ -253,6 +257,9 @@ fn main() {
             eprintln!("\n{panic}");
         }
     }));
+    if let Some(file) = stored {
+        return store::store(&file);
+    }
     let mut run = Run { tally: Tally::default(), start: Instant::now(), scale };
     exhaustive(&mut run);
     random(&mut run);
@@ -260,7 +267,7 @@ fn main() {
     damaged(&mut run);
     println!();
     run.tally.print();
-    let mut unlisted = 0;
+    let mut unlisted = departures::run();
     for (kind, difference) in &run.tally.differences {
         let listed = LISTED.iter().find(|(_, cause)| kind.contains(cause)).filter(|(number, _)| rows.contains(&format!("| {number} |")));
         let note = match listed {
