@@ -115,8 +115,5 @@ pub fn write_record(document: &[u8], events: &[Event]) -> Vec<u8> {
 
 /// The events of a section that is known to be sound.
 pub fn read_section(section: &[u8]) -> Vec<Event> {
-    section[4..]
-        .chunks_exact(8)
-        .map(|e| Event { exit: e[0] == 1, name: e[1], place: u32::from_le_bytes([e[4], e[5], e[6], e[7]]) })
-        .collect()
+    section[4..].chunks_exact(8).map(|e| Event { exit: e[0] == 1, name: e[1], place: u32::from_le_bytes([e[4], e[5], e[6], e[7]]) }).collect()
 }

@@ -80,9 +80,8 @@ pub fn crate_line(question: &Question, settings: &Settings) -> Answer {
     let Question { call, input, arguments: [a, b, _], .. } = question;
     match call {
         Call::SpaceOrTab => crate_side::space_or_tab(input, settings, *a, *b).map_or_else(Answer::default, |taken| Answer::of(&[1, taken])),
-        Call::ListItem => crate_side::list_item(input, settings, *a != 0).map_or_else(Answer::default, |item| {
-            Answer::of(&[1, item.taken, item.size, usize::from(item.blank), usize::from(item.mark)])
-        }),
+        Call::ListItem => crate_side::list_item(input, settings, *a != 0)
+            .map_or_else(Answer::default, |item| Answer::of(&[1, item.taken, item.size, usize::from(item.blank), usize::from(item.mark)])),
         Call::Continuation => {
             let going = crate_side::continuation(input, settings, *a, *b != 0);
             Answer::of(&[usize::from(going.taken.is_some()), going.taken.unwrap_or(0), usize::from(going.blank)])

@@ -67,10 +67,11 @@ pub fn found(directories: &[String]) -> (usize, Vec<Vec<u8>>) {
     (files.len(), pieces)
 }
 
+#[rustfmt::skip]
 const INLINE: [&str; 46] = [
-    "a", "b c", "*", "*", "**", "**", "***", "_", "_", "__", "~", "~~", "~~", "`c`", "``", "[a](b)", "[", "](b)", "]", "![a](b \"t\")", "![", "<b>", "</b>",
-    "<a@b.c>", "<http://a.b>", "www.a.com", "a@b.cd", "https://a.b/_c_", "\\*", "\\", "&amp;", "&", "[^1]", "[a]", "[a][]", "  ", " ", " ", ".", "(", ")", "\"", "!",
-    "#", "$x$", "\t",
+    "a", "b c", "*", "*", "**", "**", "***", "_", "_", "__", "~", "~~", "~~", "`c`", "``", "[a](b)", "[", "](b)", "]", "![a](b \"t\")", "![", "<b>",
+    "</b>", "<a@b.c>", "<http://a.b>", "www.a.com", "a@b.cd", "https://a.b/_c_", "\\*", "\\", "&amp;", "&", "[^1]", "[a]", "[a][]", "  ", " ", " ",
+    ".", "(", ")", "\"", "!", "#", "$x$", "\t",
 ];
 
 fn inline(chance: &mut Chance) -> String {
@@ -104,7 +105,8 @@ fn blocks(chance: &mut Chance, depth: usize) -> Vec<String> {
             5 => lines.push(format!("    {}", chance.pick(&["code", "- a", "*b*"]))),
             6 => lines.push((*chance.pick(&["<div>", "</div>", "<!--", "-->", "<script>", "<b>a</b>", "<?a", "<pre>"])).into()),
             7 => lines.push((*chance.pick(&["***", "---", "- - -", "===", "* * *", "___"])).into()),
-            8 => lines.push((*chance.pick(&["[a]: b", "[a]: b\n  \"t\"", "[^1]: note", "[^1]:\n\n    note", "|a|b|\n|-|-|\n|*c*|d|", "a|b\n-|-"])).into()),
+            8 => lines
+                .push((*chance.pick(&["[a]: b", "[a]: b\n  \"t\"", "[^1]: note", "[^1]:\n\n    note", "|a|b|\n|-|-|\n|*c*|d|", "a|b\n-|-"])).into()),
             9 => lines.push(" ".repeat(chance.below(7)) + *chance.pick(&["a", "-", "", "1.", ">", "#"])),
             10..=15 => {
                 let mark = *chance.pick(&["-", "-", "*", "+", "1.", "2)", "10.", "1)"]);

@@ -77,9 +77,33 @@ mod c {
     type Resolver = unsafe extern "C" fn(*const u8, usize, u32, *mut u8, usize, *mut u8, usize) -> Resolved;
     extern "C" {
         pub fn lark_read(record: *const u8, length: usize, options: u32, work: *mut u8, work_length: usize) -> Reading;
-        pub fn lark_resolve_attention(record: *const u8, length: usize, options: u32, out: *mut u8, out_length: usize, work: *mut u8, work_length: usize) -> Resolved;
-        pub fn lark_resolve_headings(record: *const u8, length: usize, options: u32, out: *mut u8, out_length: usize, work: *mut u8, work_length: usize) -> Resolved;
-        pub fn lark_resolve_lists(record: *const u8, length: usize, options: u32, out: *mut u8, out_length: usize, work: *mut u8, work_length: usize) -> Resolved;
+        pub fn lark_resolve_attention(
+            record: *const u8,
+            length: usize,
+            options: u32,
+            out: *mut u8,
+            out_length: usize,
+            work: *mut u8,
+            work_length: usize,
+        ) -> Resolved;
+        pub fn lark_resolve_headings(
+            record: *const u8,
+            length: usize,
+            options: u32,
+            out: *mut u8,
+            out_length: usize,
+            work: *mut u8,
+            work_length: usize,
+        ) -> Resolved;
+        pub fn lark_resolve_lists(
+            record: *const u8,
+            length: usize,
+            options: u32,
+            out: *mut u8,
+            out_length: usize,
+            work: *mut u8,
+            work_length: usize,
+        ) -> Resolved;
         pub fn lark_space_or_tab(line: *const u8, length: usize, options: u32, min: usize, max: usize) -> Spaces;
         pub fn lark_list_item(line: *const u8, length: usize, options: u32, interrupting: u32) -> Item;
         pub fn lark_continuation(line: *const u8, length: usize, options: u32, size: usize, blank: u32, mark: u32) -> Going;

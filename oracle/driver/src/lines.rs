@@ -84,7 +84,7 @@ pub fn line(call: Call, chance: &mut Chance) -> Question {
     }
     some_of(chance, tail, 5, &mut line);
     if chance.once_in(2_000) {
-        let piece: &[u8] = *chance.pick(&[&b" "[..], b"a", b" a", b" #", b"a ", b"- "]);
+        let piece = *chance.pick::<&[u8]>(&[b" ", b"a", b" a", b" #", b"a ", b"- "]);
         let to = *chance.pick(&[16_384, 16_383, 9_000]);
         while line.len() + piece.len() <= to {
             line.extend_from_slice(piece);

@@ -82,7 +82,11 @@ impl Run {
         let before = self.tally.total();
         tallies.into_inner().unwrap().into_iter().for_each(|tally| self.tally.add(tally));
         let kinds = self.tally.differences.len();
-        println!("{name}: {} compared, {:.0} s; kinds of difference so far: {kinds}", self.tally.total() - before, self.start.elapsed().as_secs_f64());
+        println!(
+            "{name}: {} compared, {:.0} s; kinds of difference so far: {kinds}",
+            self.tally.total() - before,
+            self.start.elapsed().as_secs_f64()
+        );
     }
 
     /// A count for this run.
@@ -189,7 +193,7 @@ fn captured(run: &mut Run, directories: &[String]) {
             bench.watch(Markdown { bytes: &pieces[i], text_alone: false, more }, options, Source::Captured);
         }
     });
-    let many = run.some(1_000_000);
+    let many = run.some(400_000);
     run.stage("Markdown made up", many, |bench, i| {
         let chance = &mut Chance::new(6_000_000_000 + i as u64);
         let document = if chance.once_in(400) { documents::deep(chance) } else { documents::made(chance) };

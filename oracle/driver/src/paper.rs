@@ -157,9 +157,7 @@ fn runs_of(good: &Good, options: u32) -> Vec<Run> {
                 let marker = good.document[from];
                 let before = from.checked_sub(1).map(|at| good.document[at]);
                 let after = good.document.get(to).copied();
-                let beside = |byte: Option<u8>| {
-                    marker != b'~' && (matches!(byte, Some(b'*' | b'_')) || options & 2 != 0 && byte == Some(b'~'))
-                };
+                let beside = |byte: Option<u8>| marker != b'~' && (matches!(byte, Some(b'*' | b'_')) || options & 2 != 0 && byte == Some(b'~'));
                 let may = |one: Option<u8>, other: Option<u8>| {
                     class(one) == Class::Other || class(one) == Class::Punctuation && class(other) != Class::Other || beside(one)
                 };

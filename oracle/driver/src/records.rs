@@ -173,8 +173,8 @@ pub fn attention_at_limits(chance: &mut Chance) -> Question {
     }
     let runs = *chance.pick(&[16, 200, 900, 997, 1_000, 1_024]) - deep;
     let size = *chance.pick(&[1, 2, 3, 4, 8, 15]);
-    let before: &[u8] = *chance.pick(&[&b""[..], b"a", b" ", b"a ", b"."]);
-    let between: &[u8] = *chance.pick(&[&b"a"[..], b" ", b"a ", b" a", b"."]);
+    let before = *chance.pick::<&[u8]>(&[b"", b"a", b" ", b"a ", b"."]);
+    let between = *chance.pick::<&[u8]>(&[b"a", b" ", b"a ", b" a", b"."]);
     let kind = chance.below(4);
     for i in 0..runs {
         if making.document.len() + size + 4 > 16_384 {
@@ -310,7 +310,7 @@ pub fn lists(chance: &mut Chance) -> Question {
         _ => (100, 8),
     };
     let mut making = Making::new(limit);
-    let marks: &[u8] = *chance.pick(&[&b"-"[..], b"-*", b".)", b"*+-.)", b"-."]);
+    let marks = *chance.pick::<&[u8]>(&[b"-", b"-*", b".)", b"*+-.)", b"-."]);
     fill_lists(&mut making, chance, spread, marks);
     making.question(Call::Lists, *chance.pick(&[0, 16, 48, 59, 63]))
 }

@@ -16,11 +16,23 @@ use crate::{documents, domain, paper, records};
 use crate_side::{write_record, Event, Settings};
 
 /// Texts that document 01 and docs/DIFFERENCES.md speak of, and their neighbours.
+#[rustfmt::skip]
 const TEXTS: [&str; 54] = [
-    "*a*", "**a*", "*a**", "***a***", "a**b*c", "a***b***c", "a_b_c", "~~~a~~~", "*a _b* c_", "~a~", "~~a~~", "a*_b_*", "****a** b*c", "a*\0*", "a~~*b*~~",
-    "a*~~b~~*", "_a__*", "*_a__", "**", "*", "", "* a *", "*a *", "*(*a*)*", "_(_a_)_", "**a**b**", "***a** b*", "*a **b***", "*a*b*c*", "_a_b_c_",
-    "*a\n*b*", "*\x0ca*", "*\ta*", "a*\"b\"*", "*.a.*", "_.a._", "__a__", "_a*b_c*", "~~a~", "~a~~", "~a ~~b~~ c~", "~~a~~b~~", "*****a*****", "******a******",
-    "**a***b*", "*a**b*", "*a**b**c*", "***a*b**", "a *** b", "\x7f*a*\x7f", "__a_b__", "~*a*~", "*~a~*", "*a* *b* _c_ __d__ ~~e~~",
+    "*a*", "**a*", "*a**", "***a***", "a**b*c", "a***b***c", "a_b_c", "~~~a~~~", "*a _b* c_", "~a~", "~~a~~", "a*_b_*", "****a** b*c", "a*\0*",
+    "a~~*b*~~", "a*~~b~~*", "_a__*", "*_a__", "**", "*", "", "* a *", "*a *", "*(*a*)*", "_(_a_)_", "**a**b**", "***a** b*", "*a **b***", "*a*b*c*",
+    "_a_b_c_", "*a\n*b*", "*\x0ca*", "*\ta*", "a*\"b\"*", "*.a.*", "_.a._", "__a__", "_a*b_c*", "~~a~", "~a~~", "~a ~~b~~ c~", "~~a~~b~~",
+    "*****a*****", "******a******", "**a***b*", "*a**b*", "*a**b**c*", "***a*b**", "a *** b", "\x7f*a*\x7f", "__a_b__", "~*a*~", "*~a~*",
+    "*a* *b* _c_ __d__ ~~e~~",
+];
+
+/// Documents that bring out what the three resolvers do.
+#[rustfmt::skip]
+const DOCUMENTS: [&str; 28] = [
+    "- a\n- b\n- c", "- a\n* b\n+ c", "1. a\n2. b\n3) c", "- a\n\n- b\n\n\n- c", "- a\n  - b\n    - c\n  - d\n- e", "> - a\n> - b\n\n> - c",
+    "- > a\n- > b", "- - - a\n- - b", "-\n- a\n-\n\n  b", "1. a\n   - b\n\n   - c\n2. d", "* a\n\n  # *b* #\n* c",
+    "# a\n## b ##\n### c # d\n#\n# #\n", "# #a\n# a # #\n# a#\n", "> # *a*\n> b\n\n# `c` [d](e) **f**", "- [ ] a\n- [x] b", "*a [b *c](d) e*\n",
+    "*a `b* c` d*", "*a <b *c*> d*", "**a [*b*](c) d**", "![*a*](b) *c*", "*a\nb*\nc **d\n> e**\n", "~~a *b~~ c*", "a | *b*\n- | -\n_c_ | **d**",
+    "[^1]: *a*\n\nb[^1] *c*", "<div>\n*a*\n\n*b*\n</div>", "    *a*\n\n*b*", "\\*a* *b\\*", "*a&amp;*b*",
 ];
 
 fn attention(put: &mut Vec<Question>) {
@@ -42,7 +54,14 @@ fn attention(put: &mut Vec<Question>) {
         let run = |at: u32| [event(false, 1, at), event(true, 1, at + 1)];
         let inside = [vec![event(false, name, 0)], run(1).to_vec(), run(3).to_vec(), vec![event(true, name, 5)]].concat();
         let across = [run(1).to_vec(), vec![event(false, name, 2)], run(3).to_vec(), vec![event(true, name, 5)]].concat();
-        let beside = [vec![event(false, name, 0)], run(1).to_vec(), vec![event(true, name, 2), event(false, name, 2)], run(3).to_vec(), vec![event(true, name, 5)]].concat();
+        let beside = [
+            vec![event(false, name, 0)],
+            run(1).to_vec(),
+            vec![event(true, name, 2), event(false, name, 2)],
+            run(3).to_vec(),
+            vec![event(true, name, 5)],
+        ]
+        .concat();
         let round = [run(1).to_vec(), vec![event(false, name, 2), event(true, name, 3)], run(3).to_vec()].concat();
         for events in [inside, across, beside, round] {
             put.push(Question { call: Call::Attention, input: write_record(b"[*a*]", &events), options: 59, arguments: [0; 3] });
@@ -91,12 +110,7 @@ fn captured(put: &mut Vec<Question>) {
             put.push(Question { call: call_of(one.which), input: write_record(document, &one.before), options, arguments: [0; 3] });
         }
     };
-    for document in [
-        "- a\n- b\n- c", "- a\n* b\n+ c", "1. a\n2. b\n3) c", "- a\n\n- b\n\n\n- c", "- a\n  - b\n    - c\n  - d\n- e", "> - a\n> - b\n\n> - c", "- > a\n- > b", "- - - a\n- - b",
-        "-\n- a\n-\n\n  b", "1. a\n   - b\n\n   - c\n2. d", "* a\n\n  # *b* #\n* c", "# a\n## b ##\n### c # d\n#\n# #\n", "# #a\n# a # #\n# a#\n",
-        "> # *a*\n> b\n\n# `c` [d](e) **f**", "- [ ] a\n- [x] b", "*a [b *c](d) e*\n", "*a `b* c` d*", "*a <b *c*> d*", "**a [*b*](c) d**", "![*a*](b) *c*",
-        "*a\nb*\nc **d\n> e**\n", "~~a *b~~ c*", "a | *b*\n- | -\n_c_ | **d**", "[^1]: *a*\n\nb[^1] *c*", "<div>\n*a*\n\n*b*\n</div>", "    *a*\n\n*b*", "\\*a* *b\\*", "*a&amp;*b*",
-    ] {
+    for document in DOCUMENTS {
         watch(document.as_bytes(), 59);
         watch(document.as_bytes(), 63);
     }
@@ -136,7 +150,9 @@ fn lists(put: &mut Vec<Question>) {
     // The longest list: 256 items.
     let mut events = vec![];
     for i in 0..256u32 {
-        for (exit, name, place) in [(false, 15, 0), (false, 16, 0), (false, 17, 0), (true, 17, 1), (true, 16, 1), (true, 15, 1), (false, 21, 1), (true, 21, 2)] {
+        for (exit, name, place) in
+            [(false, 15, 0), (false, 16, 0), (false, 17, 0), (true, 17, 1), (true, 16, 1), (true, 15, 1), (false, 21, 1), (true, 21, 2)]
+        {
             events.push(Event { exit, name, place: 2 * i + place });
         }
     }
