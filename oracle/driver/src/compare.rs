@@ -1,0 +1,319 @@
+//! One question put to all: the library, document 01, and the crate where it has an answer.
+
+use std::fmt;
+use std::panic::{catch_unwind, AssertUnwindSafe};
+
+use crate::answer::{show_answer, Answer, Call, Question};
+use crate::domain;
+use crate::library::{self, Lent, OUTPUT, WORK};
+use crate::paper;
+use crate::tally::{Difference, Source, Tally};
+use crate_side::{Event, Resolver, Seen, Settings};
+
+/// The crate's parser does not get through a document: nothing of it can be compared.
+pub const PANIC: &str = "the crate's own parser panics";
+
+/// Markdown for the crate's parser.
+#[derive(Clone, Copy)]
+pub struct Markdown<'a> {
+    pub bytes: &'a [u8],
+    /// Taken as text, with no block structure looked for.
+    pub text_alone: bool,
+    /// Math and frontmatter are on too.
+    pub more: bool,
+}
+
+impl fmt::Display for Markdown<'_> {
+    fn fmt(&self, f: &mut fmt::Formatter<'_>) -> fmt::Result {
+        let more = if self.more { ", with math and frontmatter" } else { "" };
+        write!(f, "{} \"{}\"{more}", if self.text_alone { "text" } else { "Markdown" }, self.bytes.escape_ascii())
+    }
+}
+
+/// What one thread works with.
+pub struct Bench {
+    pub tally: Tally,
+    lent: Lent,
+    settings: Vec<Settings>,
+    settings_more: Vec<Settings>,
+    turn: usize,
+}
+
+/// The crate's word on a question.
+enum Word {
+    Says(Answer),
+    Outside(&'static str),
+    Panics,
+}
+
+pub fn resolver_of(call: Call) -> Resolver {
+    match call {
+        Call::Headings => Resolver::Headings,
+        Call::Lists => Resolver::Lists,
+        _ => Resolver::Attention,
+    }
+}
+
+pub fn call_of(which: Resolver) -> Call {
+    match which {
+        Resolver::Attention => Call::Attention,
+        Resolver::Headings => Call::Headings,
+        Resolver::Lists => Call::Lists,
+    }
+}
+
+/// How many groups are there in a list of events: enters of emphasis, strong and strikethrough.
+fn groups_in(events: &[Event]) -> usize {
+    events.iter().filter(|event| !event.exit && matches!(event.name, 2 | 5 | 8)).count()
+}
+
+/// The crate's events as an answer. It does not count the candidates that it tries: that number is left for document 01 to say.
+pub fn resolved(call: Call, before: &[Event], after: &[Event], tried: usize) -> Answer {
+    let mut section = vec![];
+    crate_side::write_section(after, &mut section);
+    let groups = if call == Call::Attention { groups_in(after) - groups_in(before).min(groups_in(after)) } else { 0 };
+    Answer { section, ..Answer::of(&[after.len(), groups, tried]) }
+}
+
+/// The crate's answer to a line.
+pub fn crate_line(question: &Question, settings: &Settings) -> Answer {
+    let Question { call, input, arguments: [a, b, _], .. } = question;
+    match call {
+        Call::SpaceOrTab => crate_side::space_or_tab(input, settings, *a, *b).map_or_else(Answer::default, |taken| Answer::of(&[1, taken])),
+        Call::ListItem => crate_side::list_item(input, settings, *a != 0)
+            .map_or_else(Answer::default, |item| Answer::of(&[1, item.taken, item.size, usize::from(item.blank), usize::from(item.mark)])),
+        Call::Continuation => {
+            let going = crate_side::continuation(input, settings, *a, *b != 0);
+            Answer::of(&[usize::from(going.taken.is_some()), going.taken.unwrap_or(0), usize::from(going.blank)])
+        }
+        _ => crate_side::heading(input, settings).map_or_else(Answer::default, |events| {
+            let mut section = vec![];
+            crate_side::write_section(&events, &mut section);
+            Answer { section, ..Answer::of(&[1, events.len()]) }
+        }),
+    }
+}
+
+/// The document and the events of a record that document 01 accepts.
+pub fn parts_of(record: &[u8]) -> (&[u8], Vec<Event>) {
+    let length = u32::from_le_bytes([record[0], record[1], record[2], record[3]]) as usize;
+    (&record[4..4 + length], crate_side::read_section(&record[4 + length..]))
+}
+
+/// Why a record that the crate made is refused, as far as that is known to happen.
+fn cause_of(question: &Question, number: usize, place: usize) -> &'static str {
+    let (document, events) = parts_of(&question.input);
+    let event = place.saturating_sub(8 + document.len()) / 8;
+    if event == 0 || event >= events.len() {
+        return "unknown";
+    }
+    let (before, here) = (events[event - 1], events[event]);
+    match number {
+        5 if here.place < before.place && here.exit && before.exit => FALLING,
+        5 if here.exit && matches!(here.name, 19 | 20) && crossed(&events[..=event]) => CROSSED,
+        6 if question.call == Call::Lists && before.exit && before.name == 15 && !here.exit && here.name == 15 => BEHIND,
+        _ => "unknown",
+    }
+}
+
+/// Whether the last of these events leaves a list while another list is open within it.
+fn crossed(events: &[Event]) -> bool {
+    let mut open = vec![];
+    let (last, before) = events.split_last().unwrap();
+    for event in before {
+        if event.exit {
+            open.pop();
+        } else {
+            open.push(event.name);
+        }
+    }
+    open.last().is_some_and(|name| matches!(name, 19 | 20) && *name != last.name)
+}
+
+/// The causes that docs/DIFFERENCES.md lists.
+pub const BEHIND: &str = "an item right behind an item";
+pub const CROSSED: &str = "lists that cross, since an item stood right behind an item";
+pub const FALLING: &str = "an exit before the exit within it";
+
+/// The same events with no place below the one before.
+fn raised(events: &[Event]) -> Vec<Event> {
+    let mut least = 0;
+    let raise = |event: &Event| {
+        least = event.place.max(least);
+        Event { place: least, ..*event }
+    };
+    events.iter().map(raise).collect()
+}
+
+/// How many events are open at most.
+fn depth_of(events: &[Event]) -> usize {
+    let (mut depth, mut most) = (0usize, 0);
+    for event in events {
+        depth = if event.exit { depth.saturating_sub(1) } else { depth + 1 };
+        most = most.max(depth);
+    }
+    most
+}
+
+fn takes_record(call: Call) -> bool {
+    matches!(call, Call::Read | Call::Attention | Call::Headings | Call::Lists)
+}
+
+impl Bench {
+    pub fn new() -> Bench {
+        Bench {
+            tally: Tally::default(),
+            lent: Lent::new(),
+            settings: (0..64).map(Settings::new).collect(),
+            settings_more: (0..64).map(|options| Settings::new(options).with_math_and_frontmatter()).collect(),
+            turn: 0,
+        }
+    }
+
+    pub fn settings(&self, options: u32) -> &Settings {
+        &self.settings[options as usize & 63]
+    }
+
+    /// What the crate says to a question that document 01 answers like this.
+    fn ask_crate(&self, question: &Question, paper: &Answer) -> Word {
+        let settings = self.settings(question.options);
+        if takes_record(question.call) {
+            let (document, before) = parts_of(&question.input);
+            if let Some(reason) = domain::document_outside(document) {
+                return Word::Outside(reason);
+            }
+            let run = || crate_side::resolve(resolver_of(question.call), document, &before, settings);
+            return catch_unwind(AssertUnwindSafe(run))
+                .map_or(Word::Panics, |after| Word::Says(resolved(question.call, &before, &after, paper.numbers[4])));
+        }
+        if let Some(reason) = domain::line_outside(question.call, &question.input) {
+            return Word::Outside(reason);
+        }
+        catch_unwind(AssertUnwindSafe(|| crate_line(question, settings))).map_or(Word::Panics, Word::Says)
+    }
+
+    fn differ(&mut self, kind: &str, question: &Question, source: Source, ours: &str, theirs: &str, document: Option<Markdown>) {
+        let kind = format!("{}, {:?}: {}", question.call.name(), source, kind);
+        let mut text = format!("{question}\n    library: {ours}\n    {theirs}");
+        if let Some(markdown) = document {
+            text = format!("{markdown}\n    {text}");
+        }
+        let input = document.map_or_else(|| question.input.clone(), |markdown| markdown.bytes.to_vec());
+        let again = document.map(|markdown| (markdown.text_alone, markdown.more));
+        self.tally.differ(kind, Difference { count: 1, input, options: question.options, text, again });
+    }
+
+    /// Put a question with given buffers to the library and to document 01, and, if it is accepted, to the crate. `known` is the crate's answer
+    /// where it was seen at work, and `document` the Markdown it was at work on.
+    fn put(&mut self, question: &Question, source: Source, output: usize, work: usize, known: Option<Answer>, document: Option<Markdown>) {
+        let paper = paper::answer(question, output, work);
+        let ours = match library::answer(question, output, work, &mut self.lent) {
+            Ok(answer) => answer,
+            Err(fault) => return self.differ(fault, question, source, fault, "", document),
+        };
+        *self.tally.compared.entry((question.call, source)).or_default() += 1;
+        if ours != paper {
+            let (us, it) = (show_answer(question.call, &ours), show_answer(question.call, &paper));
+            self.differ("not as document 01", question, source, &us, &format!("document 01: {it}"), document);
+        }
+        if paper.numbers[0] != 0 {
+            *self.tally.refused.entry((question.call, paper.numbers[0])).or_default() += 1;
+            if let Some(answer) = known.filter(|_| !matches!(paper.numbers[0], 7 | 8)) {
+                let cause = cause_of(question, paper.numbers[0], paper.numbers[1]);
+                let kind = format!("a record of the crate's own is refused with {}: {cause}", paper.numbers[0]);
+                let (us, it) = (show_answer(question.call, &ours), show_answer(question.call, &answer));
+                self.differ(&kind, question, source, &us, &format!("crate: {it}"), document);
+            }
+            return;
+        }
+        if question.call == Call::Read {
+            return;
+        }
+        let word = known.map_or_else(
+            || self.ask_crate(question, &paper),
+            |mut answer| {
+                answer.numbers[4] = paper.numbers[4];
+                Word::Says(answer)
+            },
+        );
+        match word {
+            Word::Says(answer) if answer == ours => (),
+            Word::Says(answer) => {
+                let (us, it) = (show_answer(question.call, &ours), show_answer(question.call, &answer));
+                self.differ("not as the crate", question, source, &us, &format!("crate: {it}"), document);
+            }
+            Word::Outside(reason) => {
+                *self.tally.skipped.entry((question.call, reason)).or_default() += 1;
+                *self.tally.compared.entry((question.call, source)).or_default() -= 1;
+            }
+            Word::Panics => *self.tally.panics.entry((question.call, source)).or_default() += 1,
+        }
+    }
+
+    /// Put a question. The output is mostly as long as the section needs, at times longer, and at times a byte short, which is number 8.
+    pub fn ask(&mut self, question: &Question, source: Source) {
+        self.ask_known(question, source, None, None);
+    }
+
+    fn ask_known(&mut self, question: &Question, source: Source, known: Option<Answer>, document: Option<Markdown>) {
+        self.turn = self.turn.wrapping_add(1);
+        let length = match &known {
+            Some(answer) => answer.section.len(),
+            None => paper::answer(question, OUTPUT, WORK).section.len(),
+        };
+        let exact = length.min(OUTPUT);
+        let (output, work) = match self.turn % 32 {
+            3 => (OUTPUT, WORK + self.turn % 64),
+            7 => (exact + self.turn / 32 % (OUTPUT - exact + 1), WORK),
+            11 => (exact.saturating_sub(1 + self.turn / 32 % 9), WORK),
+            _ => (exact, WORK),
+        };
+        self.put(question, source, output, work, known, document);
+    }
+
+    /// Put a question with lengths of one's own.
+    pub fn ask_lengths(&mut self, question: &Question, source: Source, output: usize, work: usize) {
+        self.put(question, source, output, work, None, None);
+    }
+
+    /// Everything the crate's resolvers were seen to do with a document, or with text alone.
+    pub fn watch(&mut self, markdown: Markdown, options: u32, source: Source) {
+        let Markdown { bytes: document, text_alone, more } = markdown;
+        let Ok(text) = std::str::from_utf8(document) else { return };
+        let settings = if more { &self.settings_more[options as usize & 63] } else { self.settings(options) };
+        let watch = if text_alone { crate_side::watch_text } else { crate_side::watch_document };
+        let seen = match catch_unwind(AssertUnwindSafe(|| watch(text, settings))) {
+            Ok(seen) => seen,
+            Err(_) => {
+                let text = format!("{markdown} options {options}");
+                let found = Difference { count: 1, input: document.to_vec(), options, text, again: Some((text_alone, more)) };
+                return self.tally.differ(PANIC.into(), found);
+            }
+        };
+        for Seen { which, before, after, within_tab, edits_before } in seen {
+            let call = call_of(which);
+            let reason = if document.len() > 16_384 || before.len() > 2_048 || depth_of(&before) > 64 {
+                Some("captured, over the record's limits")
+            } else if edits_before {
+                Some("captured, with edits of another resolver")
+            } else if within_tab {
+                Some("captured, with an event within a tab")
+            } else {
+                domain::document_outside(document)
+            };
+            if let Some(reason) = reason {
+                *self.tally.skipped.entry((call, reason)).or_default() += 1;
+                continue;
+            }
+            let question = Question { call, input: crate_side::write_record(document, &before), options, arguments: [0; 3] };
+            let known = resolved(call, &before, &after, 0);
+            self.ask_known(&question, source, Some(known), Some(markdown));
+            // Where places fall, the resolvers are compared on the events with those places raised.
+            let mended = raised(&before);
+            if mended != before {
+                let input = crate_side::write_record(document, &mended);
+                self.ask(&Question { input, ..question }, source);
+            }
+        }
+    }
+}

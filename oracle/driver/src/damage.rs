@@ -1,0 +1,140 @@
+//! Copies with something wrong: bytes changed, records cut or lengthened, events lost, doubled or exchanged, options and lengths past their limits.
+
+use crate::answer::{Call, Question};
+use crate::chance::Chance;
+use crate::compare::parts_of;
+use crate::library::{OUTPUT, WORK};
+use crate::lines;
+use crate::records;
+use crate_side::Event;
+
+fn hurt(record: &mut Vec<u8>, chance: &mut Chance) {
+    let length = record.len();
+    if length == 0 {
+        return record.push(0);
+    }
+    let at = chance.below(length);
+    // Where the events begin, as long as the first count still says so.
+    let bytes = u32::from_le_bytes([record[0], *record.get(1).unwrap_or(&0), *record.get(2).unwrap_or(&0), *record.get(3).unwrap_or(&0)]) as usize;
+    let start = 8usize.saturating_add(bytes);
+    let events = length.saturating_sub(start) / 8;
+    let event = start.saturating_add(8 * chance.below(events));
+    match chance.below(14) {
+        0 => record[at] ^= 1 << chance.below(8),
+        1 => record[at] = *chance.pick(&[0, 1, 2, 13, 24, 25, 64, 128, 255]),
+        2 => record.truncate(at),
+        3 => (0..1 + chance.below(9)).for_each(|_| record.push(chance.below(256) as u8)),
+        4 => {
+            record.remove(at);
+        }
+        5 => record.insert(at, chance.below(256) as u8),
+        6 if events > 0 => record[event + 1] = chance.below(27) as u8,
+        7 if events > 0 => record[event] ^= 1,
+        8 if events > 0 => record[event + 4] = record[event + 4].wrapping_add(*chance.pick(&[1, 255])),
+        // An event more or less, with the count made to fit.
+        9 if events > 0 => {
+            let copy: Vec<u8> = record[event..event + 8].to_vec();
+            record.splice(event..event, copy);
+            record[start - 4] = record[start - 4].wrapping_add(1);
+        }
+        10 if events > 0 => {
+            record.drain(event..event + 8);
+            record[start - 4] = record[start - 4].wrapping_sub(1);
+        }
+        11 if events > 1 => {
+            let other = start + 8 * chance.below(events);
+            for i in 0..8 {
+                record.swap(event + i, other + i);
+            }
+        }
+        12 if start <= length => record[start - 4..start].copy_from_slice(&(*chance.pick(&[0u32, 1, 2_047, 2_048, 2_049, u32::MAX])).to_le_bytes()),
+        13 if length >= 4 => record[..4].copy_from_slice(&(*chance.pick(&[0u32, 1, 16_384, 16_385, u32::MAX, u32::MAX - 7])).to_le_bytes()),
+        _ => record[at] = chance.below(256) as u8,
+    }
+}
+
+/// A change that leaves the record sound: a pair renamed, lost or put in, a byte of the document changed. It is the shape rules that then may fail.
+fn bend(question: &mut Question, chance: &mut Chance) {
+    let (document, mut events) = parts_of(&question.input);
+    let mut document = document.to_vec();
+    let enter = chance.below(events.len());
+    if events.is_empty() || events[enter].exit || chance.once_in(4) {
+        if let Some(length) = document.len().checked_sub(1) {
+            document[chance.below(length + 1)] = *chance.pick(b"*_~a #-+.)1\n");
+        }
+    } else {
+        let mut depth = 0;
+        let exit = (enter..events.len()).find(|i| {
+            depth += if events[*i].exit { -1 } else { 1 };
+            depth == 0
+        });
+        let exit = exit.unwrap();
+        match chance.below(4) {
+            0 | 1 => {
+                let name = if chance.once_in(2) { *chance.pick(&[0, 1, 11, 12, 13, 14, 15, 16, 17, 18]) } else { chance.below(25) as u8 };
+                (events[enter].name, events[exit].name) = (name, name);
+            }
+            2 => {
+                events.remove(exit);
+                events.remove(enter);
+            }
+            _ => {
+                let place = events[enter].place;
+                let name = *chance.pick(&[0, 1, 11, 12, 13, 14, 15, 16, 17, 18, 24]);
+                events.insert(enter, Event { exit: true, name, place });
+                events.insert(enter, Event { exit: false, name, place });
+            }
+        }
+    }
+    question.input = crate_side::write_record(&document, &events);
+}
+
+fn options(chance: &mut Chance, options: u32) -> u32 {
+    match chance.below(40) {
+        0 => *chance.pick(&[64, 65, 128, 256, 1 << 16, 1 << 31, u32::MAX]),
+        1..=6 => chance.below(64) as u32,
+        _ => options,
+    }
+}
+
+/// A hurt record, with the lengths of output and work memory.
+pub fn record(chance: &mut Chance) -> (Question, usize, usize) {
+    let mut question = match chance.below(3) {
+        0 => records::attention(chance),
+        1 => records::headings(chance),
+        _ => records::lists(chance),
+    };
+    if chance.once_in(2) {
+        (0..1 + chance.below(3)).for_each(|_| bend(&mut question, chance));
+    } else {
+        (0..1 + chance.below(2)).for_each(|_| hurt(&mut question.input, chance));
+    }
+    if chance.once_in(8) {
+        question.call = *chance.pick(&[Call::Read, Call::Attention, Call::Headings, Call::Lists]);
+    }
+    question.options = options(chance, question.options);
+    let output = if chance.once_in(8) { chance.below(400) } else { OUTPUT };
+    let work = match chance.below(40) {
+        0 => *chance.pick(&[0, 1, WORK - 1]),
+        1 => WORK + 1,
+        _ => WORK,
+    };
+    (question, output, work)
+}
+
+/// A line with bytes and lengths that no document of the domain has.
+pub fn line(chance: &mut Chance) -> (Question, usize) {
+    let call = *chance.pick(&[Call::SpaceOrTab, Call::ListItem, Call::Continuation, Call::Heading]);
+    let mut question = lines::line(call, chance);
+    for _ in 0..chance.below(3) {
+        let at = chance.below(question.input.len() + 1);
+        question.input.insert(at, if chance.once_in(3) { *chance.pick(b"\r\n\t\x0b\x80") } else { chance.below(256) as u8 });
+    }
+    if chance.once_in(200) {
+        let to = *chance.pick(&[16_384, 16_385, 20_000]);
+        question.input.resize(to, *chance.pick(b" a#\r\n"));
+    }
+    question.options = options(chance, question.options);
+    let output = if chance.once_in(4) { chance.below(100) } else { OUTPUT };
+    (question, output)
+}

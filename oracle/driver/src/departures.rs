@@ -1,0 +1,95 @@
+//! The rows of docs/DIFFERENCES.md, run: what the crate and the library make of each one's smallest input, held against what the row says.
+
+use crate::answer::{Answer, Call, Question};
+use crate::compare::{crate_line, parts_of, resolved, resolver_of};
+use crate::library::{self, Lent, OUTPUT, WORK};
+use crate::records;
+use crate_side::{write_record, Settings};
+
+/// What is looked at in an answer.
+#[derive(Clone, Copy)]
+enum Look {
+    Groups,
+    Refusal,
+    Size,
+    Found,
+    /// Where the heading's text begins and ends.
+    Text,
+}
+
+fn look(answer: &Answer, at: Look) -> String {
+    let numbers = answer.numbers;
+    match at {
+        _ if numbers[0] != 0 => format!("refused with {} at {}", numbers[0], numbers[1]),
+        Look::Groups => format!("groups {}", numbers[3]),
+        Look::Refusal => "accepted".into(),
+        Look::Size => format!("size {}", numbers[4]),
+        Look::Found => (if numbers[2] == 1 { "an item" } else { "no item" }).into(),
+        Look::Text => {
+            let places: Vec<String> =
+                crate_side::read_section(&answer.section).iter().filter(|event| event.name == 13).map(|event| event.place.to_string()).collect();
+            format!("text {}", places.join(" to "))
+        }
+    }
+}
+
+fn line(call: Call, input: &[u8], arguments: [usize; 3]) -> Question {
+    Question { call, input: input.to_vec(), options: 59, arguments }
+}
+
+/// A heading's record as the crate reads the line.
+fn heading(text: &[u8]) -> Question {
+    let events = crate_side::heading(text, &Settings::new(59)).expect("a heading");
+    Question { call: Call::Headings, input: write_record(text, &events), options: 59, arguments: [0; 3] }
+}
+
+/// What the list resolver is given when the crate parses a document.
+fn list(document: &str) -> Question {
+    let seen = crate_side::watch_document(document, &Settings::new(59));
+    let before = &seen.iter().find(|one| one.which == crate_side::Resolver::Lists).expect("a list").before;
+    Question { call: Call::Lists, input: write_record(document.as_bytes(), before), options: 59, arguments: [0; 3] }
+}
+
+fn crate_says(question: &Question) -> Answer {
+    let settings = Settings::new(question.options);
+    match question.call {
+        Call::Attention | Call::Headings | Call::Lists => {
+            let (document, before) = parts_of(&question.input);
+            resolved(question.call, &before, &crate_side::resolve(resolver_of(question.call), document, &before, &settings), 0)
+        }
+        _ => crate_line(question, &settings),
+    }
+}
+
+/// Run every row and print it. Gives back how many are not as the row says.
+pub fn run() -> usize {
+    let text = |text: &[u8], options: u32| records::split(text, options);
+    let rows: [(&str, Question, Look, &str, &str); 14] = [
+        ("D1", text(b"*\r*", 59), Look::Groups, "groups 0", "refused with 4 at 5"),
+        ("D2", text(b"*\xc2\xa0*", 59), Look::Groups, "groups 0", "groups 1"),
+        ("D3", text(b"a*\0*", 59), Look::Groups, "groups 1", "groups 1"),
+        ("D4", text(b"a*_b_*", 59), Look::Groups, "groups 2", "groups 2"),
+        ("D5", text(b"****a** b*c", 59), Look::Groups, "groups 1", "groups 1"),
+        ("D6", text(b"*\x0b*", 59), Look::Groups, "groups 0", "groups 1"),
+        ("D7", text(b"~a~", 59), Look::Groups, "groups 0", "groups 0"),
+        ("D8", line(Call::ListItem, b"\t-", [0; 3]), Look::Found, "no item", "an item"),
+        ("D9", line(Call::ListItem, b"01. a", [1, 0, 0]), Look::Found, "no item", "no item"),
+        ("D10", heading(b"# #a"), Look::Text, "text 3 to 4", "text 3 to 4"),
+        ("D11", heading(b"# a # #"), Look::Text, "text 2 to 3", "text 2 to 3"),
+        ("D12", list("- <?\n-"), Look::Refusal, "accepted", "refused with 6 at 126"),
+        ("D13", list("- <?\n\na"), Look::Refusal, "accepted", "refused with 5 at 119"),
+        ("D14", line(Call::ListItem, b"-\ta", [0; 3]), Look::Size, "size 2", "size 2"),
+    ];
+    println!("\n| row | crate | library |\n|---|---|---|");
+    let mut wrong = 0;
+    let lent = &mut Lent::new();
+    for (row, question, at, crate_row, our_row) in rows {
+        let theirs = look(&crate_says(&question), at);
+        let ours = library::answer(&question, OUTPUT, WORK, lent).map_or_else(String::from, |answer| look(&answer, at));
+        let as_said = theirs == crate_row && ours == our_row;
+        wrong += usize::from(!as_said);
+        println!("| {row} | {theirs} | {ours} |{}", if as_said { "" } else { " NOT AS THE ROW SAYS" });
+    }
+    println!();
+    wrong
+}

@@ -1,0 +1,183 @@
+//! Markdown: what lies on the machine, and what is made up: nested lists and quotes, headings, links, code, HTML, tables, footnotes.
+
+use std::fs;
+use std::path::{Path, PathBuf};
+
+use crate::chance::Chance;
+
+fn gather(at: &Path, depth: usize, files: &mut Vec<PathBuf>) {
+    let Ok(entries) = fs::read_dir(at) else { return };
+    for entry in entries.flatten() {
+        let path = entry.path();
+        let Ok(kind) = entry.file_type() else { continue };
+        if kind.is_dir() && depth > 0 {
+            gather(&path, depth - 1, files);
+        } else if kind.is_file() && path.extension().is_some_and(|end| end == "md" || end == "markdown") {
+            files.push(path);
+        }
+    }
+}
+
+/// A document brought into the domain: no carriage return or vertical tab, tabs that lead a line as spaces, and a letter for all beyond ASCII.
+fn tamed(text: &str) -> Vec<u8> {
+    let mut out = vec![];
+    for line in text.split('\n') {
+        let mut leading = true;
+        for letter in line.chars() {
+            leading &= matches!(letter, ' ' | '\t' | '>' | '*' | '+' | '-' | '0'..='9' | '.' | ')');
+            match letter {
+                '\r' => (),
+                '\x0b' => out.push(b' '),
+                '\t' if leading => out.extend_from_slice(b"    "),
+                _ if letter.is_ascii() => out.push(letter as u8),
+                _ => out.push(b'x'),
+            }
+        }
+        out.push(b'\n');
+    }
+    out.pop();
+    out
+}
+
+/// The Markdown files under some directories, in pieces that fit a record, cut at blank lines; each once.
+pub fn found(directories: &[String]) -> (usize, Vec<Vec<u8>>) {
+    let mut files = vec![];
+    for directory in directories {
+        gather(Path::new(directory), 12, &mut files);
+    }
+    files.sort();
+    let mut pieces = vec![];
+    for file in &files {
+        let Ok(bytes) = fs::read(file) else { continue };
+        let text = tamed(&String::from_utf8_lossy(&bytes));
+        for most in [400, 2_500, 16_384] {
+            let mut piece: Vec<u8> = vec![];
+            for part in String::from_utf8_lossy(&text).split("\n\n") {
+                if piece.len() + part.len() + 2 > most && !piece.is_empty() {
+                    pieces.push(std::mem::take(&mut piece));
+                }
+                piece.extend_from_slice(part.as_bytes());
+                piece.extend_from_slice(b"\n\n");
+            }
+            pieces.push(piece);
+        }
+    }
+    pieces.sort();
+    pieces.dedup();
+    (files.len(), pieces)
+}
+
+#[rustfmt::skip]
+const INLINE: [&str; 46] = [
+    "a", "b c", "*", "*", "**", "**", "***", "_", "_", "__", "~", "~~", "~~", "`c`", "``", "[a](b)", "[", "](b)", "]", "![a](b \"t\")", "![", "<b>",
+    "</b>", "<a@b.c>", "<http://a.b>", "www.a.com", "a@b.cd", "https://a.b/_c_", "\\*", "\\", "&amp;", "&", "[^1]", "[a]", "[a][]", "  ", " ", " ",
+    ".", "(", ")", "\"", "!", "#", "$x$", "\t",
+];
+
+fn inline(chance: &mut Chance) -> String {
+    let mut line = String::from(*chance.pick(&["", "a", "b ", "*", "**a"]));
+    for _ in 0..chance.below(8) {
+        line.push_str(chance.pick::<&str>(&INLINE));
+    }
+    line
+}
+
+/// Some lines of Markdown, with `depth` levels of containers still allowed.
+fn blocks(chance: &mut Chance, depth: usize) -> Vec<String> {
+    let mut lines: Vec<String> = vec![];
+    for _ in 0..1 + chance.below(3) {
+        match chance.below(if depth > 0 { 20 } else { 10 }) {
+            0 | 1 => (0..1 + chance.below(2)).for_each(|_| lines.push(inline(chance))),
+            2 => {
+                let indent = " ".repeat(chance.below(4));
+                let close = *chance.pick(&["", "", " #", " ## ", "#", " # #"]);
+                lines.push(format!("{indent}{} {}{close}", "#".repeat(1 + chance.below(6)), inline(chance)));
+            }
+            3 => lines.push(String::new()),
+            4 => {
+                let fence = *chance.pick(&["```", "~~~", "````", "$$"]);
+                lines.push(format!("{fence}{}", chance.pick(&["", "rs", " a b"])));
+                (0..chance.below(3)).for_each(|_| lines.push((*chance.pick(&["code", "", "- a", "# b", "> c"])).into()));
+                if !chance.once_in(3) {
+                    lines.push(fence.into());
+                }
+            }
+            5 => lines.push(format!("    {}", chance.pick(&["code", "- a", "*b*"]))),
+            6 => lines.push((*chance.pick(&["<div>", "</div>", "<!--", "-->", "<script>", "<b>a</b>", "<?a", "<pre>"])).into()),
+            7 => lines.push((*chance.pick(&["***", "---", "- - -", "===", "* * *", "___"])).into()),
+            8 => lines
+                .push((*chance.pick(&["[a]: b", "[a]: b\n  \"t\"", "[^1]: note", "[^1]:\n\n    note", "|a|b|\n|-|-|\n|*c*|d|", "a|b\n-|-"])).into()),
+            9 => lines.push(" ".repeat(chance.below(7)) + *chance.pick(&["a", "-", "", "1.", ">", "#"])),
+            10..=15 => {
+                let mark = *chance.pick(&["-", "-", "*", "+", "1.", "2)", "10.", "1)"]);
+                for n in 0..1 + chance.below(3) {
+                    if n > 0 && chance.once_in(4) {
+                        lines.push(String::new());
+                    }
+                    let mark = if chance.once_in(8) { *chance.pick(&["-", "*", "3.", "4)"]) } else { mark };
+                    let gap = " ".repeat(if chance.once_in(6) { chance.below(7) } else { 1 });
+                    let indent = " ".repeat(if chance.once_in(5) { chance.below(4) } else { 0 });
+                    let width = indent.len() + mark.len() + gap.len();
+                    let inside = blocks(chance, depth - 1);
+                    for (i, line) in inside.join("\n").split('\n').enumerate() {
+                        if i == 0 {
+                            lines.push(format!("{indent}{mark}{gap}{line}"));
+                        } else if line.is_empty() {
+                            lines.push(String::new());
+                        } else {
+                            let back = if chance.once_in(10) { chance.below(width + 1) } else { 0 };
+                            lines.push(format!("{}{line}", " ".repeat(width - back)));
+                        }
+                    }
+                }
+            }
+            _ => {
+                let inside = blocks(chance, depth - 1);
+                for (i, line) in inside.join("\n").split('\n').enumerate() {
+                    if i > 0 && chance.once_in(10) {
+                        lines.push(line.into());
+                    } else {
+                        lines.push(format!("{}{line}", chance.pick(&["> ", "> ", "> ", ">", " > ", ">  "])));
+                    }
+                }
+            }
+        }
+    }
+    lines
+}
+
+/// A document made up, and at times hurt in a place or two.
+pub fn made(chance: &mut Chance) -> Vec<u8> {
+    let depth = *chance.pick(&[0, 1, 2, 2, 3, 4]);
+    let mut document = blocks(chance, depth).join("\n").into_bytes();
+    if chance.once_in(3) {
+        for _ in 0..1 + chance.below(3) {
+            let at = chance.below(document.len() + 1);
+            match chance.below(3) {
+                0 if at < document.len() => {
+                    document.remove(at);
+                }
+                1 => document.insert(at, *chance.pick(b"\n\n -*#>`_~1.")),
+                _ => {
+                    let to = (at + chance.below(6)).min(document.len());
+                    document.drain(at..to);
+                }
+            }
+        }
+    }
+    if chance.once_in(2) {
+        document.push(b'\n');
+    }
+    document
+}
+
+/// Containers within containers, beyond what a record allows.
+pub fn deep(chance: &mut Chance) -> Vec<u8> {
+    let levels = 20 + chance.below(50);
+    let mut document = vec![];
+    for _ in 0..levels {
+        document.extend_from_slice(chance.pick(&["> ", "- ", "1. "]).as_bytes());
+    }
+    document.extend_from_slice(chance.pick(&["a", "# *b*", "*c* **d**"]).as_bytes());
+    document
+}

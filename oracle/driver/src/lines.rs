@@ -1,0 +1,109 @@
+//! Lines for the four readers.
+
+use crate::answer::{Call, Question};
+use crate::chance::Chance;
+
+/// All byte strings up to a length over an alphabet, by number.
+pub struct Strings {
+    alphabet: &'static [u8],
+    pub count: usize,
+}
+
+impl Strings {
+    pub fn new(alphabet: &'static [u8], longest: u32) -> Strings {
+        let count = (0..=longest).map(|length| alphabet.len().pow(length)).sum();
+        Strings { alphabet, count }
+    }
+
+    pub fn get(&self, mut number: usize) -> Vec<u8> {
+        let base = self.alphabet.len();
+        let (mut length, mut some) = (0u32, 1);
+        while number >= some {
+            number -= some;
+            length += 1;
+            some = base.pow(length);
+        }
+        let mut string = vec![0; length as usize];
+        for byte in string.iter_mut().rev() {
+            *byte = self.alphabet[number % base];
+            number /= base;
+        }
+        string
+    }
+}
+
+fn some_of(chance: &mut Chance, letters: &[u8], most: usize, line: &mut Vec<u8>) {
+    for _ in 0..chance.below(most + 1) {
+        line.push(*chance.pick(letters));
+    }
+}
+
+/// A number that is small, or at an edge.
+fn size(chance: &mut Chance) -> usize {
+    match chance.below(12) {
+        0 => *chance.pick(&[16_383, 16_384, 16_385, u32::MAX as usize, usize::MAX, usize::MAX - 1]),
+        1 => chance.below(40),
+        _ => chance.below(8),
+    }
+}
+
+/// A line that may well be what the reader looks for.
+pub fn line(call: Call, chance: &mut Chance) -> Question {
+    let mut line = vec![];
+    let blank: &[u8] = if chance.once_in(12) { b" \t" } else { b" " };
+    let most = if chance.once_in(4) { 6 } else { 3 };
+    some_of(chance, blank, most, &mut line);
+    let tail: &[u8] = b"ab# -*+1.)\t\x0c\x00~_";
+    match call {
+        Call::SpaceOrTab | Call::Continuation => some_of(chance, b" ", 8, &mut line),
+        Call::ListItem => {
+            match chance.below(5) {
+                0 | 1 => line.push(*chance.pick(b"*+-")),
+                2 => some_of(chance, b"*-", 4, &mut line),
+                _ => {
+                    let most = if chance.once_in(3) { 11 } else { 3 };
+                    some_of(chance, b"0123456789", most, &mut line);
+                    line.push(*chance.pick(b".)"));
+                }
+            }
+            some_of(chance, b" ", 7, &mut line);
+            if chance.once_in(4) {
+                some_of(chance, b"*- ", 6, &mut line);
+            }
+        }
+        _ => {
+            let most = if chance.once_in(5) { 8 } else { 6 };
+            some_of(chance, b"#", most, &mut line);
+            some_of(chance, b" \t", 3, &mut line);
+            let words = chance.below(6);
+            for _ in 0..words {
+                some_of(chance, b"a#.", 4, &mut line);
+                some_of(chance, b" \t", 2, &mut line);
+            }
+        }
+    }
+    some_of(chance, tail, 5, &mut line);
+    if chance.once_in(2_000) {
+        let piece = *chance.pick::<&[u8]>(&[b" ", b"a", b" a", b" #", b"a ", b"- "]);
+        let to = *chance.pick(&[16_384, 16_383, 9_000]);
+        while line.len() + piece.len() <= to {
+            line.extend_from_slice(piece);
+        }
+    }
+    if chance.once_in(6) {
+        line.push(b'\n');
+        some_of(chance, tail, 5, &mut line);
+    }
+    let options = match chance.below(8) {
+        0 => chance.below(64) as u32,
+        1..=3 => 27,
+        _ => 59,
+    };
+    let arguments = match call {
+        Call::SpaceOrTab => [size(chance), size(chance), 0],
+        Call::ListItem => [chance.below(2), 0, 0],
+        Call::Continuation => [size(chance), chance.below(2), *chance.pick(b"*+-.)") as usize],
+        _ => [0; 3],
+    };
+    Question { call, input: line, options, arguments }
+}

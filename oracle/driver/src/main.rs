@@ -1,0 +1,289 @@
+//! Holds the static library against the crate markdown 1.0.0, and both against document 01 in plain Rust.
+//!
+//! `oracle/run` builds and runs it. Arguments: `--markdown DIR` (as often as wanted) adds Markdown files, `--scale N` divides the counts by N for a
+//! short run, `--differences FILE` names the list of known ones, `--store FILE` writes the stored list of the crate's answers and does nothing else. Status 1 if anything differs that is not listed.
+
+mod answer;
+mod chance;
+mod compare;
+mod damage;
+mod departures;
+mod documents;
+mod domain;
+mod library;
+mod lines;
+mod paper;
+mod records;
+mod store;
+mod tally;
+
+use std::io::Write;
+use std::sync::atomic::{AtomicBool, AtomicUsize, Ordering};
+use std::sync::Mutex;
+use std::time::{Duration, Instant};
+
+use answer::{Call, Question};
+use chance::Chance;
+use compare::{Bench, Markdown, BEHIND, CROSSED, FALLING, PANIC};
+use lines::Strings;
+use tally::{Source, Tally};
+
+const THREADS: usize = 2;
+const READERS: [Call; 4] = [Call::SpaceOrTab, Call::ListItem, Call::Continuation, Call::Heading];
+
+/// Kinds of difference that are known, by the number of their row in docs/DIFFERENCES.md.
+const LISTED: [(&str, &str); 3] = [("D12", BEHIND), ("D12", CROSSED), ("D13", FALLING)];
+
+struct Run {
+    tally: Tally,
+    start: Instant,
+    scale: usize,
+}
+
+impl Run {
+    /// Do `count` pieces of work, each known by its number alone, on two threads.
+    fn stage(&mut self, name: &str, count: usize, work: impl Fn(&mut Bench, usize) + Sync) {
+        let next = AtomicUsize::new(0);
+        let done = AtomicBool::new(false);
+        let tallies = Mutex::new(vec![]);
+        let clear = || eprint!("\r{:80}\r", "");
+        std::thread::scope(|scope| {
+            let workers: Vec<_> = (0..THREADS)
+                .map(|_| {
+                    scope.spawn(|| {
+                        let mut bench = Bench::new();
+                        loop {
+                            let from = next.fetch_add(256, Ordering::Relaxed);
+                            if from >= count {
+                                break;
+                            }
+                            (from..count.min(from + 256)).for_each(|i| work(&mut bench, i));
+                        }
+                        tallies.lock().unwrap().push(bench.tally);
+                    })
+                })
+                .collect();
+            scope.spawn(|| {
+                while !done.load(Ordering::Relaxed) {
+                    eprint!("\r{name}: {} of {count}, {:.0} s", next.load(Ordering::Relaxed).min(count), self.start.elapsed().as_secs_f64());
+                    let _shown = std::io::stderr().flush();
+                    std::thread::sleep(Duration::from_millis(50));
+                }
+            });
+            for worker in workers {
+                if worker.join().is_err() {
+                    eprintln!("\na worker of the driver itself panicked in: {name}");
+                    std::process::exit(2);
+                }
+            }
+            done.store(true, Ordering::Relaxed);
+        });
+        clear();
+        let before = self.tally.total();
+        tallies.into_inner().unwrap().into_iter().for_each(|tally| self.tally.add(tally));
+        let kinds = self.tally.differences.len();
+        println!(
+            "{name}: {} compared, {:.0} s; kinds of difference so far: {kinds}",
+            self.tally.total() - before,
+            self.start.elapsed().as_secs_f64()
+        );
+    }
+
+    /// A count for this run.
+    fn some(&self, count: usize) -> usize {
+        (count / self.scale).max(1)
+    }
+
+    /// All of a set of strings, or every so many of them in a short run.
+    fn strings(&mut self, name: &str, strings: &Strings, work: impl Fn(&mut Bench, Vec<u8>) + Sync) {
+        let scale = self.scale;
+        self.stage(name, strings.count / scale, |bench, i| work(bench, strings.get(i * scale)));
+    }
+}
+
+fn exhaustive(run: &mut Run) {
+    for (name, alphabet, longest) in [("texts of `*_ a.` to 7", &b"*_ a."[..], 7), ("texts of `*_~ a.` to 6", b"*_~ a.", 6)] {
+        run.strings(name, &Strings::new(alphabet, longest), |bench, text| {
+            (0..8).for_each(|options| bench.ask(&records::split(&text, options), Source::Exhaustive));
+        });
+    }
+    let put = |bench: &mut Bench, call: Call, line: &[u8], options: u32, arguments: [usize; 3]| {
+        bench.ask(&Question { call, input: line.to_vec(), options, arguments }, Source::Exhaustive);
+    };
+    run.strings("lines for space-or-tab", &Strings::new(b" a\n", 6), |bench, line| {
+        for (min, max) in (0..8).flat_map(|min| (0..8).map(move |max| (min, max))) {
+            put(bench, Call::SpaceOrTab, &line, 59, [min, max, 0]);
+        }
+    });
+    run.strings("lines for list items", &Strings::new(b" -*+10.)a\n", 6), |bench, line| {
+        for (options, interrupting) in [(59, 0), (59, 1), (27, 0), (27, 1)] {
+            put(bench, Call::ListItem, &line, options, [interrupting, 0, 0]);
+        }
+    });
+    run.strings("lines for list items, more marks", &Strings::new(b" -*\ta", 8), |bench, line| {
+        put(bench, Call::ListItem, &line, 59, [0, 0, 0]);
+    });
+    run.strings("lines for continuation", &Strings::new(b" a-\n\t", 6), |bench, line| {
+        for (size, blank) in (0..8).flat_map(|size| (0..2).map(move |blank| (size, blank))) {
+            put(bench, Call::Continuation, &line, 59, [size, blank, b'-' as usize]);
+        }
+    });
+    run.strings("lines for headings", &Strings::new(b"# a\t\n.", 6), |bench, line| {
+        for options in [59, 27, 51] {
+            put(bench, Call::Heading, &line, options, [0; 3]);
+        }
+    });
+    run.strings("headings, read and resolved", &Strings::new(b"# a.", 9), |bench, line| {
+        put(bench, Call::Heading, &line, 59, [0; 3]);
+        if let Some(events) = crate_side::heading(&line, bench.settings(59)) {
+            let input = crate_side::write_record(&line, &events);
+            bench.ask(&Question { call: Call::Headings, input, options: 59, arguments: [0; 3] }, Source::Exhaustive);
+        }
+    });
+    for (name, alphabet, longest) in [("documents of `-1. a\\n>` to 7", &b"-1. a\n>"[..], 7), ("documents of `*-# \\n` to 8", b"*-# \n", 8)] {
+        run.strings(name, &Strings::new(alphabet, longest), |bench, document| {
+            bench.watch(Markdown { bytes: &document, text_alone: false, more: false }, 59, Source::Exhaustive);
+        });
+    }
+}
+
+fn random(run: &mut Run) {
+    let many = run.some(600_000);
+    run.stage("random records for attention", many, |bench, i| {
+        bench.ask(&records::attention(&mut Chance::new(i as u64)), Source::Random);
+    });
+    let many = run.some(3_000);
+    run.stage("records for attention at the limits", many, |bench, i| {
+        bench.ask(&records::attention_at_limits(&mut Chance::new(1_000_000_000 + i as u64)), Source::Random);
+    });
+    let many = run.some(400_000);
+    run.stage("random texts", many, |bench, i| {
+        let chance = &mut Chance::new(2_000_000_000 + i as u64);
+        let length = match chance.below(500) {
+            0 => 1_500 + chance.below(500),
+            1..=20 => chance.below(200),
+            _ => chance.below(24),
+        };
+        let text = records::text(chance, length);
+        let options = chance.below(8) as u32;
+        bench.ask(&records::split(&text, options), Source::Random);
+        bench.watch(Markdown { bytes: &text, text_alone: true, more: false }, options | 56, Source::Random);
+    });
+    let many = run.some(1_000_000);
+    run.stage("random records for headings", many, |bench, i| {
+        bench.ask(&records::headings(&mut Chance::new(3_000_000_000 + i as u64)), Source::Random);
+    });
+    run.stage("random records for lists", many, |bench, i| {
+        let chance = &mut Chance::new(4_000_000_000 + i as u64);
+        let question = if chance.once_in(500) { records::lists_at_limits(chance) } else { records::lists(chance) };
+        bench.ask(&question, Source::Random);
+    });
+    let many = run.some(1_200_000);
+    for call in READERS {
+        run.stage(&format!("random lines for {}", call.name()), many, |bench, i| {
+            bench.ask(&lines::line(call, &mut Chance::new(5_000_000_000 + 8 * i as u64 + call as u64)), Source::Random);
+        });
+    }
+}
+
+fn captured(run: &mut Run, directories: &[String]) {
+    let (files, pieces) = documents::found(directories);
+    run.stage(&format!("Markdown found ({files} files, {} pieces)", pieces.len()), pieces.len() / run.scale, |bench, i| {
+        for (options, more) in [(63, false), (59, true), (31, false)] {
+            bench.watch(Markdown { bytes: &pieces[i], text_alone: false, more }, options, Source::Captured);
+        }
+    });
+    let many = run.some(400_000);
+    run.stage("Markdown made up", many, |bench, i| {
+        let chance = &mut Chance::new(6_000_000_000 + i as u64);
+        let document = if chance.once_in(400) { documents::deep(chance) } else { documents::made(chance) };
+        let options = *chance.pick(&[59, 63, 63, 27, 31, 57, 58, 51, 43]);
+        bench.watch(Markdown { bytes: &document, text_alone: false, more: chance.once_in(3) }, options, Source::Captured);
+    });
+}
+
+fn damaged(run: &mut Run) {
+    let many = run.some(3_000_000);
+    run.stage("damaged records", many, |bench, i| {
+        let (question, output, work) = damage::record(&mut Chance::new(7_000_000_000 + i as u64));
+        bench.ask_lengths(&question, Source::Damaged, output, work);
+    });
+    let many = run.some(2_000_000);
+    run.stage("damaged lines", many, |bench, i| {
+        let (question, output) = damage::line(&mut Chance::new(8_000_000_000 + i as u64));
+        bench.ask_lengths(&question, Source::Damaged, output, library::WORK);
+    });
+}
+
+/// A smaller document that shows the same kind of difference.
+fn shrink(kind: &str, found: &tally::Difference) -> tally::Difference {
+    let mut best = found.clone();
+    let Some((text_alone, more)) = found.again else { return best };
+    let mut width = best.input.len() / 2;
+    while width > 0 {
+        let mut at = 0;
+        while at + width <= best.input.len() {
+            let mut smaller = best.input.clone();
+            smaller.drain(at..at + width);
+            let mut bench = Bench::new();
+            for source in Source::ALL {
+                bench.watch(Markdown { bytes: &smaller, text_alone, more }, best.options, source);
+            }
+            match bench.tally.differences.remove(kind) {
+                Some(again) => best = tally::Difference { count: best.count, ..again },
+                None => at += width,
+            }
+        }
+        width /= 2;
+    }
+    best
+}
+
+fn main() {
+    let mut directories = vec![];
+    let mut scale = 1;
+    let mut rows = String::new();
+    let mut stored = None;
+    let mut arguments = std::env::args().skip(1);
+    while let Some(argument) = arguments.next() {
+        let mut value = || arguments.next().unwrap_or_else(|| panic!("{argument} wants a value"));
+        match argument.as_str() {
+            "--markdown" => directories.push(value()),
+            "--store" => stored = Some(value()),
+            "--differences" => rows = std::fs::read_to_string(value()).expect("the list of differences"),
+            "--scale" => scale = value().parse().expect("a number"),
+            other => panic!("no such argument: {other}"),
+        }
+    }
+    // The crate's panics are counted, not printed.
+    std::panic::set_hook(Box::new(|panic| {
+        if panic.location().is_some_and(|place| place.file().contains("driver")) {
+            eprintln!("\n{panic}");
+        }
+    }));
+    if let Some(file) = stored {
+        return store::store(&file);
+    }
+    let mut run = Run { tally: Tally::default(), start: Instant::now(), scale };
+    exhaustive(&mut run);
+    random(&mut run);
+    captured(&mut run, &directories);
+    damaged(&mut run);
+    println!();
+    run.tally.print();
+    let mut unlisted = departures::run();
+    for (kind, difference) in &run.tally.differences {
+        let listed = LISTED.iter().find(|(_, cause)| kind.contains(cause)).filter(|(number, _)| rows.contains(&format!("| {number} |")));
+        let note = match listed {
+            Some((number, _)) => format!("listed as {number}"),
+            None if kind == PANIC => "nothing to compare".into(),
+            None => {
+                unlisted += 1;
+                "NOT LISTED".into()
+            }
+        };
+        println!("{kind}: {} times, {note}; the smallest:\n    {}\n", difference.count, shrink(kind, difference).text);
+    }
+    println!("{} comparisons, {} kinds of difference not listed, {:.0} s", run.tally.total(), unlisted, run.start.elapsed().as_secs_f64());
+    std::process::exit(i32::from(unlisted > 0));
+}

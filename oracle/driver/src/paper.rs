@@ -1,0 +1,605 @@
+//! Document 01 in plain Rust: every call as its paragraphs say it, with lists and searches and no thought of speed.
+//!
+//! It is written from that document alone, apart from both sides that are compared. It says which refusal a record gets, which the crate cannot
+//! say, and how many candidates are tried, which the crate does not count.
+
+use crate::answer::{Answer, Call, Question};
+
+const WORK: usize = 65_536;
+const DOCUMENT: usize = 16_384;
+const EVENTS: usize = 2_048;
+const DEPTH: usize = 64;
+const RESULT: usize = 8_000;
+
+#[derive(Clone, Copy, PartialEq, Eq, Debug)]
+struct Event {
+    exit: bool,
+    name: u8,
+    place: usize,
+}
+
+struct Good<'a> {
+    document: &'a [u8],
+    events: Vec<Event>,
+}
+
+type Refused = (usize, usize);
+
+fn number_at(bytes: &[u8], at: usize) -> Option<usize> {
+    let four = bytes.get(at..at + 4)?;
+    Some(four.iter().rev().fold(0, |sum, byte| sum * 256 + *byte as usize))
+}
+
+/// Numbers 1 to 5, lowest number first, and the earliest place within a number.
+fn check(record: &[u8], options: u32, work: usize) -> Result<Good<'_>, Refused> {
+    if work < WORK {
+        return Err((1, 0));
+    }
+    if options > 63 {
+        return Err((2, 0));
+    }
+    let fits = |count: usize, limit: usize, end: usize| count <= limit && end <= record.len();
+    let bytes = number_at(record, 0).filter(|d| fits(*d, DOCUMENT, 4 + d)).ok_or((3, 0))?;
+    let start = 8 + bytes;
+    let count = number_at(record, 4 + bytes).filter(|e| fits(*e, EVENTS, start + 8 * e)).ok_or((3, 4 + bytes))?;
+    if record.len() > start + 8 * count {
+        return Err((3, start + 8 * count));
+    }
+    let document = &record[4..4 + bytes];
+    if let Some(offset) = document.iter().position(|byte| *byte == b'\r') {
+        return Err((4, 4 + offset));
+    }
+    let mut open: Vec<u8> = vec![];
+    let mut events: Vec<Event> = vec![];
+    for i in 0..count {
+        let here = (5, start + 8 * i);
+        let e = &record[start + 8 * i..start + 8 * i + 8];
+        let place = number_at(e, 4).unwrap();
+        if e[0] > 1 || e[1] > 24 || e[2] != 0 || e[3] != 0 || place > bytes || events.last().is_some_and(|before| place < before.place) {
+            return Err(here);
+        }
+        let event = Event { exit: e[0] == 1, name: e[1], place };
+        if event.exit {
+            if open.pop() != Some(event.name) {
+                return Err(here);
+            }
+        } else {
+            open.push(event.name);
+            if open.len() > DEPTH {
+                return Err(here);
+            }
+        }
+        events.push(event);
+    }
+    if !open.is_empty() {
+        return Err((5, record.len()));
+    }
+    Ok(Good { document, events })
+}
+
+/// Whether the event at `i` is an enter of one of these names that is left by the next event.
+fn is_leaf(events: &[Event], i: usize, names: &[u8]) -> bool {
+    i + 1 < events.len() && !events[i].exit && names.contains(&events[i].name) && events[i + 1].exit
+}
+
+/// The number of the exit for the enter at `i`.
+fn exit_of(events: &[Event], i: usize) -> usize {
+    let mut depth = 0;
+    for (j, event) in events.iter().enumerate().skip(i) {
+        depth = if event.exit { depth - 1 } else { depth + 1 };
+        if depth == 0 {
+            return j;
+        }
+    }
+    unreachable!("the record is balanced")
+}
+
+// Attention
+
+#[derive(Clone, Copy, PartialEq, Eq)]
+enum Class {
+    Whitespace,
+    Punctuation,
+    Other,
+}
+
+fn class(byte: Option<u8>) -> Class {
+    match byte {
+        None | Some(b'\t' | b'\n' | 12 | b' ') => Class::Whitespace,
+        Some(byte) if byte.is_ascii_punctuation() => Class::Punctuation,
+        Some(_) => Class::Other,
+    }
+}
+
+struct Run {
+    enter: usize,
+    start: usize,
+    whole: usize,
+    marker: u8,
+    container: Option<usize>,
+    open: bool,
+    close: bool,
+    /// Bytes given to groups that it closes, and to groups that it opens: sizes in match order.
+    closing: Vec<usize>,
+    opening: Vec<usize>,
+}
+
+impl Run {
+    fn left(&self) -> usize {
+        self.whole - self.closing.iter().sum::<usize>() - self.opening.iter().sum::<usize>()
+    }
+}
+
+fn run_holds(good: &Good, i: usize, options: u32) -> bool {
+    if !is_leaf(&good.events, i, &[1]) {
+        return false;
+    }
+    let (from, to) = (good.events[i].place, good.events[i + 1].place);
+    if to <= from {
+        return false;
+    }
+    let marker = good.document[from];
+    let option = match marker {
+        b'*' | b'_' => 1,
+        b'~' => 2,
+        _ => return false,
+    };
+    options & option != 0 && good.document[from..to].iter().all(|byte| *byte == marker) && good.document.get(to) != Some(&marker)
+}
+
+fn runs_of(good: &Good, options: u32) -> Vec<Run> {
+    let mut stack = vec![];
+    let mut runs = vec![];
+    for (i, event) in good.events.iter().enumerate() {
+        if event.name == 1 {
+            if !event.exit {
+                let (from, to) = (event.place, good.events[i + 1].place);
+                let marker = good.document[from];
+                let before = from.checked_sub(1).map(|at| good.document[at]);
+                let after = good.document.get(to).copied();
+                let beside = |byte: Option<u8>| marker != b'~' && (matches!(byte, Some(b'*' | b'_')) || options & 2 != 0 && byte == Some(b'~'));
+                let may = |one: Option<u8>, other: Option<u8>| {
+                    class(one) == Class::Other || class(one) == Class::Punctuation && class(other) != Class::Other || beside(one)
+                };
+                let (open, close) = (may(after, before), may(before, after));
+                let low = marker == b'_';
+                runs.push(Run {
+                    enter: i,
+                    start: from,
+                    whole: to - from,
+                    marker,
+                    container: stack.last().copied(),
+                    open: open && (!low || class(before) != Class::Other || !close),
+                    close: close && (!low || class(after) != Class::Other || !open),
+                    closing: vec![],
+                    opening: vec![],
+                });
+            }
+        } else if event.exit {
+            stack.pop();
+        } else {
+            stack.push(i);
+        }
+    }
+    runs
+}
+
+/// The plain rule: groups are noted in the runs; their number and the candidates tried are given back.
+fn match_runs(runs: &mut [Run], options: u32) -> (usize, usize) {
+    let (mut groups, mut tried) = (0, 0);
+    for c in 0..runs.len() {
+        while runs[c].close && runs[c].left() > 0 {
+            let mut found = None;
+            for o in (0..c).rev() {
+                let (opener, closer) = (&runs[o], &runs[c]);
+                if opener.left() == 0 || !opener.open || opener.marker != closer.marker || opener.container != closer.container {
+                    continue;
+                }
+                tried += 1;
+                let (a, b) = (opener.left(), closer.left());
+                let three = (opener.close || closer.open) && b % 3 != 0 && (a + b) % 3 == 0;
+                let tilde = closer.marker == b'~' && (a != b || b > 2 || b == 1 && options & 4 == 0);
+                if !three && !tilde {
+                    found = Some(o);
+                    break;
+                }
+            }
+            let Some(o) = found else { break };
+            let take = if runs[o].left() >= 2 && runs[c].left() >= 2 { 2 } else { 1 };
+            runs[o].opening.push(take);
+            runs[c].closing.push(take);
+            for run in &mut runs[o + 1..c] {
+                run.open = false;
+            }
+            groups += 1;
+        }
+    }
+    (groups, tried)
+}
+
+fn group_name(marker: u8, size: usize) -> u8 {
+    match (marker, size) {
+        (b'~', _) => 8,
+        (_, 1) => 2,
+        _ => 5,
+    }
+}
+
+fn put(out: &mut Vec<Event>, exit: bool, name: u8, place: usize) {
+    out.push(Event { exit, name, place });
+}
+
+fn attention(good: &Good, options: u32) -> Result<(Vec<Event>, usize, usize), Refused> {
+    for (i, event) in good.events.iter().enumerate() {
+        if event.name == 1 && !event.exit && !run_holds(good, i, options) {
+            return Err((6, 8 + good.document.len() + 8 * i));
+        }
+    }
+    let mut runs = runs_of(good, options);
+    let (groups, tried) = match_runs(&mut runs, options);
+    let mut out = vec![];
+    let mut next = runs.iter().peekable();
+    let mut i = 0;
+    while i < good.events.len() {
+        match next.next_if(|run| run.enter == i) {
+            None => {
+                out.push(good.events[i]);
+                i += 1;
+            }
+            Some(run) => {
+                let mut at = run.start;
+                for size in &run.closing {
+                    let group = group_name(run.marker, *size);
+                    put(&mut out, true, group + 2, at);
+                    put(&mut out, false, group + 1, at);
+                    at += size;
+                    put(&mut out, true, group + 1, at);
+                    put(&mut out, true, group, at);
+                }
+                if run.left() > 0 {
+                    put(&mut out, false, 0, at);
+                    at += run.left();
+                    put(&mut out, true, 0, at);
+                }
+                for size in run.opening.iter().rev() {
+                    let group = group_name(run.marker, *size);
+                    put(&mut out, false, group, at);
+                    put(&mut out, false, group + 1, at);
+                    at += size;
+                    put(&mut out, true, group + 1, at);
+                    put(&mut out, false, group + 2, at);
+                }
+                i += 2;
+            }
+        }
+    }
+    Ok((out, groups, tried))
+}
+
+// Headings
+
+fn heading_holds(events: &[Event], i: usize) -> bool {
+    let end = exit_of(events, i);
+    let mut at = i + 1;
+    if is_leaf(events, at, &[14]) {
+        at += 2;
+    }
+    if !is_leaf(events, at, &[12]) {
+        return false;
+    }
+    while at < end {
+        if !is_leaf(events, at, &[0, 12, 14]) {
+            return false;
+        }
+        at += 2;
+    }
+    true
+}
+
+fn headings(good: &Good) -> Result<Vec<Event>, Refused> {
+    let events = &good.events;
+    let is_heading = |i: usize| events[i].name == 11 && !events[i].exit;
+    if let Some(i) = (0..events.len()).find(|i| is_heading(*i) && !heading_holds(events, *i)) {
+        return Err((6, 8 + good.document.len() + 8 * i));
+    }
+    let mut out = vec![];
+    let mut i = 0;
+    while i < events.len() {
+        if !is_heading(i) {
+            out.push(events[i]);
+            i += 1;
+            continue;
+        }
+        let inside = i..exit_of(events, i) + 1;
+        let first = inside.clone().find(|j| events[*j].name == 0 && !events[*j].exit);
+        let last = inside.clone().rev().find(|j| events[*j].name == 0 && events[*j].exit);
+        i = inside.end;
+        match (first, last) {
+            (Some(first), Some(last)) => {
+                out.extend_from_slice(&events[inside.start..first]);
+                put(&mut out, false, 13, events[first].place);
+                out.push(events[first]);
+                out.push(events[last]);
+                put(&mut out, true, 13, events[last].place);
+                out.extend_from_slice(&events[last + 1..inside.end]);
+            }
+            _ => out.extend_from_slice(&events[inside]),
+        }
+    }
+    Ok(out)
+}
+
+// Lists
+
+/// The mark of the item that enters at `i`, if its shape holds.
+fn mark_of(good: &Good, i: usize) -> Option<u8> {
+    let events = &good.events;
+    let mut at = i + 1;
+    if is_leaf(events, at, &[14]) {
+        at += 2;
+    }
+    if events[at].exit || events[at].name != 16 {
+        return None;
+    }
+    let end = exit_of(events, at);
+    at += 1;
+    if is_leaf(events, at, &[18]) {
+        at += 2;
+    }
+    if !is_leaf(events, at, &[17]) || events[at + 1].place != events[at].place + 1 {
+        return None;
+    }
+    let mark = good.document[events[at].place];
+    at += 2;
+    if is_leaf(events, at, &[14]) {
+        at += 2;
+    }
+    (at == end && b"*+-.)".contains(&mark)).then_some(mark)
+}
+
+fn lists(good: &Good) -> Result<Vec<Event>, Refused> {
+    let events = &good.events;
+    let is_item = |i: usize| events[i].name == 15 && !events[i].exit;
+    let mut marks = vec![0; events.len()];
+    for i in (0..events.len()).filter(|i| is_item(*i)) {
+        let behind = i > 0 && events[i - 1].name == 15 && events[i - 1].exit;
+        match mark_of(good, i) {
+            Some(mark) if !behind => marks[i] = mark,
+            _ => return Err((6, 8 + good.document.len() + 8 * i)),
+        }
+    }
+    // For each item, the sibling it joins: the nearest item before it with nothing between but whole 14, 21, 22, 23 holding no item.
+    let mut first = vec![false; events.len()];
+    let mut last = vec![false; events.len()];
+    for i in (0..events.len()).filter(|i| is_item(*i)) {
+        (first[i], last[exit_of(events, i)]) = (true, true);
+    }
+    for i in (0..events.len()).filter(|i| is_item(*i)) {
+        let end = exit_of(events, i);
+        let mut at = end + 1;
+        while at < events.len() && !events[at].exit && [14, 21, 22, 23].contains(&events[at].name) {
+            let over = exit_of(events, at);
+            if (at..over).any(is_item) {
+                break;
+            }
+            at = over + 1;
+        }
+        if at < events.len() && is_item(at) && marks[at] == marks[i] {
+            last[end] = false;
+            first[at] = false;
+        }
+    }
+    let mut out = vec![];
+    // Which list is open at each level of items.
+    let mut open: Vec<u8> = vec![];
+    let mut stack: Vec<usize> = vec![];
+    for (i, event) in events.iter().enumerate() {
+        if is_item(i) {
+            let name = if matches!(marks[i], b'.' | b')') { 19 } else { 20 };
+            if first[i] {
+                put(&mut out, false, name, event.place);
+            }
+            open.push(name);
+        }
+        if !event.exit {
+            stack.push(i);
+        }
+        out.push(*event);
+        if event.exit {
+            let enter = stack.pop().unwrap();
+            if is_item(enter) {
+                let name = open.pop().unwrap();
+                if last[i] {
+                    put(&mut out, true, name, event.place);
+                }
+            }
+        }
+    }
+    Ok(out)
+}
+
+// Lines
+
+fn is_blank(byte: &u8) -> bool {
+    matches!(byte, b' ' | b'\t')
+}
+
+fn blanks(bytes: &[u8], most: usize) -> usize {
+    bytes.iter().take_while(|byte| is_blank(byte)).count().min(most)
+}
+
+/// Numbers 2, 3 and 4, and the line up to its first line feed.
+fn line_of(line: &[u8], options: u32) -> Result<&[u8], Refused> {
+    if options > 63 {
+        return Err((2, 0));
+    }
+    if line.len() > DOCUMENT {
+        return Err((3, DOCUMENT));
+    }
+    if let Some(at) = line.iter().position(|byte| *byte == b'\r') {
+        return Err((4, at));
+    }
+    Ok(line.split(|byte| *byte == b'\n').next().unwrap())
+}
+
+fn indentation(line: &[u8], options: u32) -> usize {
+    blanks(line, if options & 32 != 0 { 3 } else { usize::MAX })
+}
+
+/// Bytes taken, size, flag and mark.
+fn list_item(line: &[u8], options: u32, interrupting: bool) -> Option<[usize; 4]> {
+    if options & 16 == 0 {
+        return None;
+    }
+    let from = &line[indentation(line, options)..];
+    let digits = from.iter().take_while(|byte| byte.is_ascii_digit()).count();
+    let mark = *from.get(digits)?;
+    match mark {
+        b'*' | b'-' if digits == 0 => {
+            let marks = from.iter().filter(|byte| **byte == mark).count();
+            if marks >= 3 && from.iter().all(|byte| *byte == mark || is_blank(byte)) {
+                return None;
+            }
+        }
+        b'+' if digits == 0 => (),
+        b'.' | b')' if (1..=9).contains(&digits) => {
+            if interrupting && &from[..digits] != b"1" {
+                return None;
+            }
+        }
+        _ => return None,
+    }
+    let marker = line.len() - from.len() + digits + 1;
+    let rest = &line[marker..];
+    let (taken, size, blank) = match blanks(rest, usize::MAX) {
+        all if all == rest.len() && interrupting => return None,
+        all if all == rest.len() => (marker, marker + 1, 1),
+        0 => return None,
+        few @ 1..=4 => (marker + few, marker + few, 0),
+        _ => (marker + 1, marker + 1, 0),
+    };
+    Some([taken, size, blank, mark as usize])
+}
+
+/// Whether it goes on, the bytes taken, and the flag.
+fn continuation(line: &[u8], size: usize, blank: bool) -> [usize; 3] {
+    let there = blanks(line, usize::MAX);
+    if there == line.len() {
+        return if blank { [0, 0, 1] } else { [1, there.min(size), 0] };
+    }
+    if there > 0 && there >= size {
+        [1, size, 0]
+    } else {
+        [0, 0, 0]
+    }
+}
+
+fn heading(line: &[u8], options: u32) -> Option<Vec<Event>> {
+    if options & 8 == 0 {
+        return None;
+    }
+    let mut out = vec![];
+    let pair = |out: &mut Vec<Event>, name: u8, from: usize, to: usize| {
+        put(out, false, name, from);
+        put(out, true, name, to);
+    };
+    put(&mut out, false, 11, 0);
+    let mut at = indentation(line, options);
+    if at > 0 {
+        pair(&mut out, 14, 0, at);
+    }
+    let hashes = |at: usize| line[at..].iter().take_while(|byte| **byte == b'#').count();
+    let opening = hashes(at);
+    if !(1..=6).contains(&opening) || line.get(at + opening).is_some_and(|byte| !is_blank(byte)) {
+        return None;
+    }
+    pair(&mut out, 12, at, at + opening);
+    at += opening;
+    while at < line.len() {
+        let before = at;
+        let name = match line[at] {
+            b' ' | b'\t' => {
+                at += blanks(&line[at..], usize::MAX);
+                14
+            }
+            b'#' if is_blank(&line[at - 1]) => {
+                at += hashes(at);
+                12
+            }
+            _ => {
+                at += line[at..].iter().take_while(|byte| !is_blank(byte)).count();
+                0
+            }
+        };
+        pair(&mut out, name, before, at);
+    }
+    put(&mut out, true, 11, at);
+    Some(out)
+}
+
+// The calls
+
+fn section(events: &[Event]) -> Vec<u8> {
+    let mut bytes = (events.len() as u32).to_le_bytes().to_vec();
+    for event in events {
+        bytes.extend_from_slice(&[u8::from(event.exit), event.name, 0, 0]);
+        bytes.extend_from_slice(&(event.place as u32).to_le_bytes());
+    }
+    bytes
+}
+
+/// Numbers 7 and 8.
+fn written(events: Vec<Event>, output: usize, answer: Answer) -> Answer {
+    if events.len() > RESULT {
+        return Answer::refused(7, 0);
+    }
+    if output < 4 + 8 * events.len() {
+        return Answer::refused(8, 0);
+    }
+    Answer { section: section(&events), ..answer }
+}
+
+/// The answer to a question with an output and a work memory of these lengths.
+pub fn answer(question: &Question, output: usize, work: usize) -> Answer {
+    let Question { call, input, options, arguments } = question;
+    let tried = || -> Result<Answer, Refused> {
+        Ok(match call {
+            Call::Read => {
+                let good = check(input, *options, work)?;
+                Answer::of(&[good.document.len(), good.events.len()])
+            }
+            Call::Attention => {
+                let (events, groups, tried) = attention(&check(input, *options, work)?, *options)?;
+                let numbers = Answer::of(&[events.len(), groups, tried]);
+                written(events, output, numbers)
+            }
+            Call::Headings | Call::Lists => {
+                let good = check(input, *options, work)?;
+                let events = if *call == Call::Headings { headings(&good)? } else { lists(&good)? };
+                let numbers = Answer::of(&[events.len(), 0, 0]);
+                written(events, output, numbers)
+            }
+            Call::SpaceOrTab => {
+                let taken = blanks(line_of(input, *options)?, arguments[1]);
+                if taken >= arguments[0] {
+                    Answer::of(&[1, taken])
+                } else {
+                    Answer::default()
+                }
+            }
+            Call::ListItem => match list_item(line_of(input, *options)?, *options, arguments[0] != 0) {
+                Some([taken, size, blank, mark]) => Answer::of(&[1, taken, size, blank, mark]),
+                None => Answer::default(),
+            },
+            Call::Continuation => Answer::of(&continuation(line_of(input, *options)?, arguments[0], arguments[1] != 0)),
+            Call::Heading => match heading(line_of(input, *options)?, *options) {
+                Some(events) => {
+                    let numbers = Answer::of(&[1, events.len()]);
+                    written(events, output, numbers)
+                }
+                None => Answer::default(),
+            },
+        })
+    };
+    tried().unwrap_or_else(|(number, place)| Answer::refused(number, place))
+}

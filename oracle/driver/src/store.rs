@@ -1,0 +1,281 @@
+//! The stored list: a few thousand questions with the crate's answers, for the program that replays them against this library.
+//!
+//! Every answer is the crate's. Document 01 in plain Rust only says which questions are left out: those that are refused. An entry is numbers of
+//! four bytes, little endian: the call, the options, three arguments, the input's length and its bytes, five numbers of the answer, the section's
+//! length and its bytes.
+
+use std::collections::BTreeSet;
+use std::panic::{catch_unwind, AssertUnwindSafe};
+
+use crate::answer::{Answer, Call, Question};
+use crate::chance::Chance;
+use crate::compare::{call_of, crate_line, parts_of, resolved, resolver_of};
+use crate::library::{OUTPUT, WORK};
+use crate::lines::{self, Strings};
+use crate::{documents, domain, paper, records};
+use crate_side::{write_record, Event, Settings};
+
+/// Texts that document 01 and docs/DIFFERENCES.md speak of, and their neighbours.
+#[rustfmt::skip]
+const TEXTS: [&str; 54] = [
+    "*a*", "**a*", "*a**", "***a***", "a**b*c", "a***b***c", "a_b_c", "~~~a~~~", "*a _b* c_", "~a~", "~~a~~", "a*_b_*", "****a** b*c", "a*\0*",
+    "a~~*b*~~", "a*~~b~~*", "_a__*", "*_a__", "**", "*", "", "* a *", "*a *", "*(*a*)*", "_(_a_)_", "**a**b**", "***a** b*", "*a **b***", "*a*b*c*",
+    "_a_b_c_", "*a\n*b*", "*\x0ca*", "*\ta*", "a*\"b\"*", "*.a.*", "_.a._", "__a__", "_a*b_c*", "~~a~", "~a~~", "~a ~~b~~ c~", "~~a~~b~~",
+    "*****a*****", "******a******", "**a***b*", "*a**b*", "*a**b**c*", "***a*b**", "a *** b", "\x7f*a*\x7f", "__a_b__", "~*a*~", "*~a~*",
+    "*a* *b* _c_ __d__ ~~e~~",
+];
+
+/// Documents that bring out what the three resolvers do.
+#[rustfmt::skip]
+const DOCUMENTS: [&str; 28] = [
+    "- a\n- b\n- c", "- a\n* b\n+ c", "1. a\n2. b\n3) c", "- a\n\n- b\n\n\n- c", "- a\n  - b\n    - c\n  - d\n- e", "> - a\n> - b\n\n> - c",
+    "- > a\n- > b", "- - - a\n- - b", "-\n- a\n-\n\n  b", "1. a\n   - b\n\n   - c\n2. d", "* a\n\n  # *b* #\n* c",
+    "# a\n## b ##\n### c # d\n#\n# #\n", "# #a\n# a # #\n# a#\n", "> # *a*\n> b\n\n# `c` [d](e) **f**", "- [ ] a\n- [x] b", "*a [b *c](d) e*\n",
+    "*a `b* c` d*", "*a <b *c*> d*", "**a [*b*](c) d**", "![*a*](b) *c*", "*a\nb*\nc **d\n> e**\n", "~~a *b~~ c*", "a | *b*\n- | -\n_c_ | **d**",
+    "[^1]: *a*\n\nb[^1] *c*", "<div>\n*a*\n\n*b*\n</div>", "    *a*\n\n*b*", "\\*a* *b\\*", "*a&amp;*b*",
+];
+
+fn attention(put: &mut Vec<Question>) {
+    for text in TEXTS {
+        for options in [1, 3, 7, 59, 63] {
+            put.push(records::split(text.as_bytes(), options));
+        }
+    }
+    let strings = Strings::new(b"*_~ a.", 4);
+    for i in 0..strings.count {
+        let text = strings.get(i);
+        if i < 259 || i % 4 == 1 {
+            put.push(records::split(&text, [1, 3, 7][i % 3]));
+        }
+    }
+    // Runs in, beside and across a container of every name.
+    for name in (0..25).filter(|name| *name != 1) {
+        let event = |exit: bool, name: u8, place: u32| Event { exit, name, place };
+        let run = |at: u32| [event(false, 1, at), event(true, 1, at + 1)];
+        let inside = [vec![event(false, name, 0)], run(1).to_vec(), run(3).to_vec(), vec![event(true, name, 5)]].concat();
+        let across = [run(1).to_vec(), vec![event(false, name, 2)], run(3).to_vec(), vec![event(true, name, 5)]].concat();
+        let beside = [
+            vec![event(false, name, 0)],
+            run(1).to_vec(),
+            vec![event(true, name, 2), event(false, name, 2)],
+            run(3).to_vec(),
+            vec![event(true, name, 5)],
+        ]
+        .concat();
+        let round = [run(1).to_vec(), vec![event(false, name, 2), event(true, name, 3)], run(3).to_vec()].concat();
+        for events in [inside, across, beside, round] {
+            put.push(Question { call: Call::Attention, input: write_record(b"[*a*]", &events), options: 59, arguments: [0; 3] });
+        }
+    }
+    let chance = &mut Chance::new(91);
+    for _ in 0..400 {
+        let length = chance.below_or(20, 8, 80);
+        let text = records::text(chance, length);
+        let options = chance.below(8) as u32;
+        put.push(records::split(&text, options));
+    }
+    while put.len() < 1_500 {
+        let question = records::attention(chance);
+        if question.input.len() < 500 {
+            put.push(question);
+        }
+    }
+    // The largest that are accepted: 1,024 runs, containers 63 deep, 1,000 groups and a result of 8,000 events.
+    for (marker, size, between) in [("*", 1, "a "), ("*", 1, " a"), ("_", 1, "a"), ("*", 2, "a")] {
+        put.push(records::split((marker.repeat(size) + between).repeat(if between == "a" { 500 } else { 1_024 }).as_bytes(), 59));
+    }
+    let deep = |levels: u32| {
+        let mut events: Vec<Event> = (0..levels).map(|_| Event { exit: false, name: 24, place: 0 }).collect();
+        for (exit, name, place) in [(false, 1, 0), (true, 1, 1), (false, 0, 1), (true, 0, 2), (false, 1, 2), (true, 1, 3)] {
+            events.push(Event { exit, name, place });
+        }
+        events.extend((0..levels).map(|_| Event { exit: true, name: 24, place: 3 }));
+        Question { call: Call::Attention, input: write_record(b"*a*", &events), options: 59, arguments: [0; 3] }
+    };
+    put.extend([1, 62, 63].map(deep));
+    // Two runs of 2,000 markers and no Data between: 1,000 groups, and a result of 8,000 events.
+    let text = "*".repeat(2_000) + "a" + &"*".repeat(2_000);
+    let places = [(false, 0), (true, 2_000), (false, 2_001), (true, 4_001)];
+    let input = write_record(text.as_bytes(), &places.map(|(exit, place)| Event { exit, name: 1, place }));
+    put.push(Question { call: Call::Attention, input, options: 59, arguments: [0; 3] });
+}
+
+/// What the crate's resolvers are given when it parses some documents.
+fn captured(put: &mut Vec<Question>) {
+    let settings: Vec<Settings> = (0..64).map(Settings::new).collect();
+    let mut watch = |document: &[u8], options: u32| {
+        let text = std::str::from_utf8(document).unwrap();
+        let seen = catch_unwind(AssertUnwindSafe(|| crate_side::watch_document(text, &settings[options as usize]))).unwrap_or_default();
+        for one in seen.into_iter().filter(|one| !one.within_tab && !one.edits_before && one.before.len() < 64) {
+            put.push(Question { call: call_of(one.which), input: write_record(document, &one.before), options, arguments: [0; 3] });
+        }
+    };
+    for document in DOCUMENTS {
+        watch(document.as_bytes(), 59);
+        watch(document.as_bytes(), 63);
+    }
+    let chance = &mut Chance::new(92);
+    for _ in 0..450 {
+        let document = documents::made(chance);
+        if document.len() < 250 {
+            watch(&document, *chance.pick(&[59, 63, 27, 51]));
+        }
+    }
+}
+
+fn headings(put: &mut Vec<Question>) {
+    let settings = Settings::new(59);
+    let strings = Strings::new(b"# a.", 6);
+    for i in 0..strings.count {
+        let line = strings.get(i);
+        if i % 3 != 0 && line.len() > 4 {
+            continue;
+        }
+        if let Some(events) = crate_side::heading(&line, &settings) {
+            put.push(Question { call: Call::Headings, input: write_record(&line, &events), options: 59, arguments: [0; 3] });
+        }
+    }
+    let chance = &mut Chance::new(93);
+    put.extend((0..300).map(|_| records::headings(chance)).filter(|question| question.input.len() < 600));
+    // A heading of as many events as a record holds.
+    let line = [b"# ".to_vec(), b"a ".repeat(510)].concat();
+    let events = crate_side::heading(&line, &settings).expect("a heading");
+    put.push(Question { call: Call::Headings, input: write_record(&line, &events), options: 59, arguments: [0; 3] });
+}
+
+fn lists(put: &mut Vec<Question>) {
+    let chance = &mut Chance::new(94);
+    put.extend((0..600).map(|_| records::lists(chance)).filter(|question| question.input.len() < 700));
+    put.extend((0..3).map(|_| records::lists_at_limits(chance)));
+    // The longest list: 256 items.
+    let mut events = vec![];
+    for i in 0..256u32 {
+        for (exit, name, place) in
+            [(false, 15, 0), (false, 16, 0), (false, 17, 0), (true, 17, 1), (true, 16, 1), (true, 15, 1), (false, 21, 1), (true, 21, 2)]
+        {
+            events.push(Event { exit, name, place: 2 * i + place });
+        }
+    }
+    put.push(Question { call: Call::Lists, input: write_record(&b"-\n".repeat(256), &events), options: 59, arguments: [0; 3] });
+}
+
+fn readers(put: &mut Vec<Question>) {
+    let mut line = |call: Call, input: &[u8], options: u32, arguments: [usize; 3]| {
+        put.push(Question { call, input: input.to_vec(), options, arguments });
+    };
+    let strings = Strings::new(b" a\n", 3);
+    for i in 0..strings.count {
+        for (min, max) in [(0, 0), (0, 1), (1, 1), (1, 3), (2, 1), (3, 4), (0, 9)] {
+            line(Call::SpaceOrTab, &strings.get(i), 59, [min, max, 0]);
+        }
+    }
+    let rests = ["", "a", "- -", "-\n-"];
+    for indentation in 0..6 {
+        for mark in ["-", "*", "+", "1.", "1)", "01.", "2.", "123456789.", "1234567890.", ".", "-*", "1-"] {
+            for blanks in 0..7 {
+                // A sample of the whole table, another part of it for each mark.
+                let number = indentation * 7 + blanks;
+                for (i, rest) in rests.iter().enumerate() {
+                    if (number + i + mark.len()) % 4 == 0 {
+                        let text = " ".repeat(indentation) + mark + &" ".repeat(blanks) + rest;
+                        line(Call::ListItem, text.as_bytes(), if number % 2 == 0 { 59 } else { 27 }, [(number / 2 + i) % 2, 0, 0]);
+                    }
+                }
+            }
+        }
+    }
+    for text in ["- - -", "***", "* * *", "--", "- -", "---a", "+ + +", "_ _ _", "- - - \n", "  ---", "-\n", "1.\n", "- a\nb"] {
+        for arguments in [[0, 0, 0], [1, 0, 0]] {
+            line(Call::ListItem, text.as_bytes(), 59, arguments);
+            line(Call::ListItem, text.as_bytes(), 43, arguments);
+        }
+    }
+    for blanks in 0..7 {
+        for rest in ["", "a", "\n", "\na", "-"] {
+            for size in [0, 1, 2, 5, 9] {
+                for flag in [0, 1] {
+                    line(Call::Continuation, (" ".repeat(blanks) + rest).as_bytes(), 59, [size, flag, b'-' as usize]);
+                }
+            }
+        }
+    }
+    for indentation in 0..5 {
+        for hashes in 0..8 {
+            for rest in ["", " ", "a", " a", " a #", " #a", " a # #", "\ta\t#\t", " a#b ##\nc"] {
+                let text = " ".repeat(indentation) + &"#".repeat(hashes) + rest;
+                line(Call::Heading, text.as_bytes(), if (indentation + hashes) % 3 == 0 { 27 } else { 59 }, [0; 3]);
+            }
+        }
+    }
+    line(Call::Heading, b"# a", 51, [0; 3]);
+    line(Call::Heading, &[b"# ".to_vec(), b"#a ".repeat(800)].concat(), 59, [0; 3]);
+    line(Call::SpaceOrTab, &b" ".repeat(16_384), 59, [16_384, 16_384, 0]);
+    line(Call::ListItem, &[b"- ".to_vec(), b"a".repeat(16_382)].concat(), 59, [0; 3]);
+    let chance = &mut Chance::new(95);
+    for call in [Call::SpaceOrTab, Call::ListItem, Call::Continuation, Call::Heading] {
+        let some = (0..100).map(|_| lines::line(call, chance));
+        // An argument has four bytes in an entry.
+        put.extend(some.filter(|question| question.input.len() < 1_000 && question.arguments.iter().all(|one| *one <= u32::MAX as usize)));
+    }
+}
+
+/// The crate's answer, if the question lies in the domain and is not refused.
+fn crate_answer(question: &Question, settings: &[Settings]) -> Option<Answer> {
+    if paper::answer(question, OUTPUT, WORK).numbers[0] != 0 {
+        return None;
+    }
+    let settings = &settings[question.options as usize];
+    match question.call {
+        Call::Attention | Call::Headings | Call::Lists => {
+            let (document, before) = parts_of(&question.input);
+            if domain::document_outside(document).is_some() {
+                return None;
+            }
+            let after = crate_side::resolve(resolver_of(question.call), document, &before, settings);
+            Some(resolved(question.call, &before, &after, 0))
+        }
+        _ => domain::line_outside(question.call, &question.input).is_none().then(|| crate_line(question, settings)),
+    }
+}
+
+/// Write the list. Its counts are printed.
+pub fn store(file: &str) {
+    let mut questions = vec![];
+    let parts: [fn(&mut Vec<Question>); 5] = [attention, headings, lists, captured, readers];
+    for part in parts {
+        let mut put = vec![];
+        part(&mut put);
+        questions.append(&mut put);
+    }
+    questions.sort_by_key(|question| question.call);
+    let settings: Vec<Settings> = (0..64).map(Settings::new).collect();
+    let mut seen = BTreeSet::new();
+    let mut bytes: Vec<u8> = vec![];
+    let mut counts = [0usize; 8];
+    for question in &questions {
+        if !seen.insert((question.call, question.options, question.arguments, question.input.clone())) {
+            continue;
+        }
+        let Some(answer) = crate_answer(question, &settings) else { continue };
+        counts[question.call as usize] += 1;
+        let number = |bytes: &mut Vec<u8>, value: usize| bytes.extend_from_slice(&(value as u32).to_le_bytes());
+        number(&mut bytes, question.call as usize - Call::Attention as usize);
+        number(&mut bytes, question.options as usize);
+        question.arguments.iter().for_each(|argument| number(&mut bytes, *argument));
+        number(&mut bytes, question.input.len());
+        bytes.extend_from_slice(&question.input);
+        // Of a resolver the crate says how many events it leaves; groups and candidates tried are not in its answer.
+        let values = match question.call {
+            Call::Attention | Call::Headings | Call::Lists => [answer.numbers[2], 0, 0, 0, 0],
+            _ => [answer.numbers[2], answer.numbers[3], answer.numbers[4], answer.numbers[5], answer.numbers[6]],
+        };
+        values.iter().for_each(|value| number(&mut bytes, *value));
+        number(&mut bytes, answer.section.len());
+        bytes.extend_from_slice(&answer.section);
+    }
+    std::fs::write(file, &bytes).expect("the stored list can be written");
+    for call in &Call::ALL[1..] {
+        println!("{}: {}", call.name(), counts[*call as usize]);
+    }
+    println!("{} answers, {} bytes", counts.iter().sum::<usize>(), bytes.len());
+}

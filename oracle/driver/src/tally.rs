@@ -1,0 +1,94 @@
+//! What was compared, what was not and why, and the smallest input of each kind of difference.
+
+use crate::answer::Call;
+use std::collections::BTreeMap;
+
+/// Where an input comes from.
+#[derive(Clone, Copy, Debug, PartialEq, Eq, PartialOrd, Ord)]
+pub enum Source {
+    Exhaustive,
+    Random,
+    Captured,
+    Damaged,
+}
+
+impl Source {
+    pub const ALL: [Source; 4] = [Source::Exhaustive, Source::Random, Source::Captured, Source::Damaged];
+}
+
+#[derive(Clone, Debug)]
+pub struct Difference {
+    pub count: u64,
+    /// The bytes that show it: a document if it was captured, else a record or a line.
+    pub input: Vec<u8>,
+    pub options: u32,
+    pub text: String,
+    /// If it was captured, how the document was taken, so that a smaller one can be looked at the same way: as text alone, with math and frontmatter.
+    pub again: Option<(bool, bool)>,
+}
+
+#[derive(Default)]
+pub struct Tally {
+    pub compared: BTreeMap<(Call, Source), u64>,
+    /// Refusals, which only document 01 can say.
+    pub refused: BTreeMap<(Call, usize), u64>,
+    pub skipped: BTreeMap<(Call, &'static str), u64>,
+    pub panics: BTreeMap<(Call, Source), u64>,
+    pub differences: BTreeMap<String, Difference>,
+}
+
+impl Tally {
+    pub fn differ(&mut self, kind: String, found: Difference) {
+        let known = self.differences.entry(kind).or_insert_with(|| Difference { count: 0, ..found.clone() });
+        let count = known.count + found.count;
+        if found.input.len() < known.input.len() {
+            *known = found;
+        }
+        known.count = count;
+    }
+
+    pub fn add(&mut self, other: Tally) {
+        for (key, count) in other.compared {
+            *self.compared.entry(key).or_default() += count;
+        }
+        for (key, count) in other.refused {
+            *self.refused.entry(key).or_default() += count;
+        }
+        for (key, count) in other.skipped {
+            *self.skipped.entry(key).or_default() += count;
+        }
+        for (key, count) in other.panics {
+            *self.panics.entry(key).or_default() += count;
+        }
+        for (kind, difference) in other.differences {
+            self.differ(kind, difference);
+        }
+    }
+
+    pub fn total(&self) -> u64 {
+        self.compared.values().sum()
+    }
+
+    pub fn print(&self) {
+        println!("| call | exhaustive | random | captured | damaged | in all | crate panics |");
+        println!("|---|---|---|---|---|---|---|");
+        for call in Call::ALL {
+            let counts: Vec<u64> = Source::ALL.iter().map(|source| self.compared.get(&(call, *source)).copied().unwrap_or(0)).collect();
+            let panics: u64 = Source::ALL.iter().filter_map(|source| self.panics.get(&(call, *source))).sum();
+            let cells: Vec<String> = counts.iter().map(u64::to_string).collect();
+            println!("| {} | {} | {} | {} |", call.name(), cells.join(" | "), counts.iter().sum::<u64>(), panics);
+        }
+        println!("\nRefusals among them, by number: compared with document 01 alone.\n");
+        println!("| call | 1 | 2 | 3 | 4 | 5 | 6 | 7 | 8 |\n|---|---|---|---|---|---|---|---|---|");
+        for call in Call::ALL {
+            let cells: Vec<String> = (1..=8).map(|number| self.refused.get(&(call, number)).copied().unwrap_or(0).to_string()).collect();
+            println!("| {} | {} |", call.name(), cells.join(" | "));
+        }
+        println!("\nNot compared with the crate, by reason.\n");
+        println!("| call | reason | inputs |\n|---|---|---|");
+        for ((call, reason), count) in &self.skipped {
+            println!("| {} | {} | {} |", call.name(), reason, count);
+        }
+        println!();
+    }
+}
