@@ -1,5 +1,7 @@
-/* How the time of lark_resolve_attention grows with the number of runs, for families of records in which the candidates tried grow no faster
- * than the runs. Each figure is the least of many calls; the wipe of the work memory, which every call ends with, is shown beside them.
+/* How the time of the three resolvers grows with the record: attention with the number of runs, for families in which the candidates tried
+ * grow no faster than the runs; lists and headings with the number of events. Each figure is the least of many calls; the wipe of the work
+ * memory, which every call ends with, is shown beside them. Were the growth faster than linear, the last column would rise within a family.
+ * All records take their turn in each of several rounds, so that a burst of other work on the machine spoils no single row.
  */
 #include <stdint.h>
 #include <stdio.h>
@@ -9,8 +11,9 @@
 struct lark_resolved {
     size_t number, place, events, groups, tried;
 };
-struct lark_resolved lark_resolve_attention(const uint8_t *record, size_t record_length, uint32_t options, uint8_t *out, size_t out_length,
-                                            uint8_t *work, size_t work_length);
+typedef struct lark_resolved resolver(const uint8_t *record, size_t record_length, uint32_t options, uint8_t *out, size_t out_length,
+                                      uint8_t *work, size_t work_length);
+resolver lark_resolve_attention, lark_resolve_headings, lark_resolve_lists;
 
 enum { WORK = 65536, OUT = 4 + 8 * 8000, OPTIONS = 59 };
 static uint8_t document[16384], events[8 * 2048], record[8 + sizeof document + sizeof events], out[OUT], work[WORK];
@@ -20,10 +23,10 @@ static void put32(uint8_t *at, size_t x) {
     for (int i = 0; i < 4; i++) at[i] = (uint8_t)(x >> (8 * i));
 }
 
-static void event(uint8_t kind, size_t place) {
+static void event(uint8_t kind, uint8_t name) {
     uint8_t *at = events + 8 * count++;
-    at[0] = kind, at[1] = 1, at[2] = at[3] = 0;
-    put32(at + 4, place);
+    at[0] = kind, at[1] = name, at[2] = at[3] = 0;
+    put32(at + 4, bytes);
 }
 
 static void text(const char *t) {
@@ -31,12 +34,19 @@ static void text(const char *t) {
 }
 
 static void run(char marker, size_t size) {
-    event(0, bytes);
+    event(0, 1);
     while (size--) document[bytes++] = (uint8_t)marker;
-    event(1, bytes);
+    event(1, 1);
 }
 
-/* the families: n runs each */
+/* a leaf pair over some bytes */
+static void pair(uint8_t name, const char *t) {
+    event(0, name);
+    text(t);
+    event(1, name);
+}
+
+/* the families of attention: n runs each */
 static void nested(size_t n) {
     for (size_t i = 0; i < n / 2; i++) run('*', 1 + i % 2), text("a ");
     for (size_t i = n / 2; i-- > 0;) text(" b"), run('*', 1 + i % 2);
@@ -54,54 +64,147 @@ static void closers(size_t n) {
     for (size_t i = 0; i < n; i++) text("a"), run('*', 1), text(" ");
 }
 
+/* the families of lists and headings: as many whole parts as n events have room for */
+enum { DATA, HEADING = 11, SEQUENCE, SPACE = 14, ITEM, PREFIX, MARKER, LINE_ENDING = 21, BLANK_LINE_ENDING, OTHER = 24 };
+
+/* an item's start: 5 events */
+static void item(const char *mark) {
+    event(0, ITEM);
+    event(0, PREFIX);
+    pair(MARKER, mark);
+    event(1, PREFIX);
+}
+static void one_list(size_t n) {
+    while (count + 8 <= n) item("-"), event(1, ITEM), pair(LINE_ENDING, "\n");
+}
+static void items_with_text(size_t n) {
+    while (count + 14 <= n) item("-"), event(0, OTHER), pair(DATA, "text"), pair(DATA, "more"), event(1, OTHER), event(1, ITEM), pair(LINE_ENDING, "\n");
+}
+static void nested_items(size_t n) {
+    while (count + 8 <= n) {
+        size_t levels = 0;
+        while (levels < 62 && count + 6 + levels + 2 <= n) item("-"), levels++;
+        while (levels--) event(1, ITEM);
+        pair(LINE_ENDING, "\n");
+    }
+}
+static void in_containers(size_t n) {
+    while (count + 10 <= n) event(0, OTHER), item("-"), event(1, ITEM), event(1, OTHER), pair(LINE_ENDING, "\n");
+}
+static void marks_alternate(size_t n) {
+    for (size_t i = 0; count + 8 <= n; i++) item(i % 2 ? "*" : "-"), event(1, ITEM), pair(LINE_ENDING, "\n");
+}
+static void far_apart(size_t n) {
+    while (count + 38 <= n) {
+        item("-"), event(1, ITEM);
+        for (int i = 0; i < 16; i++) pair(BLANK_LINE_ENDING, "\n");
+    }
+}
+static void many_headings(size_t n) {
+    while (count + 14 <= n) {
+        event(0, HEADING), pair(SEQUENCE, "##"), pair(SPACE, " "), pair(DATA, "text"), pair(SPACE, " "), pair(DATA, "more"), event(1, HEADING);
+        pair(LINE_ENDING, "\n");
+    }
+}
+static void one_heading(size_t n) {
+    event(0, HEADING), pair(SEQUENCE, "##"), pair(SPACE, " "), pair(DATA, "a");
+    while (count + 5 <= n) pair(SPACE, " "), pair(DATA, "a");
+    event(1, HEADING);
+}
+static void heading_without_text(size_t n) {
+    event(0, HEADING), pair(SEQUENCE, "##");
+    while (count + 5 <= n) pair(SPACE, " "), pair(SEQUENCE, "#");
+    event(1, HEADING);
+}
+
 static double now(void) {
     struct timespec t;
     clock_gettime(CLOCK_MONOTONIC, &t);
     return 1e9 * (double)t.tv_sec + (double)t.tv_nsec;
 }
 
-static double least(size_t length, struct lark_resolved *r) {
-    double best = 1e18;
-    for (int i = 0; i < 2000; i++) {
+enum { ROUNDS = 10, CALLS = 300 };
+
+struct family {
+    const char *name;
+    void (*make)(size_t);
+};
+struct table {
+    const char *title;
+    resolver *call;
+    const struct family *families;
+    size_t families_length;
+    const size_t *sizes;
+    size_t sizes_length;
+};
+
+#define LENGTH(a) (sizeof(a) / sizeof *(a))
+static const struct family attention[] = {{"`nested`", nested}, {"`*_*_`", alternating}, {"`a_ `", lines}, {"` *a`", openers}, {"`a* `", closers}};
+static const struct family lists[] = {{"one list", one_list},
+                                      {"items with text", items_with_text},
+                                      {"62 levels", nested_items},
+                                      {"each in a container", in_containers},
+                                      {"marks alternate", marks_alternate},
+                                      {"16 blank lines between", far_apart}};
+static const struct family headings[] = {{"many headings", many_headings}, {"one heading", one_heading}, {"no text", heading_without_text}};
+static const size_t runs[] = {16, 64, 256, 1024}, sizes[] = {64, 256, 512, 1024, 2048};
+static const struct table tables[] = {{"attention", lark_resolve_attention, attention, LENGTH(attention), runs, LENGTH(runs)},
+                                      {"lists", lark_resolve_lists, lists, LENGTH(lists), sizes, LENGTH(sizes)},
+                                      {"headings", lark_resolve_headings, headings, LENGTH(headings), sizes, LENGTH(sizes)}};
+
+static struct cell {
+    double ns;
+    size_t events;
+    struct lark_resolved answer;
+} cells[3][6][5];
+
+/* one record, called many times; false if it is refused, which would make the figure worthless */
+static int timed(const struct table *t, const struct family *f, size_t n, struct cell *cell) {
+    bytes = count = 0;
+    f->make(n);
+    put32(record, bytes);
+    memcpy(record + 4, document, bytes);
+    put32(record + 4 + bytes, count);
+    memcpy(record + 8 + bytes, events, 8 * count);
+    cell->events = count;
+    for (int i = 0; i < CALLS; i++) {
         double from = now();
-        *r = lark_resolve_attention(record, length, OPTIONS, out, OUT, work, WORK);
+        cell->answer = t->call(record, 8 + bytes + 8 * count, OPTIONS, out, OUT, work, WORK);
         double took = now() - from;
-        if (took < best) best = took;
+        if (!cell->ns || took < cell->ns) cell->ns = took;
     }
-    return best;
+    if (cell->answer.number) printf("%s %zu: refused %zu at %zu\n", f->name, n, cell->answer.number, cell->answer.place);
+    return !cell->answer.number;
 }
 
 int main(void) {
-    static const struct {
-        const char *name;
-        void (*make)(size_t);
-    } families[] = {{"nested", nested}, {"*_*_", alternating}, {"a_ ", lines}, {" *a", openers}, {"a* ", closers}};
-    static const size_t sizes[] = {16, 64, 256, 1024};
     double wipe = 1e18;
-    for (int i = 0; i < 2000; i++) {
-        double from = now();
-        memset(work, i & 1, WORK);
-        __asm__ volatile("" : : "r"(work) : "memory");
-        double took = now() - from;
-        if (took < wipe) wipe = took;
-    }
-    printf("wipe of %d bytes: %.0f ns\n\n", WORK, wipe);
-    printf("| family | runs | groups | tried | ns a call | less the wipe, a run |\n|---|---|---|---|---|---|\n");
-    for (size_t f = 0; f < sizeof families / sizeof *families; f++)
-        for (size_t s = 0; s < sizeof sizes / sizeof *sizes; s++) {
-            struct lark_resolved r;
-            bytes = count = 0;
-            families[f].make(sizes[s]);
-            put32(record, bytes);
-            memcpy(record + 4, document, bytes);
-            put32(record + 4 + bytes, count);
-            memcpy(record + 8 + bytes, events, 8 * count);
-            double ns = least(8 + bytes + 8 * count, &r);
-            if (r.number) {
-                printf("%s %zu: refused %zu at %zu\n", families[f].name, sizes[s], r.number, r.place);
-                return 1;
-            }
-            printf("| `%s` | %zu | %zu | %zu | %.0f | %.1f |\n", families[f].name, sizes[s], r.groups, r.tried, ns, (ns - wipe) / (double)sizes[s]);
+    for (int round = 0; round < ROUNDS; round++) {
+        for (int i = 0; i < CALLS; i++) {
+            double from = now();
+            memset(work, i & 1, WORK);
+            __asm__ volatile("" : : "r"(work) : "memory");
+            double took = now() - from;
+            if (took < wipe) wipe = took;
         }
+        for (size_t t = 0; t < LENGTH(tables); t++)
+            for (size_t f = 0; f < tables[t].families_length; f++)
+                for (size_t s = 0; s < tables[t].sizes_length; s++)
+                    if (!timed(&tables[t], &tables[t].families[f], tables[t].sizes[s], &cells[t][f][s])) return 1;
+    }
+    printf("wipe of %d bytes: %.0f ns\n", WORK, wipe);
+    for (size_t t = 0; t < LENGTH(tables); t++) {
+        if (t) printf("\n| %s | events | events written | ns a call | less the wipe, an event |\n|---|---|---|---|---|\n", tables[t].title);
+        else printf("\n| %s | runs | groups | tried | ns a call | less the wipe, a run |\n|---|---|---|---|---|---|\n", tables[t].title);
+        for (size_t f = 0; f < tables[t].families_length; f++)
+            for (size_t s = 0; s < tables[t].sizes_length; s++) {
+                const struct cell *c = &cells[t][f][s];
+                const char *name = tables[t].families[f].name;
+                if (t) printf("| %s | %zu | %zu | %.0f | %.2f |\n", name, c->events, c->answer.events, c->ns, (c->ns - wipe) / (double)c->events);
+                else
+                    printf("| %s | %zu | %zu | %zu | %.0f | %.1f |\n", name, runs[s], c->answer.groups, c->answer.tried, c->ns,
+                           (c->ns - wipe) / (double)runs[s]);
+            }
+    }
     return 0;
 }
