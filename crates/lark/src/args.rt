@@ -23,14 +23,18 @@ const ONE_TOO_MANY: u8 = 3;
 // The options without -o: all but the single tilde.
 const USUAL: u32 = 59;
 
-// What is asked for. The operand is given by its number among the arguments, or is 0 where there is none. `awaits` says that the next word is
-// the number of -o, `ended` that -- was there. Where something is wrong, `culprit` is the number of that argument.
+// What is asked for. Of a line, `continuing` says that an item's size and flag are given. The operand is given by its number among the
+// arguments, or is 0 where there is none. `awaits` is the letter of the option whose number is the next word, or 0, and `ended` says that --
+// was there. Where something is wrong, `culprit` is the number of that argument.
 pub struct Asked {
     pub options: u32,
     pub as_text: bool,
     pub interrupting: bool,
+    pub continuing: bool,
+    pub size: usize,
+    pub blank: bool,
     pub operand: usize,
-    pub awaits: bool,
+    pub awaits: u8,
     pub ended: bool,
     pub wrong: u8,
     pub culprit: usize,
@@ -70,15 +74,27 @@ fn with_digit(value: u32, digit: u8) -> u32 {
     value * 10 + digit as u32
 }
 
-// Argument i as the number of -o.
+// The number behind an option.
+fn put_number(asked: Asked, value: u32) -> Asked {
+    let mut asked = asked;
+    if asked.awaits == b'c' {
+        asked.continuing = true;
+        asked.size = value as usize;
+    } else {
+        asked.options = value;
+    }
+    asked.awaits = 0;
+    asked
+}
+
+// Argument i as the number behind an option.
 fn take_number(asked: Asked, i: usize) -> Asked {
     let mut asked = asked;
     let mut word = [0u8; 32];
     let n = os::arg(i, &mut word);
     match spelled(&word[..n]) {
         Number::Is(value) => {
-            asked.options = value;
-            asked.awaits = false;
+            return put_number(asked, value);
         }
         Number::Not => {
             asked.wrong = NO_NUMBER;
@@ -122,6 +138,34 @@ fn is_unknown(first: u8, n: usize, takes: u8) -> bool {
     n != 1
 }
 
+// Whether an option is one that only a line has.
+fn is_of_line(option: u8, takes: u8) -> bool {
+    if takes != LINE {
+        return false;
+    }
+    if option == b'i' {
+        return true;
+    }
+    if option == b'b' {
+        return true;
+    }
+    option == b'c'
+}
+
+fn take_of_line(asked: Asked, option: u8) -> Asked {
+    let mut asked = asked;
+    if option == b'i' {
+        asked.interrupting = true;
+        return asked;
+    }
+    if option == b'b' {
+        asked.blank = true;
+        return asked;
+    }
+    asked.awaits = option;
+    asked
+}
+
 // Argument i where no number is awaited and -- was not there.
 fn take_word(asked: Asked, i: usize, takes: u8) -> Asked {
     let mut asked = asked;
@@ -129,7 +173,7 @@ fn take_word(asked: Asked, i: usize, takes: u8) -> Asked {
     let n = os::arg(i, &mut word);
     let option = letter(&word[..n]);
     if option == b'o' {
-        asked.awaits = true;
+        asked.awaits = option;
         return asked;
     }
     if option == b'-' {
@@ -142,11 +186,8 @@ fn take_word(asked: Asked, i: usize, takes: u8) -> Asked {
             return asked;
         }
     }
-    if option == b'i' {
-        if takes == LINE {
-            asked.interrupting = true;
-            return asked;
-        }
+    if is_of_line(option, takes) {
+        return take_of_line(asked, option);
     }
     if is_unknown(word[0], n, takes) {
         asked.wrong = UNKNOWN;
@@ -161,7 +202,7 @@ fn take(asked: Asked, i: usize, takes: u8) -> Asked {
     if asked.wrong != 0 {
         return asked;
     }
-    if asked.awaits {
+    if asked.awaits != 0 {
         return take_number(asked, i);
     }
     if asked.ended {
@@ -177,8 +218,11 @@ pub fn arguments(from: usize, takes: u8) -> Asked {
         options: USUAL,
         as_text: false,
         interrupting: false,
+        continuing: false,
+        size: 0,
+        blank: false,
         operand: 0,
-        awaits: false,
+        awaits: 0,
         ended: false,
         wrong: 0,
         culprit: 0,
@@ -194,7 +238,7 @@ pub fn arguments(from: usize, takes: u8) -> Asked {
 // Whether the arguments are good; says what is wrong where they are not.
 pub fn are_good(asked: Asked) -> bool {
     if asked.wrong == NO_NUMBER {
-        blame(b"-o wants a number", asked.culprit);
+        blame(b"not a number", asked.culprit);
         return false;
     }
     if asked.wrong == UNKNOWN {
@@ -205,8 +249,8 @@ pub fn are_good(asked: Asked) -> bool {
         blame(b"one argument too many", asked.culprit);
         return false;
     }
-    if asked.awaits {
-        wrong(b"-o wants a number");
+    if asked.awaits != 0 {
+        wrong(b"the last option wants a number");
         return false;
     }
     true

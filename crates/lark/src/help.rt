@@ -11,7 +11,7 @@ fn say_commands(fd: i32) {
     );
     io::write_all(
         fd,
-        b"  lark line [-o N] [-i] [TEXT]       what the line readers find in a line; -i: where it would interrupt a paragraph\n",
+        b"  lark line [-o N] [..] [TEXT]       what the line readers find in a line; -i: where it would interrupt a paragraph;\n                                     -c SIZE: as a further line of an item of that size, -b: whose flag is set\n",
     );
     io::write_all(
         fd,

@@ -21,6 +21,8 @@ use heading::resolve::Answer;
 use heading::resolve::resolve_headings;
 use lines::container::Container;
 use lines::container::Kind;
+use lines::going::Going;
+use lines::going::continuation;
 use lines::heading::Headed;
 use lines::heading::heading;
 use lines::item::Start;
@@ -129,6 +131,12 @@ fn say_kind(kind: Kind) {
     }
 }
 
+fn say_blank(blank: bool) {
+    if blank {
+        say(b", blank");
+    }
+}
+
 fn say_item(taken: usize, container: Container) {
     say(b"taken ");
     say_number(taken);
@@ -136,12 +144,10 @@ fn say_item(taken: usize, container: Container) {
     say_number(container.size);
     let kind = container.kind;
     say_kind(kind);
-    if container.blank {
-        say(b", blank");
-    }
+    say_blank(container.blank);
 }
 
-// The last line; whether it was written.
+// What is found of a list item; whether it was written.
 fn say_start(start: Start) -> bool {
     say(b"list item: ");
     match start {
@@ -158,12 +164,39 @@ fn say_start(start: Start) -> bool {
     say(b"\n")
 }
 
+// What is found of a further line of an item whose size and flag are given; whether it was written. The item's mark does not matter.
+fn say_going(line: &[u8], asked: Asked) -> bool {
+    let held = Container {
+        kind: Kind::Bullet(b'-'),
+        size: asked.size,
+        blank: asked.blank,
+    };
+    say(b"continuation of size ");
+    say_number(asked.size);
+    match continuation(line, asked.options, held) {
+        Going::Goes { taken, container } => {
+            say(b": taken ");
+            say_number(taken);
+            say_blank(container.blank);
+        }
+        Going::Stops { container } => {
+            say(b": no");
+            say_blank(container.blank);
+        }
+        Going::Refused(refusal) => {
+            say(b": refused");
+        }
+    }
+    say(b"\n")
+}
+
 // All readers refuse a line for the same reasons, but for the heading's own, so that the others have nothing to refuse once it has answered.
-fn read_line(line: &[u8], options: u32, interrupting: bool) -> u8 {
+fn read_line(line: &[u8], asked: Asked) -> u8 {
+    let options = asked.options;
     let mut section = [0u8; 65536];
     let found = find_title(line, options, &mut section);
     let spaces = space_or_tab(line, options, 0, 16384);
-    let start = list_item(line, options, interrupting);
+    let start = list_item(line, options, asked.interrupting);
     match found {
         Title::Events(events) => {
             say_leading(spaces);
@@ -177,7 +210,11 @@ fn read_line(line: &[u8], options: u32, interrupting: bool) -> u8 {
             return refuse(refusal);
         }
     }
-    done(say_start(start))
+    let written = say_start(start);
+    if asked.continuing {
+        return done(say_going(line, asked));
+    }
+    done(written)
 }
 
 pub fn run(asked: Asked) -> u8 {
@@ -190,7 +227,7 @@ pub fn run(asked: Asked) -> u8 {
             if n > TEXT_ROOM {
                 return WRONG;
             }
-            return read_line(&bytes[0..n], asked.options, asked.interrupting);
+            return read_line(&bytes[0..n], asked);
         }
         Got::Nothing => {
             return WRONG;
