@@ -4,6 +4,8 @@
 //!     bench cases           the names of the records, with their numbers
 //!     bench stacks          the crate alone, on the records in which it compares many stacks of open events
 //!     bench call N SIDE C   record N resolved C times by SIDE, `lark` or `crate`, for a profiler
+//!     bench counted         the records whose instructions `bench/run` counts
+//!     bench costs F W C     the instructions to a call in the file F that callgrind left of C calls, and those of functions named with W
 //!
 //! What is timed of the crate is its resolver alone: the events are put back before each call, outside the timer, and nothing is checked,
 //! since it trusts them. What is timed of the library is the whole call: the check of the record, the section written, the work memory wiped.
@@ -15,6 +17,7 @@ mod inputs;
 mod lark;
 
 use std::cell::RefCell;
+use std::collections::HashMap;
 use std::hint::black_box;
 use std::ops::RangeInclusive;
 use std::time::{Duration, Instant};
@@ -375,6 +378,49 @@ fn call(number: usize, side: &str, calls: usize) {
     }
 }
 
+/// The records whose instructions are counted: two ordinary ones, and at the limit one with groups, one without, and one that tries many.
+fn counted(case: &Case) -> bool {
+    let limit = case.runs() + 1 >= inputs::SIZES[2];
+    match case.sort {
+        Sort::Short | Sort::Ordinary => case.which == Resolver::Attention && (case.name.contains("chat") || case.name.contains("1,000")),
+        Sort::Hostile => limit && ["`*_`ⁿ", "`a_ `ⁿ", "`~~a `ⁿ`b~ `ⁿ in a container"].contains(&case.name.as_str()),
+        Sort::Single => false,
+    }
+}
+
+/// The instructions that callgrind saw, and how many of them lie in functions with this word in their names: all of them, of so many calls.
+///
+/// Its file names a function by a number, and says the name where the number first stands. A line that begins with a number is a cost of the
+/// function that was named last, unless a line of calls stands before it: then it is the cost of what was called.
+fn costs(file: &str, word: &str, calls: u64) -> (u64, u64) {
+    let (mut all, mut those, mut called) = (0, 0, false);
+    let mut names: HashMap<&str, &str> = HashMap::new();
+    let mut inside = "";
+    for line in file.lines() {
+        if let Some(function) = line.strip_prefix("fn=").or(line.strip_prefix("cfn=")) {
+            let (number, name) = function.split_once(' ').unwrap_or((function, ""));
+            if !name.is_empty() {
+                names.insert(number, name);
+            }
+            if line.starts_with("fn=") {
+                inside = number;
+            }
+        } else if line.starts_with("calls=") {
+            called = true;
+        } else if line.starts_with(|first: char| first.is_ascii_digit() || "+-*".contains(first)) {
+            let cost: u64 = line.split(' ').nth(1).and_then(|cost| cost.parse().ok()).unwrap_or(0);
+            if !called {
+                all += cost;
+                if names.get(inside).is_some_and(|name| name.contains(word)) {
+                    those += cost;
+                }
+            }
+            called = false;
+        }
+    }
+    (all / calls, those / calls)
+}
+
 fn main() {
     let arguments: Vec<String> = std::env::args().collect();
     let words: Vec<&str> = arguments[1..].iter().map(String::as_str).collect();
@@ -386,12 +432,22 @@ fn main() {
         ["stacks"] => stacks(),
         ["cases"] => {
             for (number, case) in inputs::cases().iter().enumerate() {
-                println!("{number}\t{:?}\t{}\t{}", case.which, case.runs(), case.name);
+                println!("{number}\t{}\t{}\t{:?}", case.runs(), case.name, case.which);
             }
+        }
+        ["counted"] => {
+            for (number, case) in inputs::cases().iter().enumerate().filter(|(_, case)| counted(case)) {
+                println!("{number}\t{}\t{}", case.runs(), case.name);
+            }
+        }
+        ["costs", file, word, calls] => {
+            let text = std::fs::read_to_string(file).expect("a file of callgrind");
+            let (all, those) = costs(&text, word, calls.parse().expect("a number"));
+            println!("{} | {}", grouped(all as f64), grouped(those as f64));
         }
         ["call", number, side, calls] => call(number.parse().expect("a number"), side, calls.parse().expect("a number")),
         _ => {
-            eprintln!("bench | bench cases | bench stacks | bench call N lark|crate CALLS");
+            eprintln!("bench | cases | stacks | call N lark|crate CALLS | counted | costs FILE WORD CALLS");
             std::process::exit(2);
         }
     }
