@@ -104,13 +104,18 @@ pub fn parts_of(record: &[u8]) -> (&[u8], Vec<Event>) {
 fn cause_of(question: &Question, number: usize, place: usize) -> &'static str {
     let (document, events) = parts_of(&question.input);
     let event = place.saturating_sub(8 + document.len()) / 8;
-    if event == 0 || event >= events.len() {
+    if number == 5 && event == events.len() {
+        return UNPAIRED;
+    }
+    if event == 0 || event > events.len() {
         return "unknown";
     }
     let (before, here) = (events[event - 1], events[event]);
     match number {
         5 if here.place < before.place && here.exit && before.exit => FALLING,
+        5 if here.place < before.place && here.name == 0 && document[here.place as usize] == b'^' => BACK,
         5 if here.exit && matches!(here.name, 19 | 20) && crossed(&events[..=event]) => CROSSED,
+        5 if here.exit && here.place >= before.place => UNPAIRED,
         6 if question.call == Call::Lists && before.exit && before.name == 15 && !here.exit && here.name == 15 => BEHIND,
         _ => "unknown",
     }
@@ -134,6 +139,8 @@ fn crossed(events: &[Event]) -> bool {
 pub const BEHIND: &str = "an item right behind an item";
 pub const CROSSED: &str = "lists that cross, since an item stood right behind an item";
 pub const FALLING: &str = "an exit before the exit within it";
+pub const BACK: &str = "Data that goes back to the `^` of a footnote's label";
+pub const UNPAIRED: &str = "events that do not pair, since frontmatter was looked for";
 
 /// The same events with no place below the one before.
 fn raised(events: &[Event]) -> Vec<Event> {

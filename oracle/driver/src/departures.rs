@@ -1,10 +1,10 @@
 //! The rows of docs/DIFFERENCES.md, run: what the crate and the library make of each one's smallest input, held against what the row says.
 
 use crate::answer::{Answer, Call, Question};
-use crate::compare::{crate_line, parts_of, resolved, resolver_of};
+use crate::compare::{call_of, crate_line, parts_of, resolved, resolver_of};
 use crate::library::{self, Lent, OUTPUT, WORK};
 use crate::records;
-use crate_side::{write_record, Settings};
+use crate_side::{write_record, Resolver, Settings};
 
 /// What is looked at in an answer.
 #[derive(Clone, Copy)]
@@ -43,11 +43,11 @@ fn heading(text: &[u8]) -> Question {
     Question { call: Call::Headings, input: write_record(text, &events), options: 59, arguments: [0; 3] }
 }
 
-/// What the list resolver is given when the crate parses a document.
-fn list(document: &str) -> Question {
-    let seen = crate_side::watch_document(document, &Settings::new(59));
-    let before = &seen.iter().find(|one| one.which == crate_side::Resolver::Lists).expect("a list").before;
-    Question { call: Call::Lists, input: write_record(document.as_bytes(), before), options: 59, arguments: [0; 3] }
+/// What a resolver is given first when the crate parses a document.
+fn watched(which: Resolver, document: &str, settings: Settings) -> Question {
+    let seen = crate_side::watch_document(document, &settings);
+    let before = &seen.iter().find(|one| one.which == which).expect("the resolver is called").before;
+    Question { call: call_of(which), input: write_record(document.as_bytes(), before), options: 59, arguments: [0; 3] }
 }
 
 fn crate_says(question: &Question) -> Answer {
@@ -64,7 +64,7 @@ fn crate_says(question: &Question) -> Answer {
 /// Run every row and print it. Gives back how many are not as the row says.
 pub fn run() -> usize {
     let text = |text: &[u8], options: u32| records::split(text, options);
-    let rows: [(&str, Question, Look, &str, &str); 14] = [
+    let rows: [(&str, Question, Look, &str, &str); 16] = [
         ("D1", text(b"*\r*", 59), Look::Groups, "groups 0", "refused with 4 at 5"),
         ("D2", text(b"*\xc2\xa0*", 59), Look::Groups, "groups 0", "groups 1"),
         ("D3", text(b"a*\0*", 59), Look::Groups, "groups 1", "groups 1"),
@@ -76,9 +76,17 @@ pub fn run() -> usize {
         ("D9", line(Call::ListItem, b"01. a", [1, 0, 0]), Look::Found, "no item", "no item"),
         ("D10", heading(b"# #a"), Look::Text, "text 3 to 4", "text 3 to 4"),
         ("D11", heading(b"# a # #"), Look::Text, "text 2 to 3", "text 2 to 3"),
-        ("D12", list("- <?\n-"), Look::Refusal, "accepted", "refused with 6 at 126"),
-        ("D13", list("- <?\n\na"), Look::Refusal, "accepted", "refused with 5 at 119"),
+        ("D12", watched(Resolver::Lists, "- <?\n-", Settings::new(59)), Look::Refusal, "accepted", "refused with 6 at 126"),
+        ("D13", watched(Resolver::Lists, "- <?\n\na", Settings::new(59)), Look::Refusal, "accepted", "refused with 5 at 119"),
         ("D14", line(Call::ListItem, b"-\ta", [0; 3]), Look::Size, "size 2", "size 2"),
+        ("D15", watched(Resolver::Attention, "_[^]()", Settings::new(59)), Look::Refusal, "accepted", "refused with 5 at 94"),
+        (
+            "D16",
+            watched(Resolver::Headings, "---\n#\n>", Settings::new(59).with_math_and_frontmatter()),
+            Look::Refusal,
+            "accepted",
+            "refused with 5 at 95",
+        ),
     ];
     println!("\n| row | crate | library |\n|---|---|---|");
     let mut wrong = 0;

@@ -39,7 +39,20 @@ fn tamed(text: &str) -> Vec<u8> {
     out
 }
 
-/// The Markdown files under some directories, in pieces that fit a record, cut at blank lines; each once.
+/// A text in pieces of at most so many bytes, cut at blank lines where that leaves them large enough, else at any line.
+fn cut(text: &[u8], most: usize, pieces: &mut Vec<Vec<u8>>) {
+    let mut piece: Vec<u8> = vec![];
+    for line in text.split(|byte| *byte == b'\n').filter(|line| line.len() < most) {
+        if piece.len() + line.len() + 1 > most || line.is_empty() && piece.len() > most * 3 / 4 {
+            pieces.push(std::mem::take(&mut piece));
+        }
+        piece.extend_from_slice(line);
+        piece.push(b'\n');
+    }
+    pieces.push(piece);
+}
+
+/// The Markdown files under some directories, in pieces that fit a record, each once.
 pub fn found(directories: &[String]) -> (usize, Vec<Vec<u8>>) {
     let mut files = vec![];
     for directory in directories {
@@ -50,16 +63,8 @@ pub fn found(directories: &[String]) -> (usize, Vec<Vec<u8>>) {
     for file in &files {
         let Ok(bytes) = fs::read(file) else { continue };
         let text = tamed(&String::from_utf8_lossy(&bytes));
-        for most in [400, 2_500, 16_384] {
-            let mut piece: Vec<u8> = vec![];
-            for part in String::from_utf8_lossy(&text).split("\n\n") {
-                if piece.len() + part.len() + 2 > most && !piece.is_empty() {
-                    pieces.push(std::mem::take(&mut piece));
-                }
-                piece.extend_from_slice(part.as_bytes());
-                piece.extend_from_slice(b"\n\n");
-            }
-            pieces.push(piece);
+        for most in [400, 2_500, 8_000] {
+            cut(&text, most, &mut pieces);
         }
     }
     pieces.sort();

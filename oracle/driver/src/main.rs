@@ -17,14 +17,14 @@ mod records;
 mod store;
 mod tally;
 
-use std::io::Write;
+use std::io::{IsTerminal, Write};
 use std::sync::atomic::{AtomicBool, AtomicUsize, Ordering};
 use std::sync::Mutex;
 use std::time::{Duration, Instant};
 
 use answer::{Call, Question};
 use chance::Chance;
-use compare::{Bench, Markdown, BEHIND, CROSSED, FALLING, PANIC};
+use compare::{Bench, Markdown, BACK, BEHIND, CROSSED, FALLING, PANIC, UNPAIRED};
 use lines::Strings;
 use tally::{Source, Tally};
 
@@ -32,7 +32,7 @@ const THREADS: usize = 2;
 const READERS: [Call; 4] = [Call::SpaceOrTab, Call::ListItem, Call::Continuation, Call::Heading];
 
 /// Kinds of difference that are known, by the number of their row in docs/DIFFERENCES.md.
-const LISTED: [(&str, &str); 3] = [("D12", BEHIND), ("D12", CROSSED), ("D13", FALLING)];
+const LISTED: [(&str, &str); 5] = [("D12", BEHIND), ("D12", CROSSED), ("D13", FALLING), ("D15", BACK), ("D16", UNPAIRED)];
 
 struct Run {
     tally: Tally,
@@ -46,7 +46,7 @@ impl Run {
         let next = AtomicUsize::new(0);
         let done = AtomicBool::new(false);
         let tallies = Mutex::new(vec![]);
-        let clear = || eprint!("\r{:80}\r", "");
+        let terminal = std::io::stderr().is_terminal();
         std::thread::scope(|scope| {
             let workers: Vec<_> = (0..THREADS)
                 .map(|_| {
@@ -64,9 +64,16 @@ impl Run {
                 })
                 .collect();
             scope.spawn(|| {
+                // On a terminal the line is written over; elsewhere one now and then is enough.
+                let mut shown = Instant::now();
                 while !done.load(Ordering::Relaxed) {
-                    eprint!("\r{name}: {} of {count}, {:.0} s", next.load(Ordering::Relaxed).min(count), self.start.elapsed().as_secs_f64());
-                    let _shown = std::io::stderr().flush();
+                    if terminal || shown.elapsed() > Duration::from_secs(30) {
+                        shown = Instant::now();
+                        let progress =
+                            format!("{name}: {} of {count}, {:.0} s", next.load(Ordering::Relaxed).min(count), self.start.elapsed().as_secs_f64());
+                        eprint!("{}", if terminal { format!("\r{progress:80}") } else { format!("{progress}\n") });
+                        let _shown = std::io::stderr().flush();
+                    }
                     std::thread::sleep(Duration::from_millis(50));
                 }
             });
@@ -78,7 +85,9 @@ impl Run {
             }
             done.store(true, Ordering::Relaxed);
         });
-        clear();
+        if terminal {
+            eprint!("\r{:80}\r", "");
+        }
         let before = self.tally.total();
         tallies.into_inner().unwrap().into_iter().for_each(|tally| self.tally.add(tally));
         let kinds = self.tally.differences.len();
@@ -101,12 +110,25 @@ impl Run {
     }
 }
 
+/// A letter that stands for a whole piece of text: the end of a link, and a tag.
+fn spelt(letter: &u8) -> &[u8] {
+    match letter {
+        b']' => b"](b)",
+        b'<' => b"<b>",
+        other => std::slice::from_ref(other),
+    }
+}
+
 fn exhaustive(run: &mut Run) {
     for (name, alphabet, longest) in [("texts of `*_ a.` to 7", &b"*_ a."[..], 7), ("texts of `*_~ a.` to 6", b"*_~ a.", 6)] {
         run.strings(name, &Strings::new(alphabet, longest), |bench, text| {
             (0..8).for_each(|options| bench.ask(&records::split(&text, options), Source::Exhaustive));
         });
     }
+    run.strings("texts with links, code and HTML to 6", &Strings::new(b"*_a []`<", 6), |bench, text| {
+        let text: Vec<u8> = text.iter().flat_map(|byte| spelt(byte)).copied().collect();
+        bench.watch(Markdown { bytes: &text, text_alone: true, more: false }, 59, Source::Exhaustive);
+    });
     let put = |bench: &mut Bench, call: Call, line: &[u8], options: u32, arguments: [usize; 3]| {
         bench.ask(&Question { call, input: line.to_vec(), options, arguments }, Source::Exhaustive);
     };
