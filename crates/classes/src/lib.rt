@@ -1,6 +1,7 @@
 // The class of a byte that stands beside a run of markers.
 //
-// One constant table of 128 entries: a look-up is one load, and that the table says what the definition says is one computed test.
+// One constant table of 128 entries; that the table says what the definition says is one computed test. The compiler lays the table out anew for
+// each look-up, so callers look a byte up once.
 
 ghost use mathlib.Core.Path.{_≡_};
 ghost use Prim.Native.Nat.{_<_};

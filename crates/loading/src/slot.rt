@@ -6,8 +6,7 @@
 use super::shape::option_on;
 use record::bytes::u32_at;
 use record::limits::OPTION_STRIKETHROUGH;
-use runs::can_close;
-use runs::can_open;
+use runs::flanking;
 use slots::layout::put_chain;
 use slots::layout::put_closes;
 use slots::layout::put_first_group;
@@ -116,8 +115,7 @@ pub fn settle(s: &[u8], d: usize, options: u32, at: usize, container: usize, w: 
     let before = byte_before(s, d, from);
     let after = byte_after(s, d, to);
     let strike = option_on(options, OPTION_STRIKETHROUGH);
-    let opens = can_open(strike, marker, before, after);
-    let closes = can_close(strike, marker, before, after);
+    let can = flanking(strike, marker, before, after);
     let chain = chain_number(container, marker);
-    fill(w, n, to - from, marker, opens, closes, chain);
+    fill(w, n, to - from, marker, can.opens, can.closes, chain);
 }

@@ -9,59 +9,67 @@ use lib.Dec.{eqb}
 use borrow.Author.Tests.{eq-eqb, ne-eqb}
 use Rattle.record.specs.Choice.{choose}
 use Rattle.classes.specs.Class.{classOf, standardClass, amended, whitespace, punctuation}
+use Rattle.classes.specs.declared.Class.{Class}
 use Rattle.classes.specs.declared.Class.the-variants.{Other, Whitespace, Punctuation}
 use Rattle.runs.specs.Flanking.{classBeside, besideMarker, flanksLeft, flanksRight, canOpen, canClose}
-use Rattle.runs.specs.Paragraph.{isOther, firstOpen, opens, closes, open-as-written, close-as-written, blank-shut, never, threes-as-written}
+use Rattle.runs.specs.Paragraph.{isOther, firstOpen, firstBy, opensBy, opens, closes, open-as-written, close-as-written, never, threes-as-written}
 use Rattle.runs.specs.Rule.{threes}
 
-module _ (strike : Bool) (marker before after : ℕ) where
-  pub other-opens : classOf after ≡ Other → firstOpen strike marker (some before) (some after) ≡ true
-  unfolding firstOpen classBeside
+module _ (strike : Bool) (marker : ℕ) (before after : Class) (byte : ℕ) where
+  pub other-opens : after ≡ Other → firstBy strike marker before after byte ≡ true
+  unfolding firstBy
   other-opens e = rw e
 
-  pub blank-opens-not : classOf after ≡ Whitespace → firstOpen strike marker (some before) (some after) ≡ false
-  unfolding classBeside
-  blank-opens-not e = blank-shut strike marker (some after) (some before) e
+  pub blank-beside : after ≡ Whitespace → firstBy strike marker before after byte ≡ besideMarker strike marker (some byte)
+  unfolding firstBy
+  blank-beside e = rw e
 
-  pub sign-opens : classOf after ≡ Punctuation → isOther (classOf before) ≡ false → firstOpen strike marker (some before) (some after) ≡ true
-  unfolding firstOpen classBeside
+  pub sign-opens : after ≡ Punctuation → isOther before ≡ false → firstBy strike marker before after byte ≡ true
+  unfolding firstBy
   sign-opens e f = rw (e, f)
 
-  pub sign-beside : classOf after ≡ Punctuation → isOther (classOf before) ≡ true →
-      firstOpen strike marker (some before) (some after) ≡ besideMarker strike marker (some after)
-  unfolding firstOpen classBeside
+  pub sign-beside : after ≡ Punctuation → isOther before ≡ true → firstBy strike marker before after byte ≡ besideMarker strike marker (some byte)
+  unfolding firstBy
   sign-beside e f = rw (e, f)
 
-  pub shut : firstOpen strike marker (some before) (some after) ≡ false → canOpen true strike marker (some before) (some after) ≡ false
-  unfolding opens choose
-  shut e = open-as-written strike marker (some before) (some after) ∙ go (eqb marker 95) refl
+module _ (strike : Bool) (marker : ℕ) (before : Class) (left : ℕ) (after : Class) (right : ℕ) where
+  pub shut : firstBy strike marker before after right ≡ false → opensBy strike marker before left after right ≡ false
+  unfolding opensBy choose
+  shut e = go (eqb marker 95) refl
     where
-      go : (z : Bool) → eqb marker 95 ≡ z → opens strike marker (some before) (some after) ≡ false
+      go : (z : Bool) → eqb marker 95 ≡ z → opensBy strike marker before left after right ≡ false
       go true q = rw (q, e)
       go false q = rw (q, e)
 
-  pub star-opens : firstOpen strike marker (some before) (some after) ≡ true → (marker ≡ 95 → ⊥) →
-      canOpen true strike marker (some before) (some after) ≡ true
-  unfolding opens choose
-  star-opens e n = open-as-written strike marker (some before) (some after) ∙ rw (ne-eqb marker 95 n, e)
+  pub star-opens : firstBy strike marker before after right ≡ true → (marker ≡ 95 → ⊥) → opensBy strike marker before left after right ≡ true
+  unfolding opensBy choose
+  star-opens e n = rw (ne-eqb marker 95 n, e)
 
-  pub line-opens : firstOpen strike marker (some before) (some after) ≡ true → marker ≡ 95 → isOther (classOf before) ≡ false →
-      canOpen true strike marker (some before) (some after) ≡ true
-  unfolding opens choose classBeside
-  line-opens e n f = open-as-written strike marker (some before) (some after) ∙ rw (eq-eqb marker 95 n, e, f)
+  pub line-opens : firstBy strike marker before after right ≡ true → marker ≡ 95 → isOther before ≡ false → opensBy strike marker before left after right ≡ true
+  unfolding opensBy choose
+  line-opens e n f = rw (eq-eqb marker 95 n, e, f)
 
-  pub line-inside : firstOpen strike marker (some before) (some after) ≡ true → marker ≡ 95 → isOther (classOf before) ≡ true →
-      canOpen true strike marker (some before) (some after) ≡ not (firstOpen strike marker (some after) (some before))
-  unfolding opens choose classBeside
-  line-inside e n f = open-as-written strike marker (some before) (some after) ∙ rw (eq-eqb marker 95 n, e, f)
+  pub line-inside : firstBy strike marker before after right ≡ true → marker ≡ 95 → isOther before ≡ true →
+      opensBy strike marker before left after right ≡ not (firstBy strike marker after before left)
+  unfolding opensBy choose
+  line-inside e n f = rw (eq-eqb marker 95 n, e, f)
 
-  -- closing is opening with before and after exchanged
-  pub exchanged : canClose true strike marker (some before) (some after) ≡ canOpen true strike marker (some after) (some before)
-  unfolding opens closes
-  exchanged = close-as-written strike marker (some before) (some after) ∙ same ∙ sym (open-as-written strike marker (some after) (some before))
-    where
-      same : closes strike marker (some before) (some after) ≡ opens strike marker (some after) (some before)
-      same = refl
+-- by the classes of two bytes that is document 01's paragraph, and closing is opening with before and after exchanged
+module _ (strike : Bool) (marker before after : ℕ) where
+  pub opens-by-classes : opensBy strike marker (classOf before) before (classOf after) after ≡ canOpen true strike marker (some before) (some after)
+  unfolding opensBy firstBy opens firstOpen classBeside
+  opens-by-classes = sym (open-as-written strike marker (some before) (some after))
+
+  pub closes-by-classes : opensBy strike marker (classOf after) after (classOf before) before ≡ canClose true strike marker (some before) (some after)
+  unfolding opensBy firstBy closes firstOpen classBeside
+  closes-by-classes = sym (close-as-written strike marker (some before) (some after))
+
+-- both at once, from what was looked up
+pub flanked : (strike : Bool) (marker before after : ℕ) (left right : Class) (open-flag close-flag : Bool) → left ≡ classOf before → right ≡ classOf after →
+    open-flag ≡ opensBy strike marker left before right after → close-flag ≡ opensBy strike marker right after left before →
+    (open-flag ≡ canOpen true strike marker (some before) (some after)) × (close-flag ≡ canClose true strike marker (some before) (some after))
+flanked strike marker before after left right o c l r p q =
+    (rw (l, r) at p ∙ opens-by-classes strike marker before after, rw (l, r) at q ∙ closes-by-classes strike marker before after)
 
 -- the byte that stands for a neighbour in the code: a line feed at the document's edge, which is whitespace and no marker
 abbrev pub orFeed : Option ℕ → ℕ

@@ -28,6 +28,15 @@ firstOpen strike marker before after =
     isOther (classBeside after)
     || ((isPunctuation (classBeside after) && not (isOther (classBeside before))) || besideMarker strike marker after)
 
+-- the same over the classes and the byte after, and what `_` asks beyond it
+unfoldable pub firstBy : Bool → ℕ → Class → Class → ℕ → Bool
+firstBy strike marker before after byte = isOther after || ((isPunctuation after && not (isOther before)) || besideMarker strike marker (some byte))
+
+unfoldable pub opensBy : Bool → ℕ → Class → ℕ → Class → ℕ → Bool
+opensBy strike marker before left after right =
+    let first = firstBy strike marker before after right in
+    choose (eqb marker 95) (first && (not (isOther before) || not (firstBy strike marker after before left))) first
+
 -- "Close: the same with before and after exchanged."
 abbrev pub firstClose : Bool → ℕ → Option ℕ → Option ℕ → Bool
 firstClose strike marker before after = firstOpen strike marker after before

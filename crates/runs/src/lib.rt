@@ -9,9 +9,8 @@ ghost use mathlib.Core.Path.{_≡_};
 ghost use mathlib.Core.Bool.{true, not, _&&_};
 ghost use mathlib.Core.Option.{some};
 ghost use Rattle.runs.specs.Flanking.{besideMarker, canOpen, canClose};
-ghost use Rattle.runs.specs.Paragraph.{firstOpen, isOther};
+ghost use Rattle.runs.specs.Paragraph.{isOther, firstBy, opensBy};
 ghost use Rattle.runs.specs.Rule.{threes as threesOf, tildes as tildesOf};
-ghost use Rattle.classes.specs.Class.{classOf};
 
 // The next match from a run on: its opener, its closer and the candidates tried for it; or that there is none, and those tried.
 pub enum Next {
@@ -44,54 +43,66 @@ fn beside_marker(strike: bool, marker: u8, byte: u8) -> bool
     false
 }
 
-// Whether a byte is neither whitespace nor punctuation.
-fn is_other(byte: u8) -> bool
-    ensures { λ r. ⌜ r ≡ isOther (classOf byte) ⌝ }
+// Whether a class is neither whitespace nor punctuation.
+fn is_other(class: Class) -> bool
+    ensures { λ r. ⌜ r ≡ isOther class ⌝ }
 {
-    match class_of(byte) {
+    match class {
         Class::Other => true,
         Class::Whitespace => false,
         Class::Punctuation => false,
     }
 }
 
-// The first result: whether a run can open, before what `_` asks beyond it.
-fn first_open(strike: bool, marker: u8, before: u8, after: u8) -> bool
-    ensures { λ r. ⌜ r ≡ firstOpen strike marker (some before) (some after) ⌝ }
+// The first result: whether a run can open between bytes of these classes, of which the second is `byte`, before what `_` asks beyond it.
+fn first_open(strike: bool, marker: u8, before: Class, after: Class, byte: u8) -> bool
+    ensures { λ r. ⌜ r ≡ firstBy strike marker before after byte ⌝ }
 {
-    match class_of(after) {
+    match after {
         Class::Other => true,
-        Class::Whitespace => false,
+        Class::Whitespace => beside_marker(strike, marker, byte),
         Class::Punctuation => {
             if is_other(before) {
-                return beside_marker(strike, marker, after);
+                return beside_marker(strike, marker, byte);
             }
             true
         }
     }
 }
 
-// Whether a run of this marker can open between these two bytes; a line feed stands for the document's edge.
-pub fn can_open(strike: bool, marker: u8, before: u8, after: u8) -> bool
-    ensures { λ r. ⌜ r ≡ canOpen true strike marker (some before) (some after) ⌝ }
+// Whether it can open: the first result, and for `_` what is asked beyond it.
+fn opens_by(strike: bool, marker: u8, before: Class, left: u8, after: Class, right: u8) -> bool
+    ensures { λ r. ⌜ r ≡ opensBy strike marker before left after right ⌝ }
 {
-    if first_open(strike, marker, before, after) {
+    if first_open(strike, marker, before, after, right) {
         if marker != 95 {
             return true;
         }
         if is_other(before) {
-            return !first_open(strike, marker, after, before);
+            return !first_open(strike, marker, after, before, left);
         }
         return true;
     }
     false
 }
 
-// Whether it can close: the same with before and after exchanged.
-pub fn can_close(strike: bool, marker: u8, before: u8, after: u8) -> bool
-    ensures { λ r. ⌜ r ≡ canClose true strike marker (some before) (some after) ⌝ }
+// Whether a run can open, and whether it can close.
+pub struct Flanks {
+    pub opens: bool,
+    pub closes: bool,
+}
+
+// What a run of this marker can do between these two bytes; a line feed stands for the document's edge. To close is to open with before and after
+// exchanged. Each class is looked up once.
+pub fn flanking(strike: bool, marker: u8, before: u8, after: u8) -> Flanks
+    ensures { λ r. ⌜ (r .opens ≡ canOpen true strike marker (some before) (some after)) × (r .closes ≡ canClose true strike marker (some before) (some after)) ⌝ }
 {
-    can_open(strike, marker, after, before)
+    let left = class_of(before);
+    let right = class_of(after);
+    Flanks {
+        opens: opens_by(strike, marker, left, before, right, after),
+        closes: opens_by(strike, marker, right, after, left, before),
+    }
 }
 
 // Whether the rule of three forbids a match of these sizes; `both` says that one side can both open and close.

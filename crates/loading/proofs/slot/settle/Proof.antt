@@ -33,11 +33,8 @@ byte-after-requires c κs = search needs
 option-on-requires : tie.Need-option-on-requires
 option-on-requires c κs = search needs
 
-can-open-requires : tie.Need-can-open-requires
-can-open-requires c κs = search needs
-
-can-close-requires : tie.Need-can-close-requires
-can-close-requires c κs = search needs
+flanking-requires : tie.Need-flanking-requires
+flanking-requires c κs = search needs
 
 chain-number-requires : tie.Need-chain-number-requires
 chain-number-requires c κs = search needs
@@ -54,15 +51,15 @@ same-length c = search needs
 returns : tie.Need-returns
 returns c =
     settled
-    (c .before .before .before .before .before .before .before .before .before .before .before .before .before .before .before .pre)
+    (c .before .before .before .before .before .before .before .before .before .before .before .before .before .before .pre)
     (record {
-      place = c .before .before .before .before .before .before .before .before .before .before .before .before .u32-at .ensures .0;
-      end = c .before .before .before .before .before .before .before .before .before .before .before .u32-at2 .ensures .0;
+      place = c .before .before .before .before .before .before .before .before .before .before .before .u32-at .ensures .0;
+      end = c .before .before .before .before .before .before .before .before .before .before .u32-at2 .ensures .0;
       byte = refl;
-      byte-before = c .before .before .before .before .before .before .before .before .before .byte-before .ensures;
-      byte-after = c .before .before .before .before .before .before .before .before .byte-after .ensures;
-      can-open = rw (← c .before .before .before .before .before .before .before .option-on .ensures) (c .before .before .before .before .before .before .can-open .ensures);
-      can-close = rw (← c .before .before .before .before .before .before .before .option-on .ensures) (c .before .before .before .before .before .can-close .ensures);
+      byte-before = c .before .before .before .before .before .before .before .before .byte-before .ensures;
+      byte-after = c .before .before .before .before .before .before .before .byte-after .ensures;
+      can-open = rw (← c .before .before .before .before .before .before .option-on .ensures) (c .before .before .before .before .before .flanking .ensures .0);
+      can-close = rw (← c .before .before .before .before .before .before .option-on .ensures) (c .before .before .before .before .before .flanking .ensures .1);
       number = c .before .before .before .before .chain-number .ensures .0;
       known = c .before .before .before .before .chain-number .ensures .1;
     })
@@ -81,8 +78,7 @@ settle-spec =
     byte-before-requires
     byte-after-requires
     option-on-requires
-    can-open-requires
-    can-close-requires
+    flanking-requires
     chain-number-requires
     sub-fill
     fill-requires
