@@ -243,6 +243,9 @@ impl Bench {
                 Word::Says(answer)
             },
         );
+        if let Word::Says(_) = word {
+            *self.tally.answered.entry(question.call).or_default() += 1;
+        }
         match word {
             Word::Says(answer) if answer == ours => (),
             Word::Says(answer) => {
@@ -294,7 +297,7 @@ impl Bench {
             Err(_) => {
                 let text = format!("{markdown} options {options}");
                 let found = Difference { count: 1, input: document.to_vec(), options, text, again: Some((text_alone, more)) };
-                return self.tally.differ(PANIC.into(), found);
+                return self.tally.differ(format!("{PANIC}{}", if more { ", with math and frontmatter" } else { "" }), found);
             }
         };
         for Seen { which, before, after, within_tab, edits_before } in seen {

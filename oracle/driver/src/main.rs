@@ -298,7 +298,7 @@ fn main() {
         let listed = LISTED.iter().find(|(_, cause)| kind.contains(cause)).filter(|(number, _)| rows.contains(&format!("| {number} |")));
         let note = match listed {
             Some((number, _)) => format!("listed as {number}"),
-            None if kind == PANIC => "nothing to compare".into(),
+            None if kind.starts_with(PANIC) => "nothing to compare".into(),
             None => {
                 unlisted += 1;
                 "NOT LISTED".into()

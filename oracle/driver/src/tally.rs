@@ -30,6 +30,8 @@ pub struct Difference {
 #[derive(Default)]
 pub struct Tally {
     pub compared: BTreeMap<(Call, Source), u64>,
+    /// How many of these the crate answered too.
+    pub answered: BTreeMap<Call, u64>,
     /// Refusals, which only document 01 can say.
     pub refused: BTreeMap<(Call, usize), u64>,
     pub skipped: BTreeMap<(Call, &'static str), u64>,
@@ -51,6 +53,9 @@ impl Tally {
         for (key, count) in other.compared {
             *self.compared.entry(key).or_default() += count;
         }
+        for (key, count) in other.answered {
+            *self.answered.entry(key).or_default() += count;
+        }
         for (key, count) in other.refused {
             *self.refused.entry(key).or_default() += count;
         }
@@ -70,13 +75,14 @@ impl Tally {
     }
 
     pub fn print(&self) {
-        println!("| call | exhaustive | random | captured | damaged | in all | crate panics |");
-        println!("|---|---|---|---|---|---|---|");
+        println!("| call | exhaustive | random | captured | damaged | in all | answered by the crate too | crate panics |");
+        println!("|---|---|---|---|---|---|---|---|");
         for call in Call::ALL {
             let counts: Vec<u64> = Source::ALL.iter().map(|source| self.compared.get(&(call, *source)).copied().unwrap_or(0)).collect();
             let panics: u64 = Source::ALL.iter().filter_map(|source| self.panics.get(&(call, *source))).sum();
             let cells: Vec<String> = counts.iter().map(u64::to_string).collect();
-            println!("| {} | {} | {} | {} |", call.name(), cells.join(" | "), counts.iter().sum::<u64>(), panics);
+            let answered = self.answered.get(&call).copied().unwrap_or(0);
+            println!("| {} | {} | {} | {answered} | {panics} |", call.name(), cells.join(" | "), counts.iter().sum::<u64>());
         }
         println!("\nRefusals among them, by number: compared with document 01 alone.\n");
         println!("| call | 1 | 2 | 3 | 4 | 5 | 6 | 7 | 8 |\n|---|---|---|---|---|---|---|---|---|");
