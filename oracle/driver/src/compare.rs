@@ -36,7 +36,6 @@ pub struct Bench {
     lent: Lent,
     settings: Vec<Settings>,
     settings_more: Vec<Settings>,
-    turn: usize,
 }
 
 /// The crate's word on a question.
@@ -152,6 +151,14 @@ fn raised(events: &[Event]) -> Vec<Event> {
     events.iter().map(raise).collect()
 }
 
+/// A number that comes from the question alone, so that its buffers are the same in every run, on whichever thread it is put.
+fn turn_of(question: &Question) -> usize {
+    let numbers = question.arguments.iter().map(|argument| *argument as u64).chain([question.call as u64, u64::from(question.options)]);
+    let mix = |sum: u64, value: u64| (sum ^ value).wrapping_mul(0x0000_0100_0000_01b3);
+    let sum = question.input.iter().map(|byte| u64::from(*byte)).chain(numbers).fold(0xcbf2_9ce4_8422_2325, mix);
+    (sum >> 16) as usize
+}
+
 /// How many events are open at most.
 fn depth_of(events: &[Event]) -> usize {
     let (mut depth, mut most) = (0usize, 0);
@@ -173,7 +180,6 @@ impl Bench {
             lent: Lent::new(),
             settings: (0..64).map(Settings::new).collect(),
             settings_more: (0..64).map(|options| Settings::new(options).with_math_and_frontmatter()).collect(),
-            turn: 0,
         }
     }
 
@@ -266,16 +272,16 @@ impl Bench {
     }
 
     fn ask_known(&mut self, question: &Question, source: Source, known: Option<Answer>, document: Option<Markdown>) {
-        self.turn = self.turn.wrapping_add(1);
+        let turn = turn_of(question);
         let length = match &known {
             Some(answer) => answer.section.len(),
             None => paper::answer(question, OUTPUT, WORK).section.len(),
         };
         let exact = length.min(OUTPUT);
-        let (output, work) = match self.turn % 32 {
-            3 => (OUTPUT, WORK + self.turn % 64),
-            7 => (exact + self.turn / 32 % (OUTPUT - exact + 1), WORK),
-            11 => (exact.saturating_sub(1 + self.turn / 32 % 9), WORK),
+        let (output, work) = match turn % 32 {
+            3 => (OUTPUT, WORK + turn / 32 % 64),
+            7 => (exact + turn / 32 % (OUTPUT - exact + 1), WORK),
+            11 => (exact.saturating_sub(1 + turn / 32 % 9), WORK),
             _ => (exact, WORK),
         };
         self.put(question, source, output, work, known, document);
