@@ -1,6 +1,6 @@
 //! Document 01 in plain Rust: every call as its paragraphs say it, with lists and searches and no thought of speed.
 //!
-//! It is written from that document alone, apart from both sides that are compared. It says which refusal a record gets, which the crate cannot
+//! It is code of its own, apart from both sides that are compared; whoever wrote it had read the crate's source. It says which refusal a record gets, which the crate cannot
 //! say, and how many candidates are tried, which the crate does not count.
 
 use crate::answer::{Answer, Call, Question};
