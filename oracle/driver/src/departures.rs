@@ -28,7 +28,7 @@ fn look(answer: &Answer, at: Look) -> String {
         Look::Text => {
             let places: Vec<String> =
                 crate_side::read_section(&answer.section).iter().filter(|event| event.name == 13).map(|event| event.place.to_string()).collect();
-            format!("text {}", places.join(" to "))
+            format!("text {}", if places.is_empty() { "none".into() } else { places.join(" to ") })
         }
     }
 }
@@ -64,7 +64,7 @@ fn crate_says(question: &Question) -> Answer {
 /// Run every row and print it. Gives back how many are not as the row says.
 pub fn run() -> usize {
     let text = |text: &[u8], options: u32| records::split(text, options);
-    let rows: [(&str, Question, Look, &str, &str); 16] = [
+    let rows: [(&str, Question, Look, &str, &str); 17] = [
         ("D1", text(b"*\r*", 59), Look::Groups, "groups 0", "refused with 4 at 5"),
         ("D2", text(b"*\xc2\xa0*", 59), Look::Groups, "groups 0", "groups 1"),
         ("D3", text(b"a*\0*", 59), Look::Groups, "groups 1", "groups 1"),
@@ -87,6 +87,7 @@ pub fn run() -> usize {
             "accepted",
             "refused with 5 at 95",
         ),
+        ("D17", heading(b"# # #"), Look::Text, "text none", "text none"),
     ];
     println!("\n| row | crate | library |\n|---|---|---|");
     let mut wrong = 0;
