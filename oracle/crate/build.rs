@@ -25,15 +25,11 @@ const MODULES: [(&str, &str); 13] = [
 
 fn line(module: &str, file: &Path) -> String {
     assert!(file.is_file(), "no file {}: set CRATE_SRC to the directory that holds markdown-1.0.0 and unicode-id-0.3.7", file.display());
-<<<<<<< HEAD
     format!(
         "#[allow(clippy::all, dead_code, unused_imports, unused_attributes, invalid_doc_attributes)]\n#[path = {:?}]\nmod {module};\n",
         file,
         module = module
     )
-=======
-    format!("#[allow(clippy::all, dead_code, unused_imports, unused_attributes, invalid_doc_attributes)]\n#[path = {:?}]\nmod {module};\n", file, module = module)
->>>>>>> c61bbe6243513dd104f32bb17e6eab729cfd826c
 }
 
 fn main() {

@@ -54,12 +54,8 @@ pub fn space_or_tab(line: &[u8], settings: &Settings, min: usize, max: usize) ->
     let state = parse_state(line, settings);
     let mut tokenizer = Tokenizer::new(beginning(), &state);
     let from = space_or_tab_min_max(&mut tokenizer, min, max);
-<<<<<<< HEAD
     let found = read(&mut tokenizer, from);
     found.then_some(tokenizer.point.index)
-=======
-    read(&mut tokenizer, from).then(|| tokenizer.point.index)
->>>>>>> c61bbe6243513dd104f32bb17e6eab729cfd826c
 }
 
 /// The list item that starts there, if any.
@@ -86,11 +82,7 @@ pub fn continuation(line: &[u8], settings: &Settings, size: usize, blank: bool) 
     let mut tokenizer = Tokenizer::new(beginning(), &state);
     hold(&mut tokenizer, size, blank);
     let goes = read(&mut tokenizer, StateName::ListItemContStart);
-<<<<<<< HEAD
     Going { taken: goes.then_some(tokenizer.point.index), blank: tokenizer.tokenize_state.document_container_stack[0].blank_initial }
-=======
-    Going { taken: goes.then(|| tokenizer.point.index), blank: tokenizer.tokenize_state.document_container_stack[0].blank_initial }
->>>>>>> c61bbe6243513dd104f32bb17e6eab729cfd826c
 }
 
 /// The events of the heading that starts there, not yet resolved, if any.
