@@ -3,11 +3,11 @@
 -- tried, and after each closer its chains hold exactly the runs up to it that can still open. No two groups cross, and no group crosses a
 -- container. Each marker byte of a run lies in exactly one piece of a group or one leftover piece of data."
 --
--- The plain rule (`plain`, `closerFrom`) stands over the list of all earlier runs and knows of no chain. What is done in memory is said by three
--- contracts: `find_groups` ensures `Answers`, `handle_closer` ensures `Handles` (both crates/matcher/src/closers.rt), and `next_match`
--- (crates/chains/src/walk.rt), source of every group and candidate, is equal in match, count and memory to `onward`, which reads run by run onward
--- only that run's own slot and, at a closer, its chain from the head (crates/chains/specs/Walk.antt). That these two find their groups by `next_match`
--- and by nothing else is not in a contract: their bodies, some forty lines, show it. What the contracts say is drawn out here.
+-- The plain rule (`plain`, and `closerFrom` for one closer) stands over the list of all earlier runs and knows of no chain. The chained matcher is a
+-- definition too: `onward` (crates/chains/specs/Walk.antt) finds the next match, reading run by run onward only that run's own slot and, at a closer,
+-- its chain from the head; `chained` (crates/matcher/specs/Along.antt) goes on by it closer by closer. Three contracts say that this is what is done:
+-- `next_match` (crates/chains/src/walk.rt) is equal to `onward`, and `handle_closer` and `find_groups` (crates/matcher/src/closers.rt) to `closerBy` and
+-- `chained`, each in answer and memory. What their promises, `Handles` and `Answers`, say is drawn out here.
 -- Assumes nothing.
 use Prim.Native.Nat.{ℕ, _+_, _<_, _≤_}
 use native.Mathlib.Omega.{arith}
@@ -48,6 +48,7 @@ use Rattle.ledgerlark.specs.declared.resolve.LarkResolved.{LarkResolved}
 use Rattle.matcher.specs.Promise.{Answers, Handles}
 use Rattle.matcher.specs.Closer.{closerFrom}
 use Rattle.matcher.specs.Chains.{Listed}
+use Rattle.matcher.specs.Along.{closerBy, chained}
 use Rattle.matcher.specs.Groups.{Grouped}
 use Rattle.matcher.specs.State.{Fresh, Ready}
 use Rattle.matcher.proofs.Chained.{onward-went}
@@ -150,20 +151,23 @@ accepted-nests s options out work r out′ work′ a z =
       only-markers = pieces.only-markers crate options (docOf s) (allEvents s);
     }
 
--- the same groups in the same order, and exactly the candidates tried: whatever runs the memory held before the first match, after it the memory
--- holds the plain rule's groups of them in match order
+-- the chained matcher forms the same groups in the same order, and tries exactly as many candidates: whatever runs the memory held before the first
+-- match, after it the memory holds the plain rule's groups of them in match order
 pub groups-are-the-plain-rule's : (rule : Rule) (w : List ℕ) (n made tried : ℕ) (w′ : List ℕ) → Answers rule w n (Groups made tried) w′ →
-    (rs : List Standing) → Fresh w rs n →
-    (made ≡ length (plain rule rs .groups)) × (tried ≡ plain rule rs .tried) × Grouped w′ (plain rule rs .groups) n
-groups-are-the-plain-rule's rule w n made tried w′ a rs f = let x = a .of rs f in (x .made, x .count, x .grouped)
+    ((Groups made tried, w′) ≡ chained rule w n)
+    × ((rs : List Standing) → Fresh w rs n →
+    (made ≡ length (plain rule rs .groups)) × (tried ≡ plain rule rs .tried) × Grouped w′ (plain rule rs .groups) n)
+groups-are-the-plain-rule's rule w n made tried w′ a = (a .along, λ rs f. let x = a .of rs f in (x .made, x .count, x .grouped))
 
 -- after each closer the chains hold exactly the runs up to it that can still open, as the plain rule has them on finishing that closer. A closer
 -- that takes an opener is a step of its own: this is what the step promises
 pub chains-after-a-match : (rule : Rule) (w : List ℕ) (height n from groups tried next height′ groups′ tried′ : ℕ) (w′ : List ℕ) →
     Handles rule w height n from groups tried (Closed next height′ groups′ tried′) w′ → (rs : List Standing) (gs : List Group) →
     Ready w height rs gs n from → length gs ≡ groups →
-    (next ≡ closerFrom rule rs from gs tried .next) × Listed w′ height′ (closerFrom rule rs from gs tried .runs) (closerFrom rule rs from gs tried .next)
-chains-after-a-match rule w height n from groups tried next height′ groups′ tried′ w′ h rs gs r e = let x = h .of rs gs r e in (x .at, x .ready .listed)
+    ((Closed next height′ groups′ tried′, w′) ≡ closerBy rule w height from n groups tried)
+    × (next ≡ closerFrom rule rs from gs tried .next)
+    × Listed w′ height′ (closerFrom rule rs from gs tried .runs) (closerFrom rule rs from gs tried .next)
+chains-after-a-match rule w height n from groups tried next height′ groups′ tried′ w′ h rs gs r e = let x = h .of rs gs r e in (h .along, x .at, x .ready .listed)
 
 -- and a closer that takes none is passed: `onward`, which `next_match` is equal to, has after any number of passed runs chains that list exactly
 -- the runs up to the last of them

@@ -1,6 +1,6 @@
 -- One closer, turn by turn: what the loop keeps, and what each way out gives.
 -- Invariant: for all runs and groups that the memory had at the start there are runs and groups that it has now, ready at the run to go on from,
--- from which the plain rule finishes the same closer. Measure: the groups for which there is still room.
+-- from which the plain rule finishes the same closer; and going along the chains from here comes to the same as from the start. Measure: the groups for which there is still room.
 -- Assumes nothing.
 use Prim.Native.Nat.{ℕ, zero, suc, _+_, _-_, _*_, _<_, _≤_}
 use mathlib.Core.Path.{_≡_, refl, _∙_, sym, ap}
@@ -16,6 +16,7 @@ use Rattle.chains.specs.Walk.{onward, Sound}
 use Rattle.matcher.specs.State.{Ready}
 use Rattle.chains.specs.Step.{matchedAt, Takable}
 use Rattle.matcher.specs.Closer.{Finish, finish, closerFrom}
+use Rattle.matcher.specs.Along.{closerBy}
 use Rattle.matcher.specs.declared.closers.Step.the-variants.{Closed, Full}
 use Rattle.matcher.specs.Promise.{Begun, ClosedAs, Handled, Handles}
 use Rattle.matcher.proofs.Chained.{ready-sound, Went, onward-went, reach}
@@ -38,12 +39,14 @@ pub record Going (rule : Rule) (rs : List Standing) (gs : List Group) (n from tr
 pub record Keeps (rule : Rule) (w₀ : List ℕ) (height n from groups tried : ℕ) (w : List ℕ) (at until held made count : ℕ) : Type 0 where
   pub of : (rs : List Standing) (gs : List Group) → Ready w₀ height rs gs n from → length gs ≡ groups → Going rule rs gs n from tried w at until held made count
   pub len : length w ≡ length w₀
+  pub way : closerBy rule w₀ height from n groups tried ≡ closerBy rule w held at until made count
 
 pub going-start : {rule : Rule} {w : List ℕ} {height n from groups tried : ℕ} → Begun w height n from groups tried → Keeps rule w height n from groups tried w from n height groups tried
 going-start {rule} {w} {height} {n} {from} {groups} {tried} b =
     record {
       of = λ rs gs r e. record { runs = rs; groups = gs; ready = r; size = e; upto = r .within; within = omega arith; same = refl; on = b .more; start = omega arith; few = b .few };
       len = refl;
+      way = refl;
     }
 
 -- fewer runs in sight

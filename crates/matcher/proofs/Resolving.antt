@@ -15,6 +15,7 @@ use Rattle.matcher.specs.Chains.{latest, openers}
 use Rattle.matcher.specs.Groups.{firstClosed, lastOpened}
 use Rattle.matcher.specs.State.{Fresh, Ready}
 use Rattle.matcher.specs.Closer.{Finish, finish, closerFrom}
+use Rattle.matcher.specs.Along.{along, chained}
 use Rattle.matcher.specs.Promise.{Begun, ClosedAs, Handled, Handles, Loaded, GroupsOf, Answered, Answers}
 use Rattle.matcher.proofs.Rounds.{rounds-finish, rounds-longer, rounds-end}
 
@@ -53,11 +54,14 @@ pub record Resolving (rule : Rule) (rs : List Standing) (n : ℕ) (w : List ℕ)
 pub record Resolves (rule : Rule) (w₀ : List ℕ) (n : ℕ) (w : List ℕ) (from height groups tried : ℕ) : Type 0 where
   pub of : (rs : List Standing) → Fresh w₀ rs n → Resolving rule rs n w from height groups tried
   pub len : length w ≡ length w₀
+  pub turns : ℕ
+  pub enough : n - from < turns
+  pub way : chained rule w₀ n ≡ along turns rule w height n from groups tried
 
 pub resolve-start : {rule : Rule} {w : List ℕ} {n : ℕ} → Resolves rule w n w 0 0 0 0
-unfolding plain
+unfolding plain chained
 resolve-start {rule} {w} {n} =
-    record { of = λ rs r. record { runs = rs; made = []; ready = fresh-ready w rs n r; size = refl; same = refl; few = omega arith }; len = refl }
+    record { of = λ rs r. record { runs = rs; made = []; ready = fresh-ready w rs n r; size = refl; same = refl; few = omega arith }; len = refl; turns = n + 1; enough = omega arith; way = refl }
 
 pub resolve-loaded : {rule : Rule} {w₀ : List ℕ} {n : ℕ} {w : List ℕ} {from height groups tried : ℕ} → Resolves rule w₀ n w from height groups tried → (l : Loaded w₀ n)
     → Resolving rule (l .runs) n w from height groups tried

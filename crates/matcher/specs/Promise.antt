@@ -16,6 +16,7 @@ use Rattle.matcher.specs.Chains.{Reads, Listed}
 use Rattle.matcher.specs.Groups.{Grouped}
 use Rattle.matcher.specs.State.{Fresh, Ready}
 use Rattle.matcher.specs.Closer.{Finish, closerFrom}
+use Rattle.matcher.specs.Along.{closerBy, chained}
 
 -- there is a run to go on from, and some runs and groups that the memory has; so few were tried that the count does not run over
 pub record Begun (w : List ℕ) (height n from groups tried : ℕ) : Type 0 where
@@ -39,9 +40,10 @@ abbrev pub Handled : Rule → List Standing → List Group → ℕ → ℕ → �
 Handled rule rs gs n from t (Closed next height groups tried) w = ClosedAs (closerFrom rule rs from gs t) n from next height groups tried w
 Handled rule rs gs n from t Full w = 1000 < length (closerFrom rule rs from gs t .groups)
 
--- this, for all runs and groups that the memory had
+-- this, for all runs and groups that the memory had; and step and memory are what going along the chains comes to
 pub record Handles (rule : Rule) (w : List ℕ) (height n from groups tried : ℕ) (step : Step) (w′ : List ℕ) : Type 0 where
   pub of : (rs : List Standing) (gs : List Group) → Ready w height rs gs n from → length gs ≡ groups → Handled rule rs gs n from tried step w′
+  pub along : (step, w′) ≡ closerBy rule w height from n groups tried
 
 -- the memory has some runs, and is as before the first match
 pub record Loaded (w : List ℕ) (n : ℕ) : Type 0 where
@@ -60,6 +62,7 @@ abbrev pub Answered : Rule → List Standing → ℕ → Found → List ℕ → 
 Answered rule rs n (Groups groups tried) w = GroupsOf (plain rule rs) n groups tried w
 Answered rule rs n TooMany w = 1000 < length (plain rule rs .groups)
 
--- this, for all runs that the memory had
+-- this, for all runs that the memory had; and answer and memory are what the chained matcher comes to
 pub record Answers (rule : Rule) (w : List ℕ) (n : ℕ) (found : Found) (w′ : List ℕ) : Type 0 where
   pub of : (rs : List Standing) → Fresh w rs n → Answered rule rs n found w′
+  pub along : (found, w′) ≡ chained rule w n

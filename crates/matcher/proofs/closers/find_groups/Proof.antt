@@ -2,11 +2,12 @@
 -- Invariant and measure: Resolving.antt.
 -- Assumes nothing.
 use Prim.Native.Nat.{_-_}
-use mathlib.Core.Path.{_∙_}
+use mathlib.Core.Path.{sym, _∙_}
 use native.Mathlib.Omega.{arith}
 use borrow.Author.Needs.{needs}
 use Rattle.chains.specs.Walk.{ruleFor}
 use Rattle.matcher.proofs.Resolving.{Resolves, resolve-start, resolve-loaded, resolve-begun, resolve-full, resolve-on, resolve-again, resolve-end}
+use Rattle.matcher.proofs.Ways.{end-way, full-all, again-all}
 use Rattle.matcher.proofs.closers.find_groups.Statement.{statement}
 use Rattle.matcher.proofs.closers.find_groups.Tie as tie
 
@@ -29,7 +30,7 @@ same-length : tie.Need-same-length Inv-loop μ-loop
 same-length c = c .before .before .before .before .handle-closer .kept .0 ∙ c .before .before .before .before .before .before .before .loop .inv .len
 
 returns : tie.Need-returns Inv-loop μ-loop
-returns c = record { of = λ rs r. resolve-full (c .before .before .before .before .before .before .before .loop .inv .of rs r) (c .before .before .before .before .handle-closer .ensures) (c .enum-told .given .1) }
+returns c = record { of = λ rs r. resolve-full (c .before .before .before .before .before .before .before .loop .inv .of rs r) (c .before .before .before .before .handle-closer .ensures) (c .enum-told .given .1); along = sym (c .before .before .before .before .before .before .before .loop .inv .way ∙ full-all _ _ _ _ _ _ _ (c .before .before .before .before .handle-closer .ensures .along) (c .before .before .before .before .before .before .loop-test .taken) _ (c .before .before .before .before .before .before .before .loop .inv .enough) (c .enum-told .given .1)) }
 
 enum-known-next : tie.Need-enum-known-next Inv-loop μ-loop
 enum-known-next c = search needs
@@ -42,13 +43,16 @@ loop-again c =
     record {
       of = λ rs r. resolve-again (c .before .before .before .before .before .before .before .before .loop .inv .of rs r) (c .before .before .before .before .before .handle-closer .ensures) (c .before .next .given .1);
       len = c .before .before .before .before .before .handle-closer .kept .0 ∙ c .before .before .before .before .before .before .before .before .loop .inv .len;
+      turns = c .before .before .before .before .before .before .before .before .loop .inv .turns - 1;
+      enough = let g = resolve-loaded (c .before .before .before .before .before .before .before .before .loop .inv) (c .before .before .before .before .before .before .before .before .before .before .pre) in omega (arith, c .before .before .before .before .before .before .before .before .loop .inv .enough, c .before .before .before .before .before .before .before .loop-test .taken, resolve-on g (c .before .before .before .before .before .handle-closer .ensures) (c .before .next .given .1));
+      way = c .before .before .before .before .before .before .before .before .loop .inv .way ∙ again-all _ _ _ _ _ _ _ (c .before .before .before .before .before .handle-closer .ensures .along) (c .before .before .before .before .before .before .before .loop-test .taken) _ (c .before .before .before .before .before .before .before .before .loop .inv .enough) (c .before .next .given .1);
     }
 
 same-length-2 : tie.Need-same-length-2 Inv-loop μ-loop
 same-length-2 c = c .before .loop .inv .len
 
 returns-2 : tie.Need-returns-2 Inv-loop μ-loop
-returns-2 c = record { of = λ rs r. resolve-end (c .before .loop .inv .of rs r) (c .loop-test .left) }
+returns-2 c = record { of = λ rs r. resolve-end (c .before .loop .inv .of rs r) (c .loop-test .left); along = sym (c .before .loop .inv .way ∙ end-way _ _ _ _ _ _ _ _ (c .loop-test .left)) }
 
 pub find-groups-spec : {M : Type 1} → statement M
 find-groups-spec =

@@ -7,6 +7,7 @@ use native.Mathlib.Omega.{arith}
 use borrow.Author.Needs.{needs}
 use Rattle.chains.specs.Walk.{ruleFor}
 use Rattle.matcher.proofs.Handling.{Keeps, Going, going-start, going-sound, going-done, done-few, match-few, closer-below, going-full, going-takable, going-again, going-begun, going-small}
+use Rattle.matcher.proofs.Ways.{done-way, full-way, again-way}
 use Rattle.matcher.proofs.closers.handle_closer.Statement.{statement}
 use Rattle.matcher.proofs.closers.handle_closer.Tie as tie
 
@@ -35,7 +36,7 @@ same-length : tie.Need-same-length Inv-loop μ-loop
 same-length c = c .before .before .before .before .before .next-match .kept .0 ∙ c .before .before .before .before .before .before .before .loop .inv .len
 
 returns : tie.Need-returns Inv-loop μ-loop
-returns c = record { of = λ rs gs r e. going-done (c .before .before .before .before .before .before .before .loop .inv .of rs gs r e) (c .before .before .before .before .before .next-match .ensures) (c .before .next .given .1) (c .before .before .before .before .before .before .before .before .before .args .groups) e (r .reads .len) }
+returns c = record { of = λ rs gs r e. going-done (c .before .before .before .before .before .before .before .loop .inv .of rs gs r e) (c .before .before .before .before .before .next-match .ensures) (c .before .next .given .1) (c .before .before .before .before .before .before .before .before .before .args .groups) e (r .reads .len); along = sym (c .before .before .before .before .before .before .before .loop .inv .way ∙ done-way _ _ _ _ _ _ _ (c .before .before .before .before .before .next-match .ensures) (c .before .next .given .1)) }
 
 enum-known-next-2 : tie.Need-enum-known-next-2 Inv-loop μ-loop
 enum-known-next-2 c = search needs
@@ -44,7 +45,7 @@ same-length-2 : tie.Need-same-length-2 Inv-loop μ-loop
 same-length-2 c = c .before .before .before .before .before .before .next-match .kept .0 ∙ c .before .before .before .before .before .before .before .before .loop .inv .len
 
 returns-2 : tie.Need-returns-2 Inv-loop μ-loop
-returns-2 c = record { of = λ rs gs r e. going-full (c .before .before .before .before .before .before .before .before .loop .inv .of rs gs r e) (c .before .before .before .before .before .before .next-match .ensures) (c .before .before .next2 .given .1) (c .if1 .taken) (r .reads .len) }
+returns-2 c = record { of = λ rs gs r e. going-full (c .before .before .before .before .before .before .before .before .loop .inv .of rs gs r e) (c .before .before .before .before .before .before .next-match .ensures) (c .before .before .next2 .given .1) (c .if1 .taken) (r .reads .len); along = sym (c .before .before .before .before .before .before .before .before .loop .inv .way ∙ full-way _ _ _ _ _ _ _ (c .before .before .before .before .before .before .next-match .ensures) (c .before .before .next2 .given .1) (c .if1 .taken)) }
 
 take-match-requires : tie.Need-take-match-requires Inv-loop μ-loop
 take-match-requires c κs = going-takable (going-begun (c .before .before .before .before .before .before .before .before .before .loop .inv) (c .before .before .before .before .before .before .before .before .before .before .before .pre)) (c .before .before .before .before .before .before .before .next-match .ensures) (c .before .before .before .next2 .given .1) (c .before .if1 .left)
@@ -71,6 +72,9 @@ loop-again c =
     record {
       of = λ rs gs r e. going-again (c .before .before .before .before .before .before .before .before .before .before .before .before .loop .inv .of rs gs r e) (c .before .before .before .before .before .before .before .before .before .before .next-match .ensures) (c .before .before .before .before .before .before .next2 .given .1) (c .before .before .before .before .if1 .left) (c .before .before .take-match .ensures);
       len = c .before .before .take-match .kept .0 ∙ c .before .before .before .before .before .before .before .before .before .before .next-match .kept .0 ∙ c .before .before .before .before .before .before .before .before .before .before .before .before .loop .inv .len;
+      way =
+          let s = going-small (going-begun (c .before .before .before .before .before .before .before .before .before .before .before .before .loop .inv) (c .before .before .before .before .before .before .before .before .before .before .before .before .before .before .pre)) in
+          c .before .before .before .before .before .before .before .before .before .before .before .before .loop .inv .way ∙ again-way _ _ _ _ _ _ _ (c .before .before .before .before .before .before .before .before .before .before .next-match .ensures) (c .before .before .before .before .before .before .next2 .given .1) (c .before .before .before .before .if1 .left) (s .room) (c .before .before .take-match .ensures);
     }
 
 pub handle-closer-spec : {M : Type 1} → statement M
