@@ -294,7 +294,7 @@ fn readers() {
     };
     let continuation = |name, line| {
         let theirs = |line: &[u8]| crate_side::continuation(line, settings, 2, false);
-        reading(name, line, theirs, |line| lark::continuation(line, OPTIONS, 2, false), |t, o| {
+        reading(name, line, theirs, |line| lark::continuation(line, OPTIONS, 2, false, b'-'), |t, o| {
             (o.found, o.taken, o.blank) == (usize::from(t.taken.is_some()), t.taken.unwrap_or(0), usize::from(t.blank))
         })
     };

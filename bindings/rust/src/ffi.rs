@@ -1,4 +1,5 @@
 //! The C interface, and the only unsafe code. Each function here lends Rust slices to the call of the same name and is safe itself.
+//! It stands alone: the drivers of `oracle/` and `bench/` take this file as a module of their own.
 //!
 //! Why that is sound, for all of them:
 //!

@@ -3,6 +3,12 @@
 //! Before a call the output holds a pattern and the work memory other bytes; behind both stand guards. After it the output past the section must
 //! hold the pattern still, all of it after a refusal or a finding, and the work memory must be zero.
 
+// The binding's own file, so that the C interface is declared once. Its layout is checked there, in lines of another width.
+#[cfg(feature = "library")]
+#[path = "../../../bindings/rust/src/ffi.rs"]
+#[rustfmt::skip]
+mod ffi;
+
 use crate::answer::{Answer, Call, Question};
 
 /// Room for the largest section, and for lengths past it.
@@ -26,124 +32,34 @@ impl Lent {
 }
 
 #[cfg(feature = "library")]
-mod c {
-    #[repr(C)]
-    pub struct Reading {
-        pub number: usize,
-        pub place: usize,
-        pub document: usize,
-        pub events: usize,
-    }
-    #[repr(C)]
-    pub struct Resolved {
-        pub number: usize,
-        pub place: usize,
-        pub events: usize,
-        pub groups: usize,
-        pub tried: usize,
-    }
-    #[repr(C)]
-    pub struct Spaces {
-        pub number: usize,
-        pub place: usize,
-        pub found: usize,
-        pub taken: usize,
-    }
-    #[repr(C)]
-    pub struct Item {
-        pub number: usize,
-        pub place: usize,
-        pub found: usize,
-        pub taken: usize,
-        pub size: usize,
-        pub blank: usize,
-        pub mark: usize,
-    }
-    #[repr(C)]
-    pub struct Going {
-        pub number: usize,
-        pub place: usize,
-        pub found: usize,
-        pub taken: usize,
-        pub blank: usize,
-    }
-    #[repr(C)]
-    pub struct Headed {
-        pub number: usize,
-        pub place: usize,
-        pub found: usize,
-        pub events: usize,
-    }
-    type Resolver = unsafe extern "C" fn(*const u8, usize, u32, *mut u8, usize, *mut u8, usize) -> Resolved;
-    extern "C" {
-        pub fn lark_read(record: *const u8, length: usize, options: u32, work: *mut u8, work_length: usize) -> Reading;
-        pub fn lark_resolve_attention(
-            record: *const u8,
-            length: usize,
-            options: u32,
-            out: *mut u8,
-            out_length: usize,
-            work: *mut u8,
-            work_length: usize,
-        ) -> Resolved;
-        pub fn lark_resolve_headings(
-            record: *const u8,
-            length: usize,
-            options: u32,
-            out: *mut u8,
-            out_length: usize,
-            work: *mut u8,
-            work_length: usize,
-        ) -> Resolved;
-        pub fn lark_resolve_lists(
-            record: *const u8,
-            length: usize,
-            options: u32,
-            out: *mut u8,
-            out_length: usize,
-            work: *mut u8,
-            work_length: usize,
-        ) -> Resolved;
-        pub fn lark_space_or_tab(line: *const u8, length: usize, options: u32, min: usize, max: usize) -> Spaces;
-        pub fn lark_list_item(line: *const u8, length: usize, options: u32, interrupting: u32) -> Item;
-        pub fn lark_continuation(line: *const u8, length: usize, options: u32, size: usize, blank: u32, mark: u32) -> Going;
-        pub fn lark_heading(line: *const u8, length: usize, options: u32, out: *mut u8, out_length: usize) -> Headed;
-    }
-    pub const RESOLVERS: [Resolver; 3] = [lark_resolve_attention, lark_resolve_headings, lark_resolve_lists];
-}
-
-#[cfg(feature = "library")]
 fn numbers(question: &Question, output: &mut [u8], work: &mut [u8]) -> [usize; 7] {
     let Question { call, input, options, arguments: [a, b, m] } = question;
-    let (at, length, options) = (input.as_ptr(), input.len(), *options);
-    // Every pointer goes with the length of the slice it comes from, and all of them outlive the call.
-    unsafe {
-        match call {
-            Call::Read => {
-                let r = c::lark_read(at, length, options, work.as_mut_ptr(), work.len());
-                [r.number, r.place, r.document, r.events, 0, 0, 0]
-            }
-            Call::Attention | Call::Headings | Call::Lists => {
-                let resolver = c::RESOLVERS[*call as usize - Call::Attention as usize];
-                let r = resolver(at, length, options, output.as_mut_ptr(), output.len(), work.as_mut_ptr(), work.len());
-                [r.number, r.place, r.events, r.groups, r.tried, 0, 0]
-            }
-            Call::SpaceOrTab => {
-                let r = c::lark_space_or_tab(at, length, options, *a, *b);
-                [r.number, r.place, r.found, r.taken, 0, 0, 0]
-            }
-            Call::ListItem => {
-                let r = c::lark_list_item(at, length, options, *a as u32);
-                [r.number, r.place, r.found, r.taken, r.size, r.blank, r.mark]
-            }
-            Call::Continuation => {
-                let r = c::lark_continuation(at, length, options, *a, *b as u32, *m as u32);
-                [r.number, r.place, r.found, r.taken, r.blank, 0, 0]
-            }
-            Call::Heading => {
-                let r = c::lark_heading(at, length, options, output.as_mut_ptr(), output.len());
-                [r.number, r.place, r.found, r.events, 0, 0, 0]
-            }
+    let options = *options;
+    let resolved = |r: ffi::Resolved| [r.number, r.place, r.events, r.groups, r.tried, 0, 0];
+    match call {
+        Call::Read => {
+            let r = ffi::read(input, options, work);
+            [r.number, r.place, r.document, r.events, 0, 0, 0]
+        }
+        Call::Attention => resolved(ffi::resolve_attention(input, options, output, work)),
+        Call::Headings => resolved(ffi::resolve_headings(input, options, output, work)),
+        Call::Lists => resolved(ffi::resolve_lists(input, options, output, work)),
+        Call::SpaceOrTab => {
+            let r = ffi::space_or_tab(input, options, *a, *b);
+            [r.number, r.place, r.found, r.taken, 0, 0, 0]
+        }
+        Call::ListItem => {
+            let r = ffi::list_item(input, options, *a != 0);
+            [r.number, r.place, r.found, r.taken, r.size, r.blank, r.mark]
+        }
+        Call::Continuation => {
+            let mark = u8::try_from(*m).expect("a mark is one byte");
+            let r = ffi::continuation(input, options, *a, *b != 0, mark);
+            [r.number, r.place, r.found, r.taken, r.blank, 0, 0]
+        }
+        Call::Heading => {
+            let r = ffi::heading(input, options, output);
+            [r.number, r.place, r.found, r.events, 0, 0, 0]
         }
     }
 }
