@@ -1,4 +1,5 @@
-//! Markdown: what lies on the machine, and what is made up: nested lists and quotes, headings, links, code, HTML, tables, footnotes.
+//! Markdown: what lies on the machine, the examples of CommonMark among it where they are there, and what is made up: nested lists and quotes,
+//! headings, links, code, HTML, tables, footnotes.
 
 use std::fs;
 use std::path::{Path, PathBuf};
@@ -12,8 +13,42 @@ fn gather(at: &Path, depth: usize, files: &mut Vec<PathBuf>) {
         let Ok(kind) = entry.file_type() else { continue };
         if kind.is_dir() && depth > 0 {
             gather(&path, depth - 1, files);
-        } else if kind.is_file() && path.extension().is_some_and(|end| end == "md" || end == "markdown") {
+        } else if kind.is_file() && (path.extension().is_some_and(|end| end == "md" || end == "markdown") || is_examples(&path)) {
             files.push(path);
+        }
+    }
+}
+
+/// Whether a file has the examples of CommonMark, by the name under which they are passed on.
+fn is_examples(path: &Path) -> bool {
+    path.file_name().is_some_and(|name| name == "spec.json")
+}
+
+/// The Markdown of each example: the strings of the fields `markdown`.
+fn examples(json: &str) -> Vec<String> {
+    json.split("\"markdown\":").skip(1).filter_map(|rest| string(rest.trim_start().strip_prefix('"')?)).collect()
+}
+
+/// A string of JSON, from behind its first quote.
+fn string(json: &str) -> Option<String> {
+    let mut out = String::new();
+    let mut letters = json.chars();
+    loop {
+        match letters.next()? {
+            '"' => return Some(out),
+            '\\' => match letters.next()? {
+                'n' => out.push('\n'),
+                't' => out.push('\t'),
+                'r' => out.push('\r'),
+                'b' => out.push('\x08'),
+                'f' => out.push('\x0c'),
+                'u' => {
+                    let code: String = letters.by_ref().take(4).collect();
+                    out.push(char::from_u32(u32::from_str_radix(&code, 16).ok()?).unwrap_or('x'));
+                }
+                other => out.push(other),
+            },
+            letter => out.push(letter),
         }
     }
 }
@@ -62,7 +97,12 @@ pub fn found(directories: &[String]) -> (usize, Vec<Vec<u8>>) {
     let mut pieces = vec![];
     for file in &files {
         let Ok(bytes) = fs::read(file) else { continue };
-        let text = tamed(&String::from_utf8_lossy(&bytes));
+        let text = String::from_utf8_lossy(&bytes);
+        if is_examples(file) {
+            pieces.extend(examples(&text).iter().map(|example| tamed(example)));
+            continue;
+        }
+        let text = tamed(&text);
         for most in [400, 2_500, 8_000] {
             cut(&text, most, &mut pieces);
         }
