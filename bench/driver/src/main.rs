@@ -92,11 +92,7 @@ fn turn(case: &Case, row: &mut [Row], settings: &Settings, lent: &mut Lent, cloc
         });
         lower(&mut row.theirs, theirs - clock);
         let mut events = 0;
-<<<<<<< HEAD
-        // The answer is lent to `black_box`: given away it would be copied in the timer, which waits for the stores of the wipe.
-=======
         // The answer is lent to `black_box`: given away, it is copied while the timer runs, and that took about 100 ns of a short call.
->>>>>>> a8545102b3a3a8973f39ab815355fe4012c77cd6
         let ours = least(lent, |_| (), |lent| events = black_box(&lent.resolve(case.which, black_box(&record), OPTIONS)).events);
         lower(&mut row.ours, ours - clock);
         let from = lent.out[..4 + 8 * events].to_vec();
