@@ -210,7 +210,9 @@ fn random(run: &mut Run) {
 
 fn captured(run: &mut Run, directories: &[String]) {
     let (files, pieces) = documents::found(directories);
-    run.stage(&format!("Markdown found ({files} files, {} pieces)", pieces.len()), pieces.len() / run.scale, |bench, i| {
+    // So few that a short run has the time for all, as the examples of CommonMark alone are, are not thinned out.
+    let count = if pieces.len() < 1_000 { pieces.len() } else { pieces.len() / run.scale };
+    run.stage(&format!("Markdown found ({files} files, {} pieces)", pieces.len()), count, |bench, i| {
         for (options, more) in [(63, false), (59, true), (31, false)] {
             bench.watch(Markdown { bytes: &pieces[i], text_alone: false, more }, options, Source::Captured);
         }
