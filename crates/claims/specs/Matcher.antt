@@ -7,7 +7,8 @@
 -- definition too: `onward` (crates/chains/specs/Walk.antt) finds the next match, reading run by run onward only that run's own slot and, at a closer,
 -- its chain from the head; `chained` (crates/matcher/specs/Along.antt) goes on by it closer by closer. Three contracts say that this is what is done:
 -- `next_match` (crates/chains/src/walk.rt) is equal to `onward`, and `handle_closer` and `find_groups` (crates/matcher/src/closers.rt) to `closerBy` and
--- `chained`, each in answer and memory. What their promises, `Handles` and `Answers`, say is drawn out here.
+-- `chained`, each in answer and memory. That only chains are looked at is in the first: its premises say nothing of slots off the chain. That the other
+-- two find their groups by it is seen in their bodies: on memory that is as they require, a search over all runs would come to the same. What their promises, `Handles` and `Answers`, say is drawn out here.
 -- Assumes nothing.
 use Prim.Native.Nat.{ℕ, _+_, _<_, _≤_}
 use native.Mathlib.Omega.{arith}

@@ -1,6 +1,7 @@
 -- The chained matcher as a definition: the next match along the chains, taken, and the next, until a closer is finished; and so closer by closer.
 -- It reads what `onward` reads, that is each run's own slot and at a closer its chain from the head, and writes what passing a run and taking a match
--- write. A search of any other kind is not equal to it.
+-- write. Being equal to it fixes answer and memory, not what was looked at: where the chains list the runs rightly, a search over all of them comes to
+-- the same. That only chains are looked at is the promise of `next_match`, whose premises say nothing of slots off the chain.
 -- Assumes nothing.
 use Prim.Native.Nat.{ℕ, zero, suc, _+_, _-_}
 use mathlib.Core.List.{List}
