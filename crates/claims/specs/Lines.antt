@@ -11,9 +11,9 @@ use mathlib.Core.List.{List, []}
 use lib.ListN.{length, take, drop}
 use lib.Dec.{leb, ltb}
 use borrow.Author.Tests.{ltb-false}
+use Rattle.record.proofs.Output.{onto-bytes, onto-rest, onto-none}
 use Rattle.record.proofs.Sections.{length-section}
 use Rattle.record.specs.declared.event.Event.{Event}
-use lib.Seq.{take-append-seam, drop-append-seam}
 use Rattle.record.specs.Choice.{choose, and}
 use Rattle.record.specs.Outcome.{Outcome, accepted, refused, sized, onto}
 use Rattle.record.specs.Rows.{Least}
@@ -235,11 +235,8 @@ pub record WritingClaim (As : List ℕ → LarkHeaded → List ℕ → Type 0) (
   pub only-a-heading-writes : (out : List ℕ) (r : LarkHeaded) (out′ : List ℕ) → As out r out′ → r .found ≡ 0 → out′ ≡ out
 
 seam : (bs out o : List ℕ) → o ≡ onto bs out → (take (length bs) o ≡ bs) × (drop (length bs) o ≡ drop (length bs) out)
-unfolding onto
-seam bs out o e = (
-  ap (λ (l : List ℕ). take (length bs) l) e ∙ take-append-seam bs (drop (length bs) out),
-  ap (λ (l : List ℕ). drop (length bs) l) e ∙ drop-append-seam bs (drop (length bs) out),
-)
+seam bs out o e =
+    (ap (λ (l : List ℕ). take (length bs) l) e ∙ onto-bytes bs out, ap (λ (l : List ℕ). drop (length bs) l) e ∙ onto-rest bs out)
 
 writing-number : {s : List ℕ} {options outs n p : ℕ} → WritingRow s options outs n p → 0 < n
 writing-number (reading-row r) = row-number r
@@ -277,10 +274,6 @@ unfolding headedOf headedIn
 silent s options outs =
     silent-reading (checkedLine s options) (choose (isHeading (lineOf s) options) (headed (sized (headingEvents (lineOf s)) outs)) (nothing NotHeading))
     (silent-choice (isHeading (lineOf s) options) (sized (headingEvents (lineOf s)) outs))
-
-nothing-onto : (out : List ℕ) → onto [] out ≡ out
-unfolding onto
-nothing-onto out = refl
 
 -- what is written fits
 within-choice : (z : Bool) (a b : Outcome) (outs : ℕ) → (z ≡ false → length (headed b .bytes) ≤ outs) → length (headed a .bytes) ≤ outs →
@@ -328,5 +321,5 @@ heading-claim s options =
       fits = λ out. within s options (length out);
       only-a-heading-writes = λ out r out′ a z.
           let none = silent s options (length out) (sym (ap (λ (x : LarkHeaded). x .found) (a .answer)) ∙ z) in
-          a .output ∙ ap (λ (bs : List ℕ). onto bs out) none ∙ nothing-onto out;
+          a .output ∙ ap (λ (bs : List ℕ). onto bs out) none ∙ onto-none out;
     }

@@ -21,6 +21,7 @@ use Rattle.record.specs.declared.check.Reading.the-variants.{Good, Refused}
 use Rattle.record.specs.declared.event.Event.{Event}
 use Rattle.record.proofs.Exactly.{exactly}
 use Rattle.record.proofs.Sections.{length-section}
+use Rattle.record.proofs.Output.{onto-none}
 use Rattle.attention.specs.Attention.{attention}
 use Rattle.attention.specs.Promise.{resolution as attentionOutcome, answerOf as attentionAnswer}
 use Rattle.attention.specs.Shape.{Offends as RunOffends}
@@ -136,16 +137,12 @@ writes-isolated {comes} {answers} {out₁} {out₂} {work₁} {work₂} eo ew p 
     both : bytesWritten (comes (length out₁) (length work₁)) ≡ bytesWritten (comes (length out₂) (length work₂))
     both = cc
 
-nothing-onto : (out : List ℕ) → onto [] out ≡ out
-unfolding onto
-nothing-onto out = refl
-
 keeps : {comes : ℕ → ℕ → Outcome} {answers : Outcome → LarkResolved} {out work : List ℕ} {r : LarkResolved} {out′ work′ : List ℕ} →
     Reads answers → (o : Outcome) → comes (length out) (length work) ≡ o → Writes comes answers out work r out′ work′ → 0 < r .number → out′ ≡ out
 keeps {comes} {answers} {out} {work} {r} reads (accepted es) e a h =
     let z : r .number ≡ 0 = ap (λ (x : LarkResolved). x .number) (a .answer ∙ ap answers e) ∙ reads .of-accepted es in absurd (omega arith)
 keeps {comes} {answers} {out} {work} {r} reads (refused x) e a h =
-    a .output ∙ ap (λ (o : Outcome). onto (bytesWritten o) out) e ∙ nothing-onto out
+    a .output ∙ ap (λ (o : Outcome). onto (bytesWritten o) out) e ∙ onto-none out
 
 no-refusal-writes : {comes : ℕ → ℕ → Outcome} {answers : Outcome → LarkResolved} {out work : List ℕ} {r : LarkResolved} {out′ work′ : List ℕ} →
     Reads answers → Writes comes answers out work r out′ work′ → 0 < r .number → out′ ≡ out
