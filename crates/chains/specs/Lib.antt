@@ -1,3 +1,2 @@
 pub mod Walk
 pub mod Step
-pub mod Cases
