@@ -23,8 +23,8 @@ use Rattle.runs.specs.Pieces.{standing, outcome, groupName, closings, openings,
 use Rattle.runs.specs.Output.{closingEvents, openingEvents, leftoverEvents, runEvents, replaced, output}
 use Rattle.runs.specs.Cases.{stretchOf, nameOf, splitFrom, split}
 use Rattle.attention.specs.Attention.{attention}
-use Rattle.lines.specs.Run.{or, spaceOrTab, filled, digit, hash, leading, every, count, blank, blanks, blanksUpTo, on, indentation}
-use Rattle.lines.specs.Line.{noFeed, endOf, lineOf, checkedLine, reading}
+use Rattle.scan.specs.Run.{or, spaceOrTab, filled, digit, hash, leading, every, count, blank, blanks, blanksUpTo, on, indentation}
+use Rattle.scan.specs.Line.{noFeed, endOf, lineOf, checkedLine, reading}
 use Rattle.lines.specs.Item.{breakMark, isMark, markOrBlank, marksOnly, thematicBreak, bulletMark, orderedMark, startsWithOne, mayStart, orderedOf, markerOf, padding, filledStart, startAfter, startFrom, startAt, startIn, startOf, numbersOf}
 use Rattle.lines.specs.Heading.{brokenOff, opening, isHeading, pieceOf, pieces, eventsFrom, headingEvents}
 use Rattle.lines.specs.Heading.{split as splitHeading}

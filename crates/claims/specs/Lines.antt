@@ -18,13 +18,13 @@ use Rattle.record.specs.Choice.{choose, and}
 use Rattle.record.specs.Outcome.{Outcome, accepted, refused, sized, onto}
 use Rattle.record.specs.Rows.{Least}
 use Rattle.record.specs.declared.check.Refusal.{Refusal}
-use Rattle.lines.specs.Line.{lineOf, refusal, checkedLine, reading}
-use Rattle.lines.specs.declared.line.Checked.{Checked}
-use Rattle.lines.specs.declared.line.Checked.the-variants.{Ends, Bad}
+use Rattle.scan.specs.Line.{lineOf, refusal, checkedLine, reading}
+use Rattle.scan.specs.declared.line.Checked.{Checked}
+use Rattle.scan.specs.declared.line.Checked.the-variants.{Ends, Bad}
 use Rattle.lines.specs.Rows.{Row, row-2, row-3, row-4, WritingRow, reading as reading-row, row-7, row-8, Exactly, headingFound}
 use Rattle.lines.specs.Spaces.{spacesIn, spacesOf}
 use Rattle.lines.specs.Item.{startIn, startOf}
-use Rattle.lines.specs.Run.{blank, blanks, blanksUpTo}
+use Rattle.scan.specs.Run.{blank, blanks, blanksUpTo}
 use Rattle.lines.specs.Going.{cleared, blankGoing, filledGoing, goingIn, goingOf}
 use Rattle.lines.specs.Heading.{Result, nothing, headed, isHeading, headingEvents, headedIn, headedOf}
 use Rattle.lines.specs.declared.spaces.Spaces.{Spaces}

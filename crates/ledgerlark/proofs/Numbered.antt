@@ -2,7 +2,7 @@
 -- Assumes nothing.
 use Prim.Native.Nat.{ℕ}
 use mathlib.Core.Path.{_≡_}
-use Rattle.lines.specs.Line.{flag}
+use Rattle.scan.specs.Line.{flag}
 use Rattle.lines.specs.Item.{markOf}
 use Rattle.lines.specs.declared.container.Container.{Container}
 use Rattle.lines.specs.declared.item.Start.{Start}

@@ -7,7 +7,7 @@ use lines::heading::Headed;
 use lines::item::Start;
 use lines::spaces::Spaces;
 ghost use mathlib.Core.Path.{_≡_};
-ghost use Rattle.lines.specs.Line.{flag};
+ghost use Rattle.scan.specs.Line.{flag};
 ghost use Rattle.lines.specs.Item.{markOf};
 ghost use Rattle.ledgerlark.specs.Answers.{kindOf, containerOf, spacesOf, itemOf, goingOf, headedOf, SpacesAs, ItemAs, GoingAs, HeadedAs};
 

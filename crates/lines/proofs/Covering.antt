@@ -16,13 +16,13 @@ use Rattle.record.specs.Stack.{fitsOpen, after}
 use Rattle.record.specs.Sound.{placed, soundFrom}
 use Rattle.record.specs.declared.event.Event.{Event}
 use Rattle.record.proofs.Bools.{and-left, and-right}
-use Rattle.lines.specs.Run.{or, spaceOrTab, hash, leading, first, blanks, blanksUpTo, on, indentation}
+use Rattle.scan.specs.Run.{or, spaceOrTab, hash, leading, first, blanks, blanksUpTo, on, indentation}
 use Rattle.lines.specs.Heading.{opening, isHeading, piece, pieceOf, pieces, split, eventsFrom, headingEvents}
 use Rattle.lines.specs.Laws.{gapless, HeadingLaws, HeadingShape}
 use Rattle.lines.specs.declared.heading.Piece.{Piece}
 use Rattle.lines.proofs.Chosen.{chosen}
-use Rattle.lines.proofs.Leading.{leading-short, first-of}
-use Rattle.lines.proofs.Taking.{blanks-length}
+use Rattle.scan.proofs.Leading.{leading-short, first-of}
+use Rattle.scan.proofs.Blanks.{blanks-length}
 use Rattle.lines.proofs.Pieces.{sized, split-cons}
 
 -- an event that fits, before a sound rest

@@ -16,15 +16,15 @@ use Rattle.record.specs.Rows.{Least}
 use Rattle.record.specs.Outcome.{sized, accepted, refusing}
 use Rattle.record.specs.declared.check.Refusal.{Refusal}
 use Rattle.record.proofs.Exactly.{least-only, first-there, first-least}
-use Rattle.lines.specs.Line.{endOf, lineOf, refusal, checkedLine, reading}
+use Rattle.scan.specs.Line.{endOf, lineOf, refusal, checkedLine, reading}
 use Rattle.lines.specs.Rows.{Row, row-2, row-3, row-4, WritingRow, row-7, row-8, Exactly, headingFound}
 use Rattle.lines.specs.Rows.{reading as by-reading}
 use Rattle.lines.specs.Spaces.{spacesIn, spacesOf}
 use Rattle.lines.specs.Item.{filledStart, startAfter, startFrom, startAt, startIn, startOf}
 use Rattle.lines.specs.Going.{blankGoing, filledGoing, goingIn, goingOf}
 use Rattle.lines.specs.Heading.{isHeading, headingEvents, nothing, headed, headedIn, headedOf}
-use Rattle.lines.specs.declared.line.Checked.{Checked}
-use Rattle.lines.specs.declared.line.Checked.the-variants.{Ends, Bad}
+use Rattle.scan.specs.declared.line.Checked.{Checked}
+use Rattle.scan.specs.declared.line.Checked.the-variants.{Ends, Bad}
 use Rattle.lines.specs.declared.container.Kind.{Kind}
 use Rattle.lines.specs.declared.container.Container.{Container}
 use Rattle.lines.specs.declared.item.Marker.{Marker}

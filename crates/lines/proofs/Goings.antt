@@ -8,15 +8,15 @@ use native.Mathlib.Omega.{arith}
 use lib.ListN.{length, take, drop}
 use borrow.Author.Tests.{le-leb, lt-leb}
 use Rattle.record.specs.Choice.{choose, and}
-use Rattle.lines.specs.Run.{blank, blanksUpTo}
-use Rattle.lines.specs.Line.{checkedLine}
+use Rattle.scan.specs.Run.{blank, blanksUpTo}
+use Rattle.scan.specs.Line.{checkedLine}
 use Rattle.lines.specs.Going.{cleared, blankGoing, filledGoing, goingIn, goingOf}
-use Rattle.lines.specs.declared.line.Checked.the-variants.{Ends}
+use Rattle.scan.specs.declared.line.Checked.the-variants.{Ends}
 use Rattle.lines.specs.declared.container.Container.{Container}
 use Rattle.lines.specs.declared.going.Going.{Going}
 use Rattle.lines.specs.declared.going.Going.the-variants.{Goes, Stops, Refused}
-use Rattle.lines.proofs.Checks.{found-by}
-use Rattle.lines.proofs.Taking.{counts-all, blank-all, blank-not}
+use Rattle.scan.proofs.Checks.{found-by}
+use Rattle.scan.proofs.Blanks.{counts-all, blank-all, blank-not}
 
 module _ (l : List ℕ) (held : Container) (n : ℕ) (e : n ≡ blanksUpTo (length l) l) where
   module _ (h : n ≡ length l) where

@@ -16,16 +16,16 @@ use Rattle.record.specs.declared.event.Event.{Event}
 use Rattle.record.specs.declared.check.Refusal.{Refusal}
 use Rattle.record.proofs.Splice.{wrote-then}
 use Rattle.record.proofs.Sections.{length-flat, flat-append, section}
-use Rattle.lines.specs.Run.{spaceOrTab, hash, leading, indentation}
-use Rattle.lines.specs.Line.{lineOf, checkedLine, refusal}
+use Rattle.scan.specs.Run.{spaceOrTab, hash, leading, indentation}
+use Rattle.scan.specs.Line.{lineOf, checkedLine, refusal}
 use Rattle.lines.specs.Heading.{brokenOff, opening, isHeading, split, eventsFrom, headingEvents, Result, nothing, headedIn, headedOf}
 use Rattle.lines.specs.Promise.{HeadedIn, HeadedBy}
-use Rattle.lines.specs.declared.line.Checked.the-variants.{Ends, Bad}
+use Rattle.scan.specs.declared.line.Checked.the-variants.{Ends, Bad}
 use Rattle.lines.specs.declared.heading.Piece.{Piece}
 use Rattle.lines.specs.declared.heading.Headed.{Headed}
 use Rattle.lines.specs.declared.heading.Headed.the-variants.{Heading, NotHeading, Refused}
-use Rattle.lines.proofs.Checks.{refused-by, found-by}
-use Rattle.lines.proofs.Taking.{rest-of, is-on, is-off}
+use Rattle.scan.proofs.Checks.{refused-by, found-by}
+use Rattle.scan.proofs.Blanks.{rest-of, is-on, is-off}
 
 -- the opening sequence
 module _ (l : List ℕ) (n : ℕ) (k : n ≡ leading hash l) where

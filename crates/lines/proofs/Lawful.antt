@@ -12,14 +12,14 @@ use borrow.Author.Tests.{leb-true, eqb-false}
 use Rattle.record.specs.Choice.{choose, and}
 use Rattle.record.specs.declared.check.Refusal.{Refusal}
 use Rattle.record.proofs.Bools.{and-right}
-use Rattle.lines.specs.Run.{blank, blanks, blanksUpTo, indentation}
-use Rattle.lines.specs.Line.{lineOf, checkedLine, reading}
+use Rattle.scan.specs.Run.{blank, blanks, blanksUpTo, indentation}
+use Rattle.scan.specs.Line.{lineOf, checkedLine, reading}
 use Rattle.lines.specs.Spaces.{spacesIn, spacesOf}
 use Rattle.lines.specs.Item.{markerOf, container, padding, filledStart, startAfter, startFrom, startAt, startIn, startOf}
 use Rattle.lines.specs.Going.{cleared, blankGoing, filledGoing, goingIn, goingOf}
 use Rattle.lines.specs.Laws.{TakenLaws, ItemLaws, GoesLaws}
-use Rattle.lines.specs.declared.line.Checked.{Checked}
-use Rattle.lines.specs.declared.line.Checked.the-variants.{Ends, Bad}
+use Rattle.scan.specs.declared.line.Checked.{Checked}
+use Rattle.scan.specs.declared.line.Checked.the-variants.{Ends, Bad}
 use Rattle.lines.specs.declared.container.Kind.{Kind}
 use Rattle.lines.specs.declared.container.Container.{Container}
 use Rattle.lines.specs.declared.spaces.Spaces.the-variants.{Taken, TooFew, Refused as SpacesRefused}
@@ -28,7 +28,7 @@ use Rattle.lines.specs.declared.item.Marker.the-variants.{Marked, Unmark
 use Rattle.lines.specs.declared.item.Start.the-variants.{Item, NotItem, Refused as StartRefused}
 use Rattle.lines.specs.declared.going.Going.the-variants.{Goes, Stops, Refused as GoingRefused}
 use Rattle.lines.proofs.Chosen.{chosen}
-use Rattle.lines.proofs.Taking.{upTo-max, upTo-length, blanks-length, indent-length}
+use Rattle.scan.proofs.Blanks.{upTo-max, upTo-length, blanks-length, indent-length}
 use Rattle.lines.proofs.Marks.{Told, told}
 
 -- an answer that is no refusal is what is found on the line

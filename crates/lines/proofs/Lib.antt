@@ -1,6 +1,3 @@
-pub mod Leading
-pub mod ByteKinds
-pub mod Checks
 pub mod Taking
 pub mod Marks
 pub mod Starts

@@ -15,13 +15,13 @@ use Rattle.record.specs.Event.{enter, exit, eventBytes, flat}
 use Rattle.record.specs.declared.event.Event.{Event}
 use Rattle.record.proofs.Splice.{wrote-then, wrote-none, wrote-length}
 use Rattle.record.proofs.Sections.{length-flat, flat-append}
-use Rattle.lines.specs.Run.{spaceOrTab, filled, hash, leading, first, blanks, blanksUpTo}
+use Rattle.scan.specs.Run.{spaceOrTab, filled, hash, leading, first, blanks, blanksUpTo}
 use Rattle.lines.specs.Heading.{piece, pieceOf, pieces, split, eventsFrom}
 use Rattle.lines.specs.declared.heading.Piece.{Piece}
 use Rattle.lines.proofs.Chosen.{chosen}
-use Rattle.lines.proofs.Leading.{leading-short, run-some}
-use Rattle.lines.proofs.ByteKinds.{a-hash, no-hash, filled-otherwise}
-use Rattle.lines.proofs.Taking.{rest-of, counts-all}
+use Rattle.scan.proofs.Leading.{leading-short, run-some}
+use Rattle.scan.proofs.ByteKinds.{a-hash, no-hash, filled-otherwise}
+use Rattle.scan.proofs.Blanks.{rest-of, counts-all}
 
 -- the piece in front, case by case
 module _ (l : List ℕ) (n : ℕ) where

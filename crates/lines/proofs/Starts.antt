@@ -7,16 +7,16 @@ use Prim.Native.Nat.{ℕ, _+_, _-_, _≤_, _<_, _/_, _%_}
 use lib.ListN.{length, take, drop}
 use borrow.Author.Tests.{le-leb, lt-leb, eq-eqb, ne-eqb}
 use Rattle.record.specs.Choice.{choose}
-use Rattle.lines.specs.Run.{blanksUpTo, indentation}
-use Rattle.lines.specs.Line.{checkedLine}
+use Rattle.scan.specs.Run.{blanksUpTo, indentation}
+use Rattle.scan.specs.Line.{checkedLine}
 use Rattle.lines.specs.Item.{markerOf, container, padding, filledStart, startAfter, startFrom, startAt, startIn, startOf}
-use Rattle.lines.specs.declared.line.Checked.the-variants.{Ends}
+use Rattle.scan.specs.declared.line.Checked.the-variants.{Ends}
 use Rattle.lines.specs.declared.container.Kind.{Kind}
 use Rattle.lines.specs.declared.item.Marker.the-variants.{Marked, Unmarked}
 use Rattle.lines.specs.declared.item.Start.{Start}
 use Rattle.lines.specs.declared.item.Start.the-variants.{Item, NotItem, Refused}
-use Rattle.lines.proofs.Checks.{found-by}
-use Rattle.lines.proofs.Taking.{rest-of, counts-all, blank-all, blank-not, is-on, is-off}
+use Rattle.scan.proofs.Checks.{found-by}
+use Rattle.scan.proofs.Blanks.{rest-of, counts-all, blank-all, blank-not, is-on, is-off}
 
 module _ (z : Bool) (kind : Kind) (before : ℕ) (rest : List ℕ) (n : ℕ) (e : n ≡ blanksUpTo (length rest) rest) where
   pub blank-interrupts : n ≡ length rest → z ≡ true → NotItem ≡ startAfter z kind before rest

@@ -1,57 +1,18 @@
--- Space-or-tab on a line, case by case; and the indentation.
+-- Space-or-tab on a line, case by case.
 -- Assumes nothing.
-use mathlib.Core.Path.{_≡_, sym, _∙_}
-use mathlib.Core.Bool.{Bool, true, false}
+use mathlib.Core.Path.{_≡_}
 use mathlib.Core.List.{List}
-use Prim.Native.Nat.{ℕ, _-_, _≤_, _<_, _/_, _%_}
-use native.Mathlib.Omega.{arith}
-use lib.ListN.{length, take, drop, length-take, length-drop}
-use lib.Seq.{take-length, take-all}
-use borrow.Author.Tests.{le-leb, lt-leb, eq-eqb, ne-eqb}
+use Prim.Native.Nat.{ℕ, _-_, _≤_, _<_}
+use lib.ListN.{take, drop}
+use borrow.Author.Tests.{le-leb, lt-leb}
 use Rattle.record.specs.Choice.{choose}
-use Rattle.lines.specs.Run.{spaceOrTab, blank, blanks, blanksUpTo, on, indentation}
+use Rattle.scan.specs.Run.{blanksUpTo}
+use Rattle.scan.specs.Line.{checkedLine}
+use Rattle.scan.specs.declared.line.Checked.the-variants.{Ends}
+use Rattle.scan.proofs.Checks.{found-by}
 use Rattle.lines.specs.Spaces.{spacesIn, spacesOf}
 use Rattle.lines.specs.declared.spaces.Spaces.{Spaces}
 use Rattle.lines.specs.declared.spaces.Spaces.the-variants.{Taken, TooFew, Refused}
-use Rattle.lines.specs.Line.{checkedLine}
-use Rattle.lines.specs.declared.line.Checked.the-variants.{Ends}
-use Rattle.lines.proofs.Leading.{leading-short, every-all, every-not}
-use Rattle.lines.proofs.Checks.{found-by}
-
--- what is left of a slice from a place on
-pub rest-of : (l : List ℕ) (n : ℕ) → take (length l - n) (drop n l) ≡ drop n l
-rest-of l n = take-all (length l - n) (drop n l) (omega (arith, length-drop n l))
-
--- no more than asked for, and no more than there is
-pub upTo-max : (max : ℕ) (l : List ℕ) → blanksUpTo max l ≤ max
-unfolding blanksUpTo
-upTo-max max l = omega (arith, leading-short spaceOrTab (take max l), length-take max l)
-
-pub upTo-length : (max : ℕ) (l : List ℕ) → blanksUpTo max l ≤ length l
-unfolding blanksUpTo
-upTo-length max l = omega (arith, leading-short spaceOrTab (take max l), length-take max l)
-
-pub blanks-length : (l : List ℕ) → blanks l ≤ length l
-unfolding blanks
-blanks-length l = leading-short spaceOrTab l
-
--- up to the line's length is all of them
-pub upTo-all : (l : List ℕ) → blanksUpTo (length l) l ≡ blanks l
-unfolding blanksUpTo blanks
-upTo-all l = rw (take-length)
-
--- a line is blank where all of it is taken
-module _ (l : List ℕ) (n : ℕ) (e : n ≡ blanksUpTo (length l) l) where
-  pub counts-all : n ≡ blanks l
-  counts-all = e ∙ upTo-all l
-
-  pub blank-all : n ≡ length l → blank l ≡ true
-  unfolding blank blanks
-  blank-all h = every-all spaceOrTab l (sym counts-all ∙ h)
-
-  pub blank-not : (n ≡ length l → ⊥) → blank l ≡ false
-  unfolding blank blanks
-  blank-not h = every-not spaceOrTab l (λ q. h (counts-all ∙ q))
 
 module _ (l : List ℕ) (min max n : ℕ) (e : n ≡ blanksUpTo max l) where
   pub too-few : n < min → TooFew ≡ spacesIn l min max
@@ -67,33 +28,3 @@ pub spaces-found : (s : List ℕ) (options min max n : ℕ) (r : Spaces) →
     Ends n ≡ checkedLine s options → r ≡ spacesIn (take (n - 0) (drop 0 s)) min max → r ≡ spacesOf s options min max
 unfolding spacesOf
 spaces-found s options min max n r q e = found-by s options Refused (λ (l : List ℕ). spacesIn l min max) n r q e
-
--- the options
-pub is-on : (options value : ℕ) → options / value % 2 ≡ 1 → on options value ≡ true
-unfolding on
-is-on options value e = eq-eqb _ _ e
-
-pub is-off : (options value : ℕ) → (options / value % 2 ≡ 1 → ⊥) → on options value ≡ false
-unfolding on
-is-off options value n = ne-eqb _ _ n
-
-module _ (options : ℕ) (l : List ℕ) (n : ℕ) where
-  pub indent-three : options / 32 % 2 ≡ 1 → n ≡ blanksUpTo 3 l → n ≡ indentation options l
-  unfolding indentation choose
-  indent-three o e = rw (is-on options 32 o) e
-
-  pub indent-free : (options / 32 % 2 ≡ 1 → ⊥) → n ≡ blanksUpTo (length l) l → n ≡ indentation options l
-  unfolding indentation choose
-  indent-free o e = rw (is-off options 32 o) (e ∙ upTo-all l)
-
-either : (z : Bool) (a b n : ℕ) → a ≤ n → b ≤ n → choose z a b ≤ n
-unfolding choose
-either true a b n h k = h
-either false a b n h k = k
-
-pub indent-length : (options : ℕ) (l : List ℕ) → indentation options l ≤ length l
-unfolding indentation
-indent-length options l = either (on options 32) _ _ _ (upTo-length 3 l) (blanks-length l)
-
-pub indent-fits : (options : ℕ) (l : List ℕ) (n : ℕ) → n ≡ indentation options l → n ≤ length l
-indent-fits options l n e = omega (arith, indent-length options l)

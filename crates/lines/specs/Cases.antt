@@ -9,8 +9,8 @@ use Rattle.record.specs.Choice.{choose, and}
 use Rattle.record.specs.Check.{firstReturn}
 use Rattle.record.specs.Event.{enter, exit}
 use Rattle.record.specs.Outcome.{sized}
-use Rattle.lines.specs.Run.{or, spaceOrTab, filled, digit, hash, leading, every, count, blank, blanks, blanksUpTo, on, indentation}
-use Rattle.lines.specs.Line.{noFeed, endOf, lineOf, checkedLine, reading}
+use Rattle.scan.specs.Run.{or, spaceOrTab, filled, digit, hash, leading, every, count, blank, blanks, blanksUpTo, on, indentation}
+use Rattle.scan.specs.Line.{noFeed, endOf, lineOf, checkedLine, reading}
 use Rattle.lines.specs.Spaces.{spacesIn, spacesOf}
 use Rattle.lines.specs.Item.{breakMark, isMark, markOrBlank, marksOnly, thematicBreak, bulletMark, orderedMark, startsWithOne, mayStart, orderedOf, markerOf, padding, filledStart, startAfter, startFrom, startAt, startIn, startOf, container}
 use Rattle.lines.specs.Going.{blankGoing, filledGoing, goingIn, goingOf}

@@ -7,8 +7,8 @@ use mathlib.Core.Bool.{false}
 use mathlib.Core.List.{List}
 use lib.Dec.{leb}
 use Rattle.record.specs.Choice.{choose, and}
-use Rattle.lines.specs.Run.{blank, blanks, blanksUpTo}
-use Rattle.lines.specs.Line.{lineOf, checkedLine, reading, flag}
+use Rattle.scan.specs.Run.{blank, blanks, blanksUpTo}
+use Rattle.scan.specs.Line.{lineOf, checkedLine, reading, flag}
 use Rattle.lines.specs.declared.container.Container.{Container}
 use Rattle.lines.specs.declared.going.Going.{Going}
 use Rattle.lines.specs.declared.going.Going.the-variants.{Goes, Stops, Refused}

@@ -9,8 +9,8 @@ use Rattle.record.specs.Choice.{choose, and}
 use Rattle.record.specs.Event.{enter, exit, sectionBytes}
 use Rattle.record.specs.Outcome.{Outcome, accepted, refused, sized}
 use Rattle.record.specs.declared.event.Event.{Event}
-use Rattle.lines.specs.Run.{spaceOrTab, filled, hash, leading, first, blanks, on, indentation}
-use Rattle.lines.specs.Line.{lineOf, checkedLine, reading}
+use Rattle.scan.specs.Run.{spaceOrTab, filled, hash, leading, first, blanks, on, indentation}
+use Rattle.scan.specs.Line.{lineOf, checkedLine, reading}
 use Rattle.lines.specs.declared.heading.Piece.{Piece}
 use Rattle.lines.specs.declared.heading.Headed.{Headed}
 use Rattle.lines.specs.declared.heading.Headed.the-variants.{Heading, NotHeading, Refused}

@@ -6,8 +6,8 @@ use mathlib.Core.List.{List}
 use lib.ListN.{getD, drop}
 use lib.Dec.{leb, eqb}
 use Rattle.record.specs.Choice.{choose, and}
-use Rattle.lines.specs.Run.{or, spaceOrTab, digit, leading, every, count, first, blank, blanks, on, indentation}
-use Rattle.lines.specs.Line.{lineOf, checkedLine, reading, flag}
+use Rattle.scan.specs.Run.{or, spaceOrTab, digit, leading, every, count, first, blank, blanks, on, indentation}
+use Rattle.scan.specs.Line.{lineOf, checkedLine, reading, flag}
 use Rattle.lines.specs.declared.container.Kind.{Kind}
 use Rattle.lines.specs.declared.container.Kind.the-variants.{Bullet, Ordered}
 use Rattle.lines.specs.declared.container.Container.{Container}

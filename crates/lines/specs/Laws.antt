@@ -11,7 +11,7 @@ use lib.Dec.{ltb, eqb}
 use Rattle.record.specs.Choice.{and}
 use Rattle.record.specs.Sound.{sound}
 use Rattle.record.specs.declared.event.Event.{Event}
-use Rattle.lines.specs.Run.{indentation}
+use Rattle.scan.specs.Run.{indentation}
 use Rattle.lines.specs.Item.{thematicBreak}
 use Rattle.lines.specs.Heading.{split, eventsFrom, headingEvents, piece}
 use Rattle.lines.specs.declared.container.Container.{Container}

@@ -1,5 +1,3 @@
-pub mod Run
-pub mod Line
 pub mod Spaces
 pub mod Item
 pub mod Going

@@ -9,7 +9,7 @@ use lib.ListN.{length, getD}
 use Rattle.record.specs.Choice.{choose}
 use Rattle.record.specs.Rows.{Least}
 use Rattle.record.specs.declared.check.Refusal.{Refusal}
-use Rattle.lines.specs.Line.{lineOf, refusal}
+use Rattle.scan.specs.Line.{lineOf, refusal}
 use Rattle.lines.specs.Heading.{isHeading, headingEvents}
 use Rattle.lines.specs.declared.heading.Headed.{Headed}
 use Rattle.lines.specs.declared.heading.Headed.the-variants.{Heading, NotHeading}

@@ -5,8 +5,8 @@ use Prim.Native.Nat.{ℕ}
 use mathlib.Core.List.{List}
 use lib.Dec.{leb}
 use Rattle.record.specs.Choice.{choose}
-use Rattle.lines.specs.Run.{blanksUpTo}
-use Rattle.lines.specs.Line.{lineOf, checkedLine, reading}
+use Rattle.scan.specs.Run.{blanksUpTo}
+use Rattle.scan.specs.Line.{lineOf, checkedLine, reading}
 use Rattle.lines.specs.declared.spaces.Spaces.{Spaces}
 use Rattle.lines.specs.declared.spaces.Spaces.the-variants.{Taken, TooFew, Refused}
 

@@ -1,10 +1,10 @@
 // Continuation of a list item.
 
 use crate::container::Container;
-use crate::line::Checked;
-use crate::line::check_line;
-use crate::scan::blanks;
 use record::check::Refusal;
+use scan::line::Checked;
+use scan::line::check_line;
+use scan::run::blanks;
 ghost use mathlib.Core.Path.{_≡_};
 ghost use Rattle.lines.specs.Going.{goingIn, goingOf};
 

@@ -1,12 +1,5 @@
 // The heading reader: whether a line is a heading, and its events, written to an output.
 
-use crate::line::Checked;
-use crate::line::check_line;
-use crate::scan::blanks;
-use crate::scan::hashes;
-use crate::scan::indented;
-use crate::scan::is_blank;
-use crate::scan::word;
 use record::bytes::put_u32;
 use record::check::Refusal;
 use record::event::put_event;
@@ -17,6 +10,13 @@ use record::limits::HEADING;
 use record::limits::HEADING_SEQUENCE;
 use record::limits::MAX_RESULT;
 use record::limits::SPACE_OR_TAB;
+use scan::line::Checked;
+use scan::line::check_line;
+use scan::run::blanks;
+use scan::run::hashes;
+use scan::run::indented;
+use scan::run::is_blank;
+use scan::run::word;
 ghost use mathlib.Core.Path.{_≡_};
 ghost use Prim.Native.Nat.{_+_, _*_, _≤_, _<_};
 ghost use lib.ListN.{length};

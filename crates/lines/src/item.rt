@@ -2,14 +2,14 @@
 
 use crate::container::Container;
 use crate::container::Kind;
-use crate::line::Checked;
-use crate::line::check_line;
-use crate::scan::blanks;
-use crate::scan::byte_at;
-use crate::scan::digits;
-use crate::scan::indented;
-use crate::scan::is_blank;
 use record::check::Refusal;
+use scan::line::Checked;
+use scan::line::check_line;
+use scan::run::blanks;
+use scan::run::byte_at;
+use scan::run::digits;
+use scan::run::indented;
+use scan::run::is_blank;
 ghost use mathlib.Core.Path.{_≡_};
 ghost use Prim.Native.Nat.{_+_, _≤_};
 ghost use lib.ListN.{length};

@@ -1,7 +1,7 @@
 -- `lines::going::continuation` meets its contract: after the check, what is found on the part of the slice before its end.
 -- Assumes nothing.
 use mathlib.Core.Path.{sym, _∙_}
-use Rattle.lines.proofs.Checks.{refused-by, lined}
+use Rattle.scan.proofs.Checks.{refused-by, lined}
 use Rattle.lines.proofs.Goings.{going-found}
 use Rattle.lines.specs.Going.{goingOf}
 use borrow.Author.Needs.{needs}
@@ -10,7 +10,7 @@ use Rattle.lines.proofs.going.continuation.Tie as tie
 use Rattle.lines.proofs.going.continuation.Reads as reads
 use Rattle.lines.proofs.going.continuation.Lts as lts
 use Rattle.lines.proofs.going.going_in.Reads as going-in-reads
-use Rattle.lines.proofs.line.check_line.Reads as check-line-reads
+use Rattle.scan.proofs.line.check_line.Reads as check-line-reads
 
 check-line-requires : tie.Need-check-line-requires
 check-line-requires c κs = search needs

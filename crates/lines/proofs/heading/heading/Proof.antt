@@ -1,7 +1,7 @@
 -- `lines::heading::heading` meets its contract: after the check, what is found on the part of the slice before its end.
 -- Assumes nothing.
 use mathlib.Core.Path.{sym, _∙_}
-use Rattle.lines.proofs.Checks.{lined}
+use Rattle.scan.proofs.Checks.{lined}
 use Rattle.lines.proofs.Headings.{heading-refused, heading-found}
 use borrow.Author.Needs.{needs}
 use Rattle.lines.proofs.heading.heading.Statement.{statement}
@@ -9,7 +9,7 @@ use Rattle.lines.proofs.heading.heading.Tie as tie
 use Rattle.lines.proofs.heading.heading.Reads as reads
 use Rattle.lines.proofs.heading.heading.Lts as lts
 use Rattle.lines.proofs.heading.headed_in.Reads as headed-in-reads
-use Rattle.lines.proofs.line.check_line.Reads as check-line-reads
+use Rattle.scan.proofs.line.check_line.Reads as check-line-reads
 
 check-line-requires : tie.Need-check-line-requires
 check-line-requires c κs = search needs

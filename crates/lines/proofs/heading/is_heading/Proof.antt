@@ -1,6 +1,6 @@
 -- `lines::heading::is_heading` meets its contract: each return is a case of the definition.
 -- Assumes nothing.
-use Rattle.lines.proofs.Taking.{indent-fits}
+use Rattle.scan.proofs.Blanks.{indent-fits}
 use Rattle.lines.proofs.Headings.{headings-off, headings-on}
 use borrow.Author.Needs.{needs}
 use Rattle.lines.proofs.heading.is_heading.Statement.{statement}
@@ -8,7 +8,7 @@ use Rattle.lines.proofs.heading.is_heading.Tie as tie
 use Rattle.lines.proofs.heading.is_heading.Reads as reads
 use Rattle.lines.proofs.heading.is_heading.Lts as lts
 use Rattle.lines.proofs.heading.opens.Reads as opens-reads
-use Rattle.lines.proofs.scan.indented.Reads as indented-reads
+use Rattle.scan.proofs.run.indented.Reads as indented-reads
 
 returns : tie.Need-returns
 returns c = headings-off _ _ (search needs)

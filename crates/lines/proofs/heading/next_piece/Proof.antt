@@ -7,10 +7,10 @@ use Rattle.lines.proofs.heading.next_piece.Statement.{statement}
 use Rattle.lines.proofs.heading.next_piece.Tie as tie
 use Rattle.lines.proofs.heading.next_piece.Reads as reads
 use Rattle.lines.proofs.heading.next_piece.Lts as lts
-use Rattle.lines.proofs.scan.blanks.Reads as blanks-reads
-use Rattle.lines.proofs.scan.hashes.Reads as hashes-reads
-use Rattle.lines.proofs.scan.is_blank.Reads as is-blank-reads
-use Rattle.lines.proofs.scan.word.Reads as word-reads
+use Rattle.scan.proofs.run.blanks.Reads as blanks-reads
+use Rattle.scan.proofs.run.hashes.Reads as hashes-reads
+use Rattle.scan.proofs.run.is_blank.Reads as is-blank-reads
+use Rattle.scan.proofs.run.word.Reads as word-reads
 
 shared-slice-read-is-blank : tie.Need-shared-slice-read-is-blank
 shared-slice-read-is-blank c = search needs

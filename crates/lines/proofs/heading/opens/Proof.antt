@@ -6,8 +6,8 @@ use Rattle.lines.proofs.heading.opens.Statement.{statement}
 use Rattle.lines.proofs.heading.opens.Tie as tie
 use Rattle.lines.proofs.heading.opens.Reads as reads
 use Rattle.lines.proofs.heading.opens.Lts as lts
-use Rattle.lines.proofs.scan.hashes.Reads as hashes-reads
-use Rattle.lines.proofs.scan.is_blank.Reads as is-blank-reads
+use Rattle.scan.proofs.run.hashes.Reads as hashes-reads
+use Rattle.scan.proofs.run.is_blank.Reads as is-blank-reads
 
 hashes-requires : tie.Need-hashes-requires
 hashes-requires c κs = search needs

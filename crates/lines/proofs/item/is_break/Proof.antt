@@ -1,6 +1,6 @@
 -- `lines::item::is_break` meets its contract: each return is a case of the definition.
 -- Assumes nothing.
-use Rattle.lines.specs.Run.{or}
+use Rattle.scan.specs.Run.{or}
 use borrow.Author.Tests.{eq-eqb, ne-eqb}
 use Rattle.lines.specs.Item.{breakMark}
 use borrow.Author.Needs.{needs}

@@ -10,7 +10,7 @@ use Rattle.lines.proofs.item.is_thematic_break.Reads as reads
 use Rattle.lines.proofs.item.is_thematic_break.Lts as lts
 use Rattle.lines.proofs.item.is_break.Reads as is-break-reads
 use Rattle.lines.proofs.item.marks_only.Reads as marks-only-reads
-use Rattle.lines.proofs.scan.byte_at.Reads as byte-at-reads
+use Rattle.scan.proofs.run.byte_at.Reads as byte-at-reads
 
 byte-at-requires : tie.Need-byte-at-requires
 byte-at-requires c κs = search needs

@@ -1,7 +1,7 @@
 -- `lines::item::list_item` meets its contract: after the check, what is found on the part of the slice before its end.
 -- Assumes nothing.
 use mathlib.Core.Path.{sym, _∙_}
-use Rattle.lines.proofs.Checks.{refused-by, lined}
+use Rattle.scan.proofs.Checks.{refused-by, lined}
 use Rattle.lines.proofs.Starts.{start-found}
 use Rattle.lines.specs.Item.{startOf}
 use borrow.Author.Needs.{needs}
@@ -10,7 +10,7 @@ use Rattle.lines.proofs.item.list_item.Tie as tie
 use Rattle.lines.proofs.item.list_item.Reads as reads
 use Rattle.lines.proofs.item.list_item.Lts as lts
 use Rattle.lines.proofs.item.start_in.Reads as start-in-reads
-use Rattle.lines.proofs.line.check_line.Reads as check-line-reads
+use Rattle.scan.proofs.line.check_line.Reads as check-line-reads
 
 check-line-requires : tie.Need-check-line-requires
 check-line-requires c κs = search needs

@@ -11,7 +11,7 @@ use Rattle.lines.proofs.item.marker_in.Lts as lts
 use Rattle.lines.proofs.item.is_bullet.Reads as is-bullet-reads
 use Rattle.lines.proofs.item.is_thematic_break.Reads as is-thematic-break-reads
 use Rattle.lines.proofs.item.ordered_in.Reads as ordered-in-reads
-use Rattle.lines.proofs.scan.byte_at.Reads as byte-at-reads
+use Rattle.scan.proofs.run.byte_at.Reads as byte-at-reads
 
 byte-at-requires : tie.Need-byte-at-requires
 byte-at-requires c κs = search needs

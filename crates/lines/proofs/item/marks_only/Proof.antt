@@ -12,7 +12,7 @@ use Rattle.lines.proofs.item.marks_only.Statement.{statement}
 use Rattle.lines.proofs.item.marks_only.Tie as tie
 use Rattle.lines.proofs.item.marks_only.Reads as reads
 use Rattle.lines.proofs.item.marks_only.Lts as lts
-use Rattle.lines.proofs.scan.is_blank.Reads as is-blank-reads
+use Rattle.scan.proofs.run.is_blank.Reads as is-blank-reads
 
 abbrev Inv-loop : tie.InvT-loop
 Inv-loop rest mark marks₀ n₀ marks n = Marking mark rest marks n

@@ -8,8 +8,8 @@ use Rattle.lines.proofs.item.may_start.Statement.{statement}
 use Rattle.lines.proofs.item.may_start.Tie as tie
 use Rattle.lines.proofs.item.may_start.Reads as reads
 use Rattle.lines.proofs.item.may_start.Lts as lts
-use Rattle.lines.proofs.scan.byte_at.Reads as byte-at-reads
-use Rattle.lines.proofs.scan.digits.Reads as digits-reads
+use Rattle.scan.proofs.run.byte_at.Reads as byte-at-reads
+use Rattle.scan.proofs.run.digits.Reads as digits-reads
 
 returns : tie.Need-returns
 returns c = not-interrupting _ _ (not-true _ (c .if1 .taken))

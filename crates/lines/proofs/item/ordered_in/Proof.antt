@@ -10,8 +10,8 @@ use Rattle.lines.proofs.item.ordered_in.Reads as reads
 use Rattle.lines.proofs.item.ordered_in.Lts as lts
 use Rattle.lines.proofs.item.is_ordered.Reads as is-ordered-reads
 use Rattle.lines.proofs.item.may_start.Reads as may-start-reads
-use Rattle.lines.proofs.scan.byte_at.Reads as byte-at-reads
-use Rattle.lines.proofs.scan.digits.Reads as digits-reads
+use Rattle.scan.proofs.run.byte_at.Reads as byte-at-reads
+use Rattle.scan.proofs.run.digits.Reads as digits-reads
 
 digits-requires : tie.Need-digits-requires
 digits-requires c κs = search needs

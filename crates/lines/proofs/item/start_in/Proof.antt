@@ -2,7 +2,7 @@
 -- what indentation and marker tell.
 -- Assumes nothing.
 use mathlib.Core.Path.{sym, _∙_}
-use Rattle.lines.proofs.Taking.{indent-fits}
+use Rattle.scan.proofs.Blanks.{indent-fits}
 use Rattle.lines.proofs.Marks.{told}
 use Rattle.lines.proofs.Starts.{items-off, no-marker, marker-there}
 use borrow.Author.Needs.{needs}
@@ -12,7 +12,7 @@ use Rattle.lines.proofs.item.start_in.Reads as reads
 use Rattle.lines.proofs.item.start_in.Lts as lts
 use Rattle.lines.proofs.item.marker_in.Reads as marker-in-reads
 use Rattle.lines.proofs.item.start_after.Reads as start-after-reads
-use Rattle.lines.proofs.scan.indented.Reads as indented-reads
+use Rattle.scan.proofs.run.indented.Reads as indented-reads
 
 returns : tie.Need-returns
 returns c = items-off _ _ _ (search needs)

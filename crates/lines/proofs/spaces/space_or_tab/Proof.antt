@@ -1,7 +1,7 @@
 -- `lines::spaces::space_or_tab` meets its contract: after the check, what is found on the part of the slice before its end.
 -- Assumes nothing.
 use mathlib.Core.Path.{sym, _∙_}
-use Rattle.lines.proofs.Checks.{refused-by, lined}
+use Rattle.scan.proofs.Checks.{refused-by, lined}
 use Rattle.lines.proofs.Taking.{spaces-found}
 use Rattle.lines.specs.Spaces.{spacesOf}
 use borrow.Author.Needs.{needs}
@@ -9,7 +9,7 @@ use Rattle.lines.proofs.spaces.space_or_tab.Statement.{statement}
 use Rattle.lines.proofs.spaces.space_or_tab.Tie as tie
 use Rattle.lines.proofs.spaces.space_or_tab.Reads as reads
 use Rattle.lines.proofs.spaces.space_or_tab.Lts as lts
-use Rattle.lines.proofs.line.check_line.Reads as check-line-reads
+use Rattle.scan.proofs.line.check_line.Reads as check-line-reads
 use Rattle.lines.proofs.spaces.spaces_in.Reads as spaces-in-reads
 
 check-line-requires : tie.Need-check-line-requires

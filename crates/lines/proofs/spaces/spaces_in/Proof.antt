@@ -6,7 +6,7 @@ use Rattle.lines.proofs.spaces.spaces_in.Statement.{statement}
 use Rattle.lines.proofs.spaces.spaces_in.Tie as tie
 use Rattle.lines.proofs.spaces.spaces_in.Reads as reads
 use Rattle.lines.proofs.spaces.spaces_in.Lts as lts
-use Rattle.lines.proofs.scan.blanks.Reads as blanks-reads
+use Rattle.scan.proofs.run.blanks.Reads as blanks-reads
 
 blanks-requires : tie.Need-blanks-requires
 blanks-requires c κs = search needs

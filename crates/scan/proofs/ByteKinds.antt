@@ -1,0 +1,46 @@
+-- The kinds of bytes, case by case.
+-- Assumes nothing.
+use mathlib.Core.Path.{_≡_, ap}
+use mathlib.Core.Bool.{true, false, not}
+use Prim.Native.Nat.{ℕ, _≤_, _<_}
+use borrow.Author.Tests.{eq-eqb, ne-eqb, le-leb, lt-leb}
+use Rattle.record.specs.Choice.{and}
+use Rattle.scan.specs.Run.{spaceOrTab, filled, digit, hash}
+use Rattle.scan.specs.Line.{noFeed}
+
+module _ (b : ℕ) where
+  pub below-digits : b < 48 → digit b ≡ false
+  unfolding digit and
+  below-digits h = rw (lt-leb _ _ h)
+
+  pub above-digits : 48 ≤ b → 57 < b → digit b ≡ false
+  unfolding digit and
+  above-digits l h = rw (le-leb _ _ l, lt-leb _ _ h)
+
+  pub a-digit : 48 ≤ b → b ≤ 57 → digit b ≡ true
+  unfolding digit and
+  a-digit l h = rw (le-leb _ _ l, le-leb _ _ h)
+
+  pub a-hash : b ≡ 35 → hash b ≡ true
+  unfolding hash
+  a-hash e = eq-eqb _ _ e
+
+  pub no-hash : (b ≡ 35 → ⊥) → hash b ≡ false
+  unfolding hash
+  no-hash n = ne-eqb _ _ n
+
+  pub a-feed : b ≡ 10 → noFeed b ≡ false
+  unfolding noFeed
+  a-feed e = rw (eq-eqb _ _ e)
+
+  pub no-feed : (b ≡ 10 → ⊥) → noFeed b ≡ true
+  unfolding noFeed
+  no-feed n = rw (ne-eqb _ _ n)
+
+  pub blank-filled : spaceOrTab b ≡ true → filled b ≡ false
+  unfolding filled
+  blank-filled e = ap not e
+
+  pub filled-otherwise : spaceOrTab b ≡ false → filled b ≡ true
+  unfolding filled
+  filled-otherwise e = ap not e

@@ -1,0 +1,79 @@
+-- The check of a line, case by case, and what a line that passes it tells.
+-- Assumes nothing.
+use mathlib.Core.Path.{_≡_, refl, ap, _∙_}
+use mathlib.Core.Bool.{Bool, true, false}
+use mathlib.Core.List.{List}
+use Prim.Native.Nat.{ℕ, _-_, _≤_, _<_}
+use native.Mathlib.Omega.{arith}
+use lib.ListN.{length, take, drop}
+use borrow.Author.Tests.{lt-ltb, le-ltb, ltb-false}
+use Rattle.record.specs.Choice.{choose}
+use Rattle.record.specs.Check.{firstReturn}
+use Rattle.record.specs.declared.check.Refusal.{Refusal}
+use Rattle.scan.specs.Line.{endOf, lineOf, refusal, checkedLine, reading, noFeed}
+use Rattle.scan.specs.declared.line.Checked.{Checked}
+use Rattle.scan.specs.declared.line.Checked.the-variants.{Ends, Bad}
+use Rattle.scan.proofs.Leading.{leading-short}
+
+module _ (s : List ℕ) (options : ℕ) where
+  pub options-over : 63 < options → Bad (refusal 2 0) ≡ checkedLine s options
+  unfolding checkedLine choose
+  options-over h = rw (lt-ltb _ _ h)
+
+  module _ (o : options ≤ 63) where
+    pub too-long : 16384 < length s → Bad (refusal 3 16384) ≡ checkedLine s options
+    unfolding checkedLine choose
+    too-long h = rw (le-ltb _ _ o, lt-ltb _ _ h)
+
+    module _ (m : length s ≤ 16384) (r : ℕ) (k : r ≡ firstReturn (length s) s 0) where
+      pub returned : r < length s → Bad (refusal 4 r) ≡ checkedLine s options
+      unfolding checkedLine choose
+      returned h = rw (le-ltb _ _ o, le-ltb _ _ m, ← k, lt-ltb _ _ h)
+
+      pub passed : length s ≤ r → (n : ℕ) → n ≡ endOf s → Ends n ≡ checkedLine s options
+      unfolding checkedLine choose
+      passed h n e = rw (le-ltb _ _ o, le-ltb _ _ m, ← k, le-ltb _ _ h, e)
+
+-- a reader's answer after a refusal
+pub refused-by : {A : Type 0} (s : List ℕ) (options : ℕ) (bad : Refusal → A) (found : A) (r : Refusal) → Bad r ≡ checkedLine s options → bad r ≡ reading (checkedLine s options) bad found
+unfolding reading
+refused-by s options bad found r q = rw (← q)
+
+-- what it tells
+pub record Lined (s : List ℕ) (n : ℕ) : Type 0 where
+  pub end : n ≡ endOf s
+  pub within : n ≤ length s
+  pub short : length s ≤ 16384
+  pub part : take (n - 0) (drop 0 s) ≡ lineOf s
+
+clash : (r : Refusal) (n : ℕ) → Ends n ≡ Bad r → ⊥
+clash r n q = let z : _≡_ {A = ℕ} 0 1 = cc in omega arith
+
+-- a test that leads to a refusal was not met
+past : (b : Bool) (r : Refusal) (x : Checked) (n : ℕ) → Ends n ≡ choose b (Bad r) x → b ≡ false
+unfolding choose
+past true r x n q = absurd (clash r n q)
+past false r x n q = refl
+
+beyond : (b : Bool) (r : Refusal) (x : Checked) (n : ℕ) → Ends n ≡ choose b (Bad r) x → Ends n ≡ x
+unfolding choose
+beyond true r x n q = absurd (clash r n q)
+beyond false r x n q = q
+
+same-end : (m n : ℕ) → Ends n ≡ Ends m → n ≡ m
+same-end m n q = cc
+
+pub lined : (s : List ℕ) (options n : ℕ) → Ends n ≡ checkedLine s options → Lined s n
+unfolding checkedLine lineOf endOf
+lined s options n q =
+    let t = beyond _ _ _ _ q in
+    let short : length s ≤ 16384 = ltb-false _ _ (past _ _ _ _ t) in
+    let e : n ≡ endOf s = same-end _ _ (beyond _ _ _ _ (beyond _ _ _ _ t)) in
+    let z : n - 0 ≡ endOf s = omega arith in
+    record { end = e; within = omega (arith, leading-short noFeed s); short = short; part = ap (λ (k : ℕ). take k s) z }
+
+-- what is found on the line, as the part of the slice before its end
+pub found-by : {A : Type 0} (s : List ℕ) (options : ℕ) (bad : Refusal → A) (found : List ℕ → A) (n : ℕ) (r : A) →
+    Ends n ≡ checkedLine s options → r ≡ found (take (n - 0) (drop 0 s)) → r ≡ reading (checkedLine s options) bad (found (lineOf s))
+unfolding reading
+found-by s options bad found n r q e = rw (← q) (e ∙ ap found (lined s options n q .part))

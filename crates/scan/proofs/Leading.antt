@@ -1,0 +1,118 @@
+-- Runs at the front, over any kind of byte: the loop that counts one, and what is known of its length.
+-- Assumes nothing.
+use mathlib.Core.Path.{_≡_, refl, ap, _∙_}
+use mathlib.Core.Bool.{Bool, true, false}
+use mathlib.Core.List.{List, [], _∷_}
+use Prim.Native.Nat.{ℕ, suc, _+_, _-_, _≤_, _<_}
+use native.Mathlib.Nat.{zero-add}
+use native.Mathlib.Numerals.{add-one}
+use native.Mathlib.Omega.{arith}
+use lib.ListN.{length, getD, take, drop, length-take, drop-of-length-le}
+use lib.Seq.{drop-cons, getD-take}
+use Rattle.record.specs.Choice.{choose, and}
+use Rattle.scan.specs.Run.{leading, every, first}
+
+one-more : (z : Bool) (m n : ℕ) → m ≤ n → choose z (suc m) 0 ≤ suc n
+unfolding choose
+one-more true m n h = omega arith
+one-more false m n h = omega arith
+
+module _ (kind : ℕ → Bool) where
+  -- one step of the definition, at an index
+  run-on : (l : List ℕ) (n : ℕ) → n < length l → kind (getD l n 0) ≡ true → leading kind (drop n l) ≡ suc (leading kind (drop (suc n) l))
+  unfolding leading choose
+  run-on l n h e = rw (drop-cons l n 0 h, e)
+
+  run-ends : (l : List ℕ) (n : ℕ) → n < length l → kind (getD l n 0) ≡ false → leading kind (drop n l) ≡ 0
+  unfolding leading choose
+  run-ends l n h e = rw (drop-cons l n 0 h, e)
+
+  run-none : (l : List ℕ) (n : ℕ) → length l ≤ n → leading kind (drop n l) ≡ 0
+  unfolding leading
+  run-none l n h = rw (drop-of-length-le l {i = n} h)
+
+  pub leading-short : (l : List ℕ) → leading kind l ≤ length l
+  unfolding leading choose
+  leading-short [] = omega arith
+  leading-short (b ∷ l) = one-more (kind b) (leading kind l) (length l) (leading-short l)
+
+-- a run of the whole length is all of the kind, and only such a one
+whole-step : (z e : Bool) (m n : ℕ) → choose z (suc m) 0 ≡ suc n → (m ≡ n → e ≡ true) → and z e ≡ true
+unfolding choose and
+whole-step true e m n q f = f (omega arith)
+whole-step false e m n q f = absurd (omega arith)
+
+part-step : (z e : Bool) (m n : ℕ) → (choose z (suc m) 0 ≡ suc n → ⊥) → ((m ≡ n → ⊥) → e ≡ false) → and z e ≡ false
+unfolding choose and
+part-step true e m n q f = f (λ k. q (ap suc k))
+part-step false e m n q f = refl
+
+module _ (kind : ℕ → Bool) where
+  pub every-all : (l : List ℕ) → leading kind l ≡ length l → every kind l ≡ true
+  unfolding leading every
+  every-all [] q = refl
+  every-all (b ∷ l) q = whole-step (kind b) (every kind l) (leading kind l) (length l) q (every-all l)
+
+  pub every-not : (l : List ℕ) → (leading kind l ≡ length l → ⊥) → every kind l ≡ false
+  unfolding leading every
+  every-not [] q = absurd (q refl)
+  every-not (b ∷ l) q = part-step (kind b) (every kind l) (leading kind l) (length l) q (every-not l)
+
+-- a run of at least one has its first byte in it
+first-step : (z : Bool) (m : ℕ) → 1 ≤ choose z (suc m) 0 → z ≡ true
+unfolding choose
+first-step true m h = refl
+first-step false m h = absurd (omega arith)
+
+pub first-of : (kind : ℕ → Bool) (l : List ℕ) → 1 ≤ leading kind l → kind (first l) ≡ true
+unfolding leading
+first-of kind [] h = absurd (omega arith)
+first-of kind (b ∷ l) h = first-step (kind b) (leading kind l) h
+
+pub run-some : (kind : ℕ → Bool) (l : List ℕ) → 0 < length l → kind (first l) ≡ true → 1 ≤ leading kind l
+unfolding leading choose
+run-some kind [] h e = absurd (omega arith)
+run-some kind (b ∷ l) h e = rw e (omega arith)
+
+-- the invariant of a loop that counts a run: n bytes of it are passed
+pub record Counting (kind : ℕ → Bool) (l : List ℕ) (n : ℕ) : Type 0 where
+  pub low : n ≤ length l
+  pub rest : n + leading kind (drop n l) ≡ leading kind l
+
+pub start : (kind : ℕ → Bool) (l : List ℕ) → Counting kind l 0
+start kind l = record { low = omega arith; rest = zero-add (leading kind l) }
+
+module _ {kind : ℕ → Bool} {l : List ℕ} {n : ℕ} (i : Counting kind l n) where
+  pub turn : n < length l → kind (getD l n 0) ≡ true → Counting kind l (n + 1)
+  turn h e =
+      let k : drop (n + 1) l ≡ drop (suc n) l = ap (λ (m : ℕ). drop m l) (add-one n) in
+      let s : leading kind (drop (n + 1) l) ≡ leading kind (drop (suc n) l) = ap (leading kind) k in
+      record { low = omega arith; rest = omega (arith, run-on kind l n h e, i .rest) }
+
+  pub stopped : n < length l → kind (getD l n 0) ≡ false → n ≡ leading kind l
+  stopped h e = omega (arith, run-ends kind l n h e, i .rest)
+
+  pub ended : length l ≤ n → n ≡ leading kind l
+  ended h = omega (arith, run-none kind l n h, i .rest)
+
+-- the same up to a maximum
+pub record CountingTo (kind : ℕ → Bool) (l : List ℕ) (max n : ℕ) : Type 0 where
+  pub low : n ≤ length l
+  pub counted : Counting kind (take max l) n
+
+pub start-to : (kind : ℕ → Bool) (l : List ℕ) (max : ℕ) → CountingTo kind l max 0
+start-to kind l max = record { low = omega arith; counted = start kind (take max l) }
+
+module _ {kind : ℕ → Bool} {l : List ℕ} {max n : ℕ} (i : CountingTo kind l max n) where
+  pub turn-to : n < length l → n < max → kind (getD l n 0) ≡ true → CountingTo kind l max (n + 1)
+  turn-to h m e =
+      record { low = omega arith; counted = turn (i .counted) (omega (arith, length-take max l)) (ap kind (getD-take max l n 0 m) ∙ e) }
+
+  pub stopped-to : n < length l → n < max → kind (getD l n 0) ≡ false → n ≡ leading kind (take max l)
+  stopped-to h m e = stopped (i .counted) (omega (arith, length-take max l)) (ap kind (getD-take max l n 0 m) ∙ e)
+
+  pub full-to : max ≤ n → n ≡ leading kind (take max l)
+  full-to h = ended (i .counted) (omega (arith, length-take max l))
+
+  pub ended-to : length l ≤ n → n ≡ leading kind (take max l)
+  ended-to h = ended (i .counted) (omega (arith, length-take max l))

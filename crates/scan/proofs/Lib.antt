@@ -1,0 +1,4 @@
+pub mod Leading
+pub mod ByteKinds
+pub mod Checks
+pub mod Blanks

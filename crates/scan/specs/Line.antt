@@ -1,0 +1,45 @@
+-- Where a line ends, and numbers 2, 3 and 4, which all line readers give alike. specs/Rows.antt says the same as the table has it.
+-- Assumes nothing.
+use Prim.Native.Nat.{ℕ}
+use mathlib.Core.Bool.{Bool, true, false, not}
+use mathlib.Core.List.{List}
+use lib.ListN.{length, take}
+use lib.Dec.{ltb, eqb}
+use Rattle.record.specs.Choice.{choose}
+use Rattle.record.specs.Check.{firstReturn}
+use Rattle.record.specs.declared.check.Refusal.{Refusal}
+use Rattle.scan.specs.Run.{leading}
+use Rattle.scan.specs.declared.line.Checked.{Checked}
+use Rattle.scan.specs.declared.line.Checked.the-variants.{Ends, Bad}
+
+-- §2.1: "A line is a sequence of zero or more characters other than line feed (U+000A) .."
+unfoldable pub noFeed : ℕ → Bool
+noFeed b = not (eqb b 10)
+
+-- Document 01: "A line ends before its first line feed"
+unfoldable pub endOf : List ℕ → ℕ
+endOf s = leading noFeed s
+
+unfoldable pub lineOf : List ℕ → List ℕ
+lineOf s = take (endOf s) s
+
+abbrev pub refusal : ℕ → ℕ → Refusal
+refusal number place = record { number = number; place = place }
+
+-- "options over 63", "a line over 16,384 bytes", "a carriage return in the .. line"; "3 and 4 look past" the line feed
+unfoldable pub checkedLine : List ℕ → ℕ → Checked
+checkedLine s options =
+    choose (ltb 63 options) (Bad (refusal 2 0))
+    (choose (ltb 16384 (length s)) (Bad (refusal 3 16384))
+    (choose (ltb (firstReturn (length s) s 0) (length s)) (Bad (refusal 4 (firstReturn (length s) s 0)))
+    (Ends (endOf s))))
+
+-- Numbers given back: a flag is 0 or 1
+abbrev pub flag : Bool → ℕ
+flag true = 1
+flag false = 0
+
+-- the refusal as an answer, or else what is found on the line
+unfoldable pub reading : {A : Type 0} → Checked → (Refusal → A) → A → A
+reading (Ends n) bad found = found
+reading (Bad r) bad found = bad r
