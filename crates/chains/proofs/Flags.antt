@@ -1,14 +1,14 @@
 -- What a slot's size and flags say together.
 -- Assumes nothing.
 use Prim.Native.Nat.{ℕ, _+_, _<_}
-use mathlib.Core.Path.{_≡_, refl}
+use mathlib.Core.Path.{_≡_, refl, sym, _∙_}
 use mathlib.Core.Bool.{Bool, true, false}
 use mathlib.Core.List.{List}
 use native.Mathlib.Omega.{arith}
 use lib.Dec.{eqb, ltb}
 use borrow.Author.Tests.{lt-ltb, le-ltb}
 use Rattle.record.specs.Choice.{choose, and}
-use Rattle.slots.specs.Layout.{leftOf, opensOf, closesOf, chainOf, withLink, withHead, withOpenAt}
+use Rattle.slots.specs.Layout.{leftOf, opensOf, closesOf, chainOf, headOf, withLink, withHead, withOpenAt}
 use Rattle.chains.specs.Walk.{closing, opening, bothAt, first, passed, raised}
 
 -- without markers left a run neither opens nor closes, with some its flag decides
@@ -54,3 +54,8 @@ module _ (w : List ℕ) (height i : ℕ) where
   pub raised-off : opening w i ≡ false → raised w height i ≡ height
   unfolding raised choose
   raised-off e = rw e
+
+-- a passed run that opens, write by write as the code makes them
+pub passed-by : (w w₁ w₂ w₃ : List ℕ) (height i k latest : ℕ) → opening w i ≡ true → k ≡ chainOf w i → latest ≡ headOf w k →
+    w₁ ≡ withLink w i latest → w₂ ≡ withHead w₁ k (i + 1) → w₃ ≡ withOpenAt w₂ height i → w₃ ≡ passed w height i
+passed-by w w₁ w₂ w₃ height i k latest o a b e f g = (cc) ∙ sym (passed-on w height i o)

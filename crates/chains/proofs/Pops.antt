@@ -218,6 +218,15 @@ module _ (w : List ℕ) (g o c k : ℕ) where
   unfolding joined choose
   joined-later e = rw e
 
+-- the group, write by write as the code makes them
+module _ (w w₁ w₂ : List ℕ) (g o c k earlier first : ℕ) (a : earlier ≡ latestGroupOf w o) (b : first ≡ firstGroupOf w c)
+    (e : w₁ ≡ withGroup w g o c k earlier) (f : w₂ ≡ withLatestGroup w₁ o (g + 1)) where
+  pub joined-first-by : (w₃ : List ℕ) → eqb first 0 ≡ true → w₃ ≡ withFirstGroup w₂ c (g + 1) → w₃ ≡ joined w g o c k
+  joined-first-by w₃ n h = (cc) ∙ sym (joined-first w g o c k (cc))
+
+  pub joined-later-by : eqb first 0 ≡ false → w₂ ≡ joined w g o c k
+  joined-later-by n = (cc) ∙ sym (joined-later w g o c k (cc))
+
 -- all of a match, from its pieces
 pub match-case : (w : List ℕ) (height o c g a b k : ℕ) (w₁ w₂ w₃ w₄ w₅ : List ℕ) (h₁ h₂ : ℕ) → a ≡ leftOf w o → b ≡ leftOf w c → k ≡ amount a b
     → (w₁, h₁) ≡ cleared height w o → h₂ ≡ lowered h₁ a k → w₂ ≡ leaves w₁ o a k → w₃ ≡ withLeft w₂ o (a - k) → w₄ ≡ withLeft w₃ c (b - k) → w₅ ≡ joined w₄ g o c k

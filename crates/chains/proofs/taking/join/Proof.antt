@@ -1,10 +1,16 @@
 -- `taking::join`: the group, the opener's latest and, where it has none yet, the closer's first.
 -- Assumes nothing.
-use mathlib.Core.Path.{sym, _∙_}
-use Rattle.chains.proofs.Pops.{joined-first, joined-later}
+use Rattle.chains.proofs.Pops.{joined-first-by, joined-later-by}
 use borrow.Author.Needs.{needs}
 use Rattle.chains.proofs.taking.join.Statement.{statement}
 use Rattle.chains.proofs.taking.join.Tie as tie
+use Rattle.chains.proofs.taking.join.Reads as reads
+use Rattle.chains.proofs.taking.join.Lts as lts
+use Rattle.slots.proofs.layout.latest_group.Reads as latest-group-reads
+use Rattle.slots.proofs.layout.first_group.Reads as first-group-reads
+use Rattle.slots.proofs.layout.put_group.Reads as put-group-reads
+use Rattle.slots.proofs.layout.put_latest_group.Reads as put-latest-group-reads
+use Rattle.slots.proofs.layout.put_first_group.Reads as put-first-group-reads
 
 latest-group-requires : tie.Need-latest-group-requires
 latest-group-requires c κs = search needs
@@ -31,13 +37,13 @@ same-length : tie.Need-same-length
 same-length c = search needs
 
 returns : tie.Need-returns
-returns c = (cc) ∙ sym (joined-first _ _ _ _ _ (cc))
+returns c = joined-first-by _ _ _ _ _ _ _ _ _ (c .before .before .before .before .before .before .before .before .before .before .before .before .before .before .before .latest-group .ensures .0) (c .before .before .before .before .before .before .before .before .before .before .before .before .before .first-group .ensures .0) (c .before .before .before .before .before .before .before .before .before .before .before .put-group .ensures) (c .before .before .before .before .before .before .before .put-latest-group .ensures) _ (c .before .before .before .before .if1 .taken) (c .before .before .put-first-group .ensures)
 
 same-length-2 : tie.Need-same-length-2
 same-length-2 c = search needs
 
 returns-2 : tie.Need-returns-2
-returns-2 c = (cc) ∙ sym (joined-later _ _ _ _ _ (cc))
+returns-2 c = joined-later-by _ _ _ _ _ _ _ _ _ (c .before .before .before .before .before .before .before .before .before .before .before .latest-group .ensures .0) (c .before .before .before .before .before .before .before .before .before .first-group .ensures .0) (c .before .before .before .before .before .before .before .put-group .ensures) (c .before .before .before .put-latest-group .ensures) (c .if1 .left)
 
 pub join-spec : {M : Type 1} → statement M
 join-spec =

@@ -1,10 +1,18 @@
 -- `walk::pass`: a run that opens goes on its chain and on the open runs, any other changes nothing.
 -- Assumes nothing.
 use mathlib.Core.Path.{sym, _∙_}
-use Rattle.chains.proofs.Flags.{passed-on, passed-off, raised-on, raised-off}
+use Rattle.chains.proofs.Flags.{passed-by, passed-off, raised-on, raised-off}
 use borrow.Author.Needs.{needs}
 use Rattle.chains.proofs.walk.pass.Statement.{statement}
 use Rattle.chains.proofs.walk.pass.Tie as tie
+use Rattle.chains.proofs.walk.pass.Reads as reads
+use Rattle.chains.proofs.walk.pass.Lts as lts
+use Rattle.chains.proofs.walk.opening.Reads as opening-reads
+use Rattle.slots.proofs.layout.chain.Reads as chain-reads
+use Rattle.slots.proofs.layout.head.Reads as head-reads
+use Rattle.slots.proofs.layout.put_link.Reads as put-link-reads
+use Rattle.slots.proofs.layout.put_head.Reads as put-head-reads
+use Rattle.slots.proofs.layout.put_open_run.Reads as put-open-run-reads
 
 opening-requires : tie.Need-opening-requires
 opening-requires c κs = search needs
@@ -34,13 +42,19 @@ same-length : tie.Need-same-length
 same-length c = search needs
 
 returns : tie.Need-returns
-returns c = (sym (raised-on _ _ _ (cc)), (cc) ∙ sym (passed-on _ _ _ (cc)))
+returns c =
+    let o = sym (c .before .before .before .before .before .before .before .before .before .before .before .before .before .before .before .before .before .opening .ensures) ∙ c .before .before .before .before .before .before .before .before .before .before .before .before .before .before .before .before .if1 .taken in (
+      sym (raised-on _ _ _ o),
+      passed-by _ _ _ _ _ _ _ _ o (c .before .before .before .before .before .before .before .before .before .before .before .before .before .before .chain .ensures .0) (c .before .before .before .before .before .before .before .before .before .before .before .before .head .ensures .0) (c .before .before .before .before .before .before .before .before .before .before .put-link .ensures) (c .before .before .before .before .before .before .put-head .ensures) (c .before .before .put-open-run .ensures),
+    )
 
 same-length-2 : tie.Need-same-length-2
 same-length-2 c = search needs
 
 returns-2 : tie.Need-returns-2
-returns-2 c = (sym (raised-off _ _ _ (cc)), sym (passed-off _ _ _ (cc)))
+returns-2 c =
+    let o = sym (c .before .opening .ensures) ∙ c .if1 .left in
+    (sym (raised-off _ _ _ o), sym (passed-off _ _ _ o))
 
 pub pass-spec : {M : Type 1} → statement M
 pass-spec =
