@@ -2,14 +2,15 @@
 -- Assumes nothing.
 use Prim.Native.Nat.{ℕ, _+_, _<_}
 use mathlib.Core.Path.{_≡_, refl, sym, _∙_}
-use mathlib.Core.Bool.{Bool, true, false}
+use mathlib.Core.Bool.{Bool, true, false, not, _&&_, _||_}
 use mathlib.Core.List.{List}
 use native.Mathlib.Omega.{arith}
 use lib.Dec.{eqb, ltb}
 use borrow.Author.Tests.{lt-ltb, le-ltb}
 use Rattle.record.specs.Choice.{choose, and}
-use Rattle.slots.specs.Layout.{leftOf, opensOf, closesOf, chainOf, headOf, withLink, withHead, withOpenAt}
-use Rattle.chains.specs.Walk.{closing, opening, bothAt, first, passed, raised}
+use Rattle.slots.specs.Layout.{leftOf, opensOf, closesOf, chainOf, headOf, markerOf, withLink, withHead, withOpenAt}
+use Rattle.runs.specs.Rule.{threes, tildes, ruleOver}
+use Rattle.chains.specs.Walk.{closing, opening, bothAt, takesAt, ruleFor, first, passed, raised}
 
 -- without markers left a run neither opens nor closes, with some its flag decides
 module _ (w : List ℕ) (i : ℕ) where
@@ -36,6 +37,13 @@ module _ (w : List ℕ) (i : ℕ) where
   pub both-off : opensOf w i ≡ false → bothAt w i ≡ false
   unfolding bothAt and
   both-off e = rw e
+
+-- the rule on two runs, from what the code reads of them
+pub takes-by : (w : List ℕ) (single : Bool) (o i : ℕ) (both : Bool) (marker a b : ℕ) (r : Bool) →
+    both ≡ (bothAt w o || bothAt w i) → marker ≡ markerOf w i → a ≡ leftOf w o → b ≡ leftOf w i →
+    r ≡ (not (threes both a b) && not (tildes single marker a b)) → r ≡ takesAt (ruleFor single) w o i
+unfolding takesAt ruleOver
+takes-by w single o i both marker a b r e f g h q = cc
 
 -- a passed run that opens, and one that does not
 module _ (w : List ℕ) (height i : ℕ) where

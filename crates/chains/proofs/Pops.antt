@@ -69,6 +69,15 @@ pub cleared-pop′ : (h : ℕ) (w : List ℕ) (o : ℕ) → 0 < h → o < openAt
 cleared-pop′ zero w o p l = absurd (omega arith)
 cleared-pop′ (suc h) w o p l = let e : suc h - 1 ≡ h = omega arith in rw e (cleared-pop h w o (rw e at l))
 
+-- a run leaves its chain, and opens no more, write by write as the code makes them
+pub unchained-by : (w w₁ : List ℕ) (q k older : ℕ) → k ≡ chainOf w q → older ≡ linkOf w q → w₁ ≡ withHead w k older → w₁ ≡ unchained w q
+unfolding unchained
+unchained-by w w₁ q k older a b e = cc
+
+pub popped-by : (w w₁ w₂ : List ℕ) (q : ℕ) → w₁ ≡ unchained w q → w₂ ≡ withOpens w₁ q 0 → w₂ ≡ popped w q
+unfolding popped
+popped-by w w₁ w₂ q e f = cc
+
 -- a run leaves its chain: the head changes, and nothing else
 module _ (w : List ℕ) (q : ℕ) where
   pub unchained-length : length (unchained w q) ≡ length w
