@@ -1,6 +1,11 @@
 -- `attention::call::resolve_attention` meets its contract: each return is a case of the definition.
 -- Assumes nothing.
-
+use Prim.Native.Nat.{ℕ}
+use mathlib.Core.Path.{_≡_}
+use mathlib.Core.List.{List}
+use lib.ListN.{length, replicate}
+use Rattle.attention.specs.Promise.{Answered, Promise}
+use Rattle.attention.specs.declared.call.Answer.{Answer}
 use borrow.Author.Needs.{needs}
 use Rattle.attention.proofs.call.resolve_attention.Statement.{statement}
 use Rattle.attention.proofs.call.resolve_attention.Tie as tie
@@ -8,6 +13,10 @@ use Rattle.attention.proofs.call.resolve_attention.Reads as reads
 use Rattle.attention.proofs.call.resolve_attention.Lts as lts
 use Rattle.attention.proofs.call.answer_attention.Reads as answer-attention-reads
 use Rattle.record.proofs.bytes.wipe.Reads as wipe-reads
+
+then-wiped : {s : List ℕ} {options : ℕ} {out work : List ℕ} {r : Answer} {out′ work′ : List ℕ} →
+    Answered s options out (length work) r out′ → work′ ≡ replicate (length work) 0 → Promise s options out work r out′ work′
+then-wiped a w = record { answer = a .answer; output = a .output; wiped = w }
 
 answer-attention-requires : tie.Need-answer-attention-requires
 answer-attention-requires c κs = search needs
@@ -22,7 +31,7 @@ same-length-2 : tie.Need-same-length-2
 same-length-2 c = search needs
 
 returns : tie.Need-returns
-returns c = record { answer = cc; output = cc; wiped = cc }
+returns c = then-wiped (search needs) (cc)
 
 pub resolve-attention-spec : {M : Type 1} → statement M
 resolve-attention-spec =
