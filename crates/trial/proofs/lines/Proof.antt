@@ -1,21 +1,20 @@
--- `refusals::run` is safe and ends. The measure is what is left of the script.
+-- `trial::lines` is safe and ends. The measure is what is left of the script.
 -- Assumes nothing.
-use mathlib.Core.Path.{_≡_}
 use Prim.Native.Nat.{_≤_, _-_}
 use lib.ListN.{length}
 use borrow.Author.Needs.{needs}
-use Rattle.refusals.proofs.run.Statement.{statement}
-use Rattle.refusals.proofs.run.Tie as tie
-use Rattle.refusals.proofs.run.Reads as reads
-use Rattle.refusals.proofs.run.Lts as lts
-use Rattle.refusals.proofs.line.Reads as line-reads
+use Rattle.trial.proofs.lines.Statement.{statement}
+use Rattle.trial.proofs.lines.Tie as tie
+use Rattle.trial.proofs.lines.Reads as reads
+use Rattle.trial.proofs.lines.Lts as lts
+use Rattle.trial.proofs.ask.line.Reads as line-reads
 use Rattle.script.proofs.find.Reads as find-reads
 
 abbrev Inv-loop : tie.InvT-loop
-Inv-loop text bytes₀ out₀ work₀ i₀ bytes out work i = (i ≤ length text) × (length bytes ≡ 65536) × (length out ≡ 65536) × (length work ≡ 131072)
+Inv-loop text i₀ i = i ≤ length text
 
 abbrev μ-loop : tie.MeasureT-loop
-μ-loop text bytes₀ out₀ work₀ i₀ bytes out work i = length text - i
+μ-loop text i₀ i = length text - i
 
 loop-holds : tie.Need-loop-holds Inv-loop μ-loop
 loop-holds c = search needs
@@ -31,15 +30,6 @@ part-line-start c = search needs
 
 part-line-end : tie.Need-part-line-end Inv-loop μ-loop
 part-line-end c = search needs
-
-slice-aggregate-line : tie.Need-slice-aggregate-line Inv-loop μ-loop
-slice-aggregate-line c = search needs
-
-slice-aggregate-line-2 : tie.Need-slice-aggregate-line-2 Inv-loop μ-loop
-slice-aggregate-line-2 c = search needs
-
-slice-aggregate-line-3 : tie.Need-slice-aggregate-line-3 Inv-loop μ-loop
-slice-aggregate-line-3 c = search needs
 
 line-requires : tie.Need-line-requires Inv-loop μ-loop
 line-requires c κs = search needs
@@ -59,8 +49,8 @@ loop-again c = search needs
 returns-2 : tie.Need-returns-2 Inv-loop μ-loop
 returns-2 c = search needs
 
-pub run-spec : {M : Type 1} → statement M
-run-spec =
+pub lines-spec : {M : Type 1} → statement M
+lines-spec =
     tie.close
     (tie.spec
     Inv-loop
@@ -70,9 +60,6 @@ run-spec =
     sub-line
     part-line-start
     part-line-end
-    slice-aggregate-line
-    slice-aggregate-line-2
-    slice-aggregate-line-3
     line-requires
     returns
     add-i

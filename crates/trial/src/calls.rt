@@ -1,0 +1,73 @@
+// Each call, with what it answers said. What it gives is how much of the output it says that it wrote.
+
+use crate::say::say_with;
+use crate::section::Written;
+use record::check::Reading;
+use record::check::Refusal;
+
+fn say_refusal(refusal: Refusal) -> Written {
+    say_with(b"refused ", refusal.number);
+    say_with(b" at ", refusal.place);
+    Written::Nothing
+}
+
+fn say_events(n: usize) -> Written {
+    say_with(b"events ", n);
+    Written::Section(n)
+}
+
+fn say_groups(events: usize, groups: usize, tried: usize) -> Written {
+    let written = say_events(events);
+    say_with(b" groups ", groups);
+    say_with(b" tried ", tried);
+    written
+}
+
+fn say_good(document: usize, events: usize) -> Written {
+    say_with(b"good ", document);
+    say_with(b" ", events);
+    Written::Nothing
+}
+
+fn call_read(s: &[u8], options: u32, work: &mut [u8]) -> Written {
+    match record::call::read(s, options, work) {
+        Reading::Good { document, events } => say_good(document, events),
+        Reading::Refused(refusal) => say_refusal(refusal),
+    }
+}
+
+fn call_attention(s: &[u8], options: u32, out: &mut [u8], work: &mut [u8]) -> Written {
+    match attention::call::resolve_attention(s, options, out, work) {
+        attention::call::Answer::Resolved {
+            events,
+            groups,
+            tried,
+        } => say_groups(events, groups, tried),
+        attention::call::Answer::Refused(refusal) => say_refusal(refusal),
+    }
+}
+
+fn call_headings(s: &[u8], options: u32, out: &mut [u8], work: &mut [u8]) -> Written {
+    match heading::resolve::resolve_headings(s, options, out, work) {
+        heading::resolve::Answer::Resolved { events } => say_events(events),
+        heading::resolve::Answer::Refused(refusal) => say_refusal(refusal),
+    }
+}
+
+fn call_lists(s: &[u8], options: u32, out: &mut [u8], work: &mut [u8]) -> Written {
+    match list::call::resolve_lists(s, options, out, work) {
+        list::call::Answer::Resolved { events } => say_events(events),
+        list::call::Answer::Refused(refusal) => say_refusal(refusal),
+    }
+}
+
+// The call that a letter stands for; of any other letter nothing is said.
+pub fn call_by(letter: u8, s: &[u8], options: u32, out: &mut [u8], work: &mut [u8]) -> Written {
+    match letter {
+        b'r' => call_read(s, options, work),
+        b'a' => call_attention(s, options, out, work),
+        b'h' => call_headings(s, options, out, work),
+        b'l' => call_lists(s, options, out, work),
+        _ => Written::Nothing,
+    }
+}
