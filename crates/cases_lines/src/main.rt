@@ -5,13 +5,13 @@
 // line's bytes in the notation of the crate `script`. `-` for a number is the largest there is. A line that begins with a space is passed
 // over. The output is filled with 0xa5 before each call and looked at whole after it.
 
+use atx::Headed;
+use atx::heading;
 use libc::STDOUT_FILENO;
 use lines::container::Container;
 use lines::container::Kind;
 use lines::going::Going;
 use lines::going::continuation;
-use lines::heading::Headed;
-use lines::heading::heading;
 use lines::item::Start;
 use lines::item::list_item;
 use lines::spaces::Spaces;

@@ -26,8 +26,8 @@ use Rattle.attention.specs.Attention.{attention}
 use Rattle.scan.specs.Run.{or, spaceOrTab, filled, digit, hash, leading, every, count, blank, blanks, blanksUpTo, on, indentation}
 use Rattle.scan.specs.Line.{noFeed, endOf, lineOf, checkedLine, reading}
 use Rattle.lines.specs.Item.{breakMark, isMark, markOrBlank, marksOnly, thematicBreak, bulletMark, orderedMark, startsWithOne, mayStart, orderedOf, markerOf, padding, filledStart, startAfter, startFrom, startAt, startIn, startOf, numbersOf}
-use Rattle.lines.specs.Heading.{brokenOff, opening, isHeading, pieceOf, pieces, eventsFrom, headingEvents}
-use Rattle.lines.specs.Heading.{split as splitHeading}
+use Rattle.atx.specs.Heading.{brokenOff, opening, isHeading, pieceOf, pieces, eventsFrom, headingEvents}
+use Rattle.atx.specs.Heading.{split as splitHeading}
 use Rattle.heading.specs.Headings.{isOf, beforeFirst, throughLast, innerOf, leaf, leaves, startsWith, headed, shaped as shapedHeading, withText, resolvedFrom, offending, earliest, headings}
 
 -- what is asked of a text: the groups of its runs, the size of the list item that starts on it, or the text of the heading that it is

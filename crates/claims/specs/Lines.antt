@@ -21,21 +21,23 @@ use Rattle.record.specs.declared.check.Refusal.{Refusal}
 use Rattle.scan.specs.Line.{lineOf, refusal, checkedLine, reading}
 use Rattle.scan.specs.declared.line.Checked.{Checked}
 use Rattle.scan.specs.declared.line.Checked.the-variants.{Ends, Bad}
-use Rattle.lines.specs.Rows.{Row, row-2, row-3, row-4, WritingRow, reading as reading-row, row-7, row-8, Exactly, headingFound}
+use Rattle.scan.specs.Rows.{Row, row-2, row-3, row-4, Exactly}
+use Rattle.atx.specs.Rows.{WritingRow, reading as reading-row, row-7, row-8, headingFound}
 use Rattle.lines.specs.Spaces.{spacesIn, spacesOf}
 use Rattle.lines.specs.Item.{startIn, startOf}
 use Rattle.scan.specs.Run.{blank, blanks, blanksUpTo}
 use Rattle.lines.specs.Going.{cleared, blankGoing, filledGoing, goingIn, goingOf}
-use Rattle.lines.specs.Heading.{Result, nothing, headed, isHeading, headingEvents, headedIn, headedOf}
+use Rattle.atx.specs.Heading.{Result, nothing, headed, isHeading, headingEvents, headedIn, headedOf}
 use Rattle.lines.specs.declared.spaces.Spaces.{Spaces}
 use Rattle.lines.specs.declared.spaces.Spaces.the-variants.{Taken, TooFew, Refused as SpacesRefused}
 use Rattle.lines.specs.declared.item.Start.{Start}
 use Rattle.lines.specs.declared.item.Start.the-variants.{Item, NotItem, Refused as StartRefused}
 use Rattle.lines.specs.declared.going.Going.{Going}
 use Rattle.lines.specs.declared.going.Going.the-variants.{Goes, Stops, Refused as GoingRefused}
-use Rattle.lines.specs.declared.heading.Headed.{Headed}
-use Rattle.lines.specs.declared.heading.Headed.the-variants.{Heading, NotHeading, Refused as HeadedRefused}
-use Rattle.lines.proofs.ExactlyRead.{spaces-exactly, start-exactly, going-exactly, heading-exactly}
+use Rattle.atx.specs.declared.Headed.{Headed}
+use Rattle.atx.specs.declared.Headed.the-variants.{Heading, NotHeading, Refused as HeadedRefused}
+use Rattle.lines.proofs.ExactlyRead.{spaces-exactly, start-exactly, going-exactly}
+use Rattle.atx.proofs.ExactlyHeaded.{heading-exactly}
 use Rattle.ledgerlark.specs.Answers.{flagged, containerOf, spacesOf as spacesNumbers, itemOf, goingOf as goingNumbers, headedOf as headedNumbers, SpacesAs, ItemAs, GoingAs, HeadedAs}
 use Rattle.ledgerlark.specs.declared.line.LarkSpaces.{LarkSpaces}
 use Rattle.ledgerlark.specs.declared.line.LarkItem.{LarkItem}

@@ -7,10 +7,10 @@ use mathlib.Core.List.{List}
 use Rattle.record.specs.Outcome.{Outcome}
 use Rattle.record.specs.Promise.{Read, Writes}
 use Rattle.record.specs.declared.check.Reading.{Reading}
-use Rattle.lines.specs.Promise.{HeadedBy}
+use Rattle.atx.specs.Promise.{HeadedBy}
 use Rattle.lines.specs.Going.{goingOf as goingIn}
 use Rattle.lines.specs.declared.container.Kind.{Kind}
-use Rattle.lines.specs.declared.heading.Headed.{Headed}
+use Rattle.atx.specs.declared.Headed.{Headed}
 use Rattle.ledgerlark.specs.Answers.{readingOf, headedOf, kindOf, ReadAs, HeadedAs}
 use Rattle.ledgerlark.specs.declared.resolve.LarkReading.{LarkReading}
 use Rattle.ledgerlark.specs.declared.resolve.LarkResolved.{LarkResolved}

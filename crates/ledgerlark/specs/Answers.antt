@@ -20,14 +20,14 @@ use Rattle.list.specs.declared.call.Answer.{Answer as ListAnswer}
 use Rattle.lines.specs.Spaces.{numbersOf as spacesNumbers, spacesOf as spacesIn}
 use Rattle.lines.specs.Item.{numbersOf as itemNumbers, startOf}
 use Rattle.lines.specs.Going.{numbersOf as goingNumbers, goingOf as goingIn}
-use Rattle.lines.specs.Heading.{numbersOf as headedNumbers, headedOf as headedIn}
+use Rattle.atx.specs.Heading.{numbersOf as headedNumbers, headedOf as headedIn}
 use Rattle.lines.specs.declared.spaces.Spaces.{Spaces}
 use Rattle.lines.specs.declared.item.Start.{Start}
 use Rattle.lines.specs.declared.container.Kind.{Kind}
 use Rattle.lines.specs.declared.container.Kind.the-variants.{Bullet, Ordered}
 use Rattle.lines.specs.declared.container.Container.{Container}
 use Rattle.lines.specs.declared.going.Going.{Going}
-use Rattle.lines.specs.declared.heading.Headed.{Headed}
+use Rattle.atx.specs.declared.Headed.{Headed}
 use Rattle.ledgerlark.specs.declared.resolve.LarkReading.{LarkReading}
 use Rattle.ledgerlark.specs.declared.resolve.LarkResolved.{LarkResolved}
 use Rattle.ledgerlark.specs.declared.line.LarkSpaces.{LarkSpaces}

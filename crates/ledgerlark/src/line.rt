@@ -1,9 +1,9 @@
 // The calls on a line.
 
+use atx::Headed;
 use lines::container::Container;
 use lines::container::Kind;
 use lines::going::Going;
-use lines::heading::Headed;
 use lines::item::Start;
 use lines::spaces::Spaces;
 ghost use mathlib.Core.Path.{_≡_};
@@ -266,5 +266,5 @@ pub extern "C" fn lark_continuation(
 pub extern "C" fn lark_heading(line: &[u8], options: u32, out: &mut [u8]) -> LarkHeaded
     ensures { λ r. ⌜ HeadedAs (now (line .entry)) options (now (out .entry)) r (now (out .exit)) ⌝ }
 {
-    headed_of(lines::heading::heading(line, options, out))
+    headed_of(atx::heading(line, options, out))
 }

@@ -27,7 +27,7 @@ use Rattle.lines.specs.declared.item.Marker.{Marker}
 use Rattle.lines.specs.declared.item.Marker.the-variants.{Marked, Unmarked}
 use Rattle.lines.specs.declared.item.Start.the-variants.{Item, NotItem, Refused as StartRefused}
 use Rattle.lines.specs.declared.going.Going.the-variants.{Goes, Stops, Refused as GoingRefused}
-use Rattle.lines.proofs.Chosen.{chosen}
+use Rattle.scan.proofs.Chosen.{chosen}
 use Rattle.scan.proofs.Blanks.{upTo-max, upTo-length, blanks-length, indent-length}
 use Rattle.lines.proofs.Marks.{Told, told}
 

@@ -1,10 +1,6 @@
 pub mod Taking
 pub mod Marks
 pub mod Starts
-pub mod Chosen
 pub mod Goings
-pub mod Pieces
-pub mod Headings
 pub mod Lawful
-pub mod Covering
 pub mod ExactlyRead

@@ -20,7 +20,7 @@ use Rattle.lines.specs.declared.container.Kind.{Kind}
 use Rattle.lines.specs.declared.container.Kind.the-variants.{Bullet, Ordered}
 use Rattle.lines.specs.declared.item.Marker.{Marker}
 use Rattle.lines.specs.declared.item.Marker.the-variants.{Marked, Unmarked}
-use Rattle.lines.proofs.Chosen.{chosen}
+use Rattle.scan.proofs.Chosen.{chosen}
 use Rattle.scan.proofs.Leading.{first-of}
 
 and-true : (b : Bool) → and b true ≡ b

@@ -1,8 +1,6 @@
 pub mod Spaces
 pub mod Item
 pub mod Going
-pub mod Heading
 pub mod Promise
 pub mod Laws
-pub mod Rows
 pub mod Cases

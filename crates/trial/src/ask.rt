@@ -110,7 +110,7 @@ fn lend(q: Question, s: &[u8], out: &mut [u8], work: &mut [u8], brief: bool) {
 // The same with buffers for it alone. There is room for the longest section, and for work memory that is longer than a call asks for.
 fn ask(q: Question, s: &[u8], brief: bool) {
     let mut out = [FILL; 65536];
-    let mut work = [FILL; 73728];
+    let mut work = [FILL; 131072];
     lend(q, s, &mut out, &mut work, brief);
 }
 

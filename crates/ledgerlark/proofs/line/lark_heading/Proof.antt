@@ -7,7 +7,7 @@ use Rattle.ledgerlark.proofs.line.lark_heading.Tie as tie
 use Rattle.ledgerlark.proofs.line.lark_heading.Reads as reads
 use Rattle.ledgerlark.proofs.line.lark_heading.Lts as lts
 use Rattle.ledgerlark.proofs.line.headed_of.Reads as headed-of-reads
-use Rattle.lines.proofs.heading.heading.Reads as heading-reads
+use Rattle.atx.proofs.heading.Reads as heading-reads
 
 heading-requires : tie.Need-heading-requires
 heading-requires c κs = search needs

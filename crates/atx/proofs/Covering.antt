@@ -1,0 +1,170 @@
+-- The laws of specs/Laws.antt for the heading reader: its section is sound and balanced, and its pieces cover the line without a gap; and the
+-- line begins with at most one 14 and then a 12.
+-- Assumes nothing.
+use mathlib.Core.Path.{_≡_, refl, sym, ap, _∙_}
+use mathlib.Core.Bool.{Bool, true, false}
+use mathlib.Core.Logic.{_⊎_, inl, inr, ⊎-elim}
+use mathlib.Core.List.{List, [], _∷_, _++_}
+use Prim.Native.Nat.{ℕ, zero, suc, _+_, _-_, _≤_, _<_}
+use native.Mathlib.Omega.{arith}
+use lib.ListN.{length, getD, take, drop, length-drop}
+use lib.Seq.{getD-drop}
+use borrow.Author.Tests.{le-leb, lt-ltb, eq-eqb, leb-true, eqb-true}
+use Rattle.record.specs.Choice.{choose, and}
+use Rattle.record.specs.Event.{enter, exit}
+use Rattle.record.specs.Stack.{fitsOpen, after}
+use Rattle.record.specs.Sound.{placed, soundFrom}
+use Rattle.record.specs.declared.event.Event.{Event}
+use Rattle.record.proofs.Bools.{and-left, and-right}
+use Rattle.scan.specs.Run.{or, spaceOrTab, hash, leading, first, blanks, blanksUpTo, on, indentation}
+use Rattle.atx.specs.Heading.{opening, isHeading, piece, pieceOf, pieces, split, eventsFrom, headingEvents}
+use Rattle.atx.specs.Laws.{gapless, HeadingLaws, HeadingShape}
+use Rattle.atx.specs.declared.Piece.{Piece}
+use Rattle.scan.proofs.Chosen.{chosen}
+use Rattle.scan.proofs.Leading.{leading-short, first-of}
+use Rattle.scan.proofs.Blanks.{blanks-length}
+use Rattle.atx.proofs.Pieces.{sized, split-cons}
+
+-- an event that fits, before a sound rest
+module _ (deep d last name at : ℕ) (held : List ℕ) (es : List Event) (n : name ≤ 24) (h : at ≤ d) (k : last ≤ at) where
+  enter-sound : length held < deep → soundFrom deep d at (name ∷ held) es ≡ true → soundFrom deep d last held (enter name at ∷ es) ≡ true
+  unfolding soundFrom placed fitsOpen after choose and
+  enter-sound l t = rw (le-leb name 24 n, le-leb at d h, le-leb last at k, lt-ltb (length held) deep l) t
+
+  exit-sound : soundFrom deep d at held es ≡ true → soundFrom deep d last (name ∷ held) (exit name at ∷ es) ≡ true
+  unfolding soundFrom placed fitsOpen after choose and
+  exit-sound t = rw (le-leb name 24 n, le-leb at d h, le-leb last at k, eq-eqb name name refl) t
+
+-- a piece's name
+name-small : (l : List ℕ) (p : Piece) → p ≡ pieceOf l → p .name ≤ 24
+unfolding pieceOf
+name-small l p q =
+    ⊎-elim
+    (λ w. let e : p .name ≡ 14 = ap (λ (x : Piece). x .name) (w .1) in omega arith)
+    (λ w.
+    ⊎-elim
+    (λ v. let e : p .name ≡ 12 = ap (λ (x : Piece). x .name) (v .1) in omega arith)
+    (λ v. let e : p .name ≡ 0 = ap (λ (x : Piece). x .name) (v .1) in omega arith)
+    (chosen _ _ _ _ (w .1)))
+    (chosen _ _ _ _ q)
+
+-- the end of a heading, where 11 alone is open
+ends-sound : (d last : ℕ) → last ≤ d → soundFrom 2 d last (11 ∷ []) (exit 11 d ∷ []) ≡ true
+unfolding soundFrom
+ends-sound d last h = exit-sound 2 d last 11 d [] [] (omega arith) (omega arith) h refl
+
+-- one piece more
+piece-sound : (d at : ℕ) (p : Piece) (es : List Event) → p .name ≤ 24 → at + p .size ≤ d → soundFrom 2 d (at + p .size) (11 ∷ []) es ≡ true →
+    soundFrom 2 d at (11 ∷ []) (enter (p .name) at ∷ exit (p .name) (at + p .size) ∷ es) ≡ true
+piece-sound d at p es n h t =
+    enter-sound 2 d at (p .name) at (11 ∷ []) (exit (p .name) (at + p .size) ∷ es) n (omega arith) (omega arith) (omega arith)
+    (exit-sound 2 d at (p .name) (at + p .size) (11 ∷ []) es n h (omega arith) t)
+
+pieces-sound : (n : ℕ) (l : List ℕ) (d at : ℕ) → length l ≤ n → at + length l ≡ d →
+    soundFrom 2 d at (11 ∷ []) (eventsFrom at (pieces n l) ++ (exit 11 d ∷ [])) ≡ true
+unfolding pieces eventsFrom
+pieces-sound zero [] d at h e = ends-sound d at (omega arith)
+pieces-sound zero (b ∷ l) d at h e = absurd (omega arith)
+pieces-sound (suc n) [] d at h e = ends-sound d at (omega arith)
+pieces-sound (suc n) (b ∷ l) d at h e =
+    let s = sized (b ∷ l) (pieceOf (b ∷ l)) (omega arith) refl in
+    let k = length-drop (pieceOf (b ∷ l) .size) (b ∷ l) in
+    piece-sound d at (pieceOf (b ∷ l)) (eventsFrom (at + pieceOf (b ∷ l) .size) (pieces n (drop (pieceOf (b ∷ l) .size) (b ∷ l))) ++ (exit 11 d ∷ []))
+    (name-small (b ∷ l) (pieceOf (b ∷ l)) refl)
+    (omega (arith, s .fits))
+    (pieces-sound n (drop (pieceOf (b ∷ l) .size) (b ∷ l)) d (at + pieceOf (b ∷ l) .size) (omega (arith, s .some)) (omega (arith, s .fits)))
+
+gapless-more : (from to : ℕ) (p : Piece) (es : List Event) → 1 ≤ p .size → gapless (from + p .size) to es ≡ true →
+    gapless from to (enter (p .name) from ∷ exit (p .name) (from + p .size) ∷ es) ≡ true
+unfolding gapless and
+gapless-more from to p es h t = rw (eq-eqb from from refl, lt-ltb from (from + p .size) (omega arith)) t
+
+pieces-gapless : (n : ℕ) (l : List ℕ) (d at : ℕ) → length l ≤ n → at + length l ≡ d → gapless at d (eventsFrom at (pieces n l)) ≡ true
+unfolding pieces eventsFrom gapless
+pieces-gapless zero [] d at h e = eq-eqb at d (omega arith)
+pieces-gapless zero (b ∷ l) d at h e = absurd (omega arith)
+pieces-gapless (suc n) [] d at h e = eq-eqb at d (omega arith)
+pieces-gapless (suc n) (b ∷ l) d at h e =
+    let s = sized (b ∷ l) (pieceOf (b ∷ l)) (omega arith) refl in
+    let k = length-drop (pieceOf (b ∷ l) .size) (b ∷ l) in
+    gapless-more at d (pieceOf (b ∷ l)) (eventsFrom (at + pieceOf (b ∷ l) .size) (pieces n (drop (pieceOf (b ∷ l) .size) (b ∷ l)))) (s .some)
+    (pieces-gapless n (drop (pieceOf (b ∷ l) .size) (b ∷ l)) d (at + pieceOf (b ∷ l) .size) (omega (arith, s .some)) (omega (arith, s .fits)))
+
+pub heading-lawful : (l : List ℕ) → HeadingLaws l
+unfolding headingEvents split
+heading-lawful l =
+    record {
+      balanced =
+          enter-sound 2 (length l) 0 11 0 [] (eventsFrom 0 (pieces (length l) l) ++ (exit 11 (length l) ∷ [])) (omega arith) (omega arith) (omega arith) (omega arith)
+          (pieces-sound (length l) l (length l) 0 (omega arith) (omega arith));
+      covers = pieces-gapless (length l) l (length l) 0 (omega arith) (omega arith);
+    }
+
+-- a run that ends before a byte of another kind is all of the run, whatever bound it had
+bounded : (kind : ℕ → Bool) (n : ℕ) (l : List ℕ) → kind (getD l (leading kind (take n l)) 0) ≡ false → leading kind l ≡ leading kind (take n l)
+unfolding leading choose
+bounded kind zero [] e = refl
+bounded kind zero (b ∷ l) e = rw e
+bounded kind (suc n) [] e = refl
+bounded kind (suc n) (b ∷ l) e = go (kind b) refl (bounded kind n l) e
+  where
+    go : (z : Bool) → kind b ≡ z → (kind (getD l (leading kind (take n l)) 0) ≡ false → leading kind l ≡ leading kind (take n l)) →
+        kind (getD (b ∷ l) (choose z (suc (leading kind (take n l))) 0) 0) ≡ false → choose z (suc (leading kind l)) 0 ≡ choose z (suc (leading kind (take n l))) 0
+    go true q f e = ap suc (f e)
+    go false q f e = refl
+
+-- a hash is no space or tab
+hash-filled : (b : ℕ) → hash b ≡ true → spaceOrTab b ≡ false
+unfolding hash spaceOrTab or
+hash-filled b e = let q : b ≡ 35 = eqb-true b 35 e in rw q
+
+indent-chosen : (z : Bool) (l : List ℕ) → spaceOrTab (getD l (choose z (blanksUpTo 3 l) (blanks l)) 0) ≡ false → blanks l ≡ choose z (blanksUpTo 3 l) (blanks l)
+unfolding choose blanks blanksUpTo
+indent-chosen true l e = bounded spaceOrTab 3 l e
+indent-chosen false l e = refl
+
+-- before a byte that is neither, the indentation is all of the spaces and tabs
+indent-all : (options : ℕ) (l : List ℕ) → spaceOrTab (getD l (indentation options l) 0) ≡ false → blanks l ≡ indentation options l
+unfolding indentation
+indent-all options l e = indent-chosen (on options 32) l e
+
+hash-first : (l : List ℕ) → hash (first l) ≡ true → pieceOf l ≡ piece 12 (leading hash l)
+unfolding pieceOf choose
+hash-first l e = rw (hash-filled _ e, e)
+
+blank-first : (l : List ℕ) → spaceOrTab (first l) ≡ true → pieceOf l ≡ piece 14 (blanks l)
+unfolding pieceOf choose
+blank-first l e = rw e
+
+blank-there : (l : List ℕ) (i : ℕ) → blanks l ≡ suc i → spaceOrTab (first l) ≡ true
+unfolding blanks
+blank-there l i e = first-of spaceOrTab l (omega arith)
+
+split-first : (l : List ℕ) (p : Piece) → 0 < length l → pieceOf l ≡ p → split l ≡ p ∷ split (drop (p .size) l)
+split-first l p h q = split-cons l h ∙ ap (λ (x : Piece). x ∷ split (drop (x .size) l)) q
+
+pub heading-shaped : (l : List ℕ) (options : ℕ) → isHeading l options ≡ true → HeadingShape l options
+unfolding isHeading opening
+heading-shaped l options t =
+    let m : List ℕ = drop (indentation options l) l in
+    let o = and-right _ _ t in
+    let some : 1 ≤ leading hash m = leb-true _ _ (and-left _ _ o) in
+    let six : leading hash m ≤ 6 = leb-true _ _ (and-left _ _ (and-right _ _ o)) in
+    let f : hash (first m) ≡ true = first-of hash m some in
+    let z : indentation options l + 0 ≡ indentation options l = omega arith in
+    let at : first m ≡ getD l (indentation options l) 0 = getD-drop (indentation options l) l 0 0 ∙ ap (λ (k : ℕ). getD l k 0) z in
+    let all : blanks l ≡ indentation options l = indent-all options l (ap spaceOrTab (sym at) ∙ hash-filled (first m) f) in
+    let there : split m ≡ piece 12 (leading hash m) ∷ split (drop (leading hash m) m) =
+    split-first m (piece 12 (leading hash m)) (omega (arith, leading-short hash m)) (hash-first m f)
+    in
+    record {
+      level = leading hash m;
+      one-to-six = (some, six);
+      rest = split (drop (leading hash m) m);
+      begins = begins l (indentation options l) all (piece 12 (leading hash m) ∷ split (drop (leading hash m) m)) there;
+    }
+  where
+    begins : (l : List ℕ) (i : ℕ) → blanks l ≡ i → (ps : List Piece) → split (drop i l) ≡ ps → (split l ≡ ps) ⊎ (split l ≡ piece 14 i ∷ ps)
+    begins l zero e ps q = inl q
+    begins l (suc i) e ps q =
+        inr (split-first l (piece 14 (suc i)) (omega (arith, blanks-length l)) (blank-first l (blank-there l i e) ∙ ap (piece 14) e) ∙ ap (λ (x : List Piece). piece 14 (suc i) ∷ x) q)

@@ -1,0 +1,4 @@
+pub mod Pieces
+pub mod Headings
+pub mod Covering
+pub mod ExactlyHeaded

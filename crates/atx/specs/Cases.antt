@@ -1,0 +1,50 @@
+-- Document 01's cases on heading lines, by computation: the numbers and events that the definitions give.
+-- Assumes nothing.
+use Prim.Native.Nat.{ℕ}
+use mathlib.Core.Path.{_≡_, refl}
+use mathlib.Core.List.{List, [], _∷_}
+use lib.ListN.{replicate}
+use Rattle.record.specs.Choice.{choose, and}
+use Rattle.record.specs.Check.{firstReturn}
+use Rattle.record.specs.Event.{enter, exit}
+use Rattle.record.specs.Outcome.{sized}
+use Rattle.scan.specs.Run.{or, spaceOrTab, filled, hash, leading, blanks, blanksUpTo, on, indentation}
+use Rattle.scan.specs.Line.{noFeed, endOf, lineOf, checkedLine, reading}
+use Rattle.atx.specs.Heading.{brokenOff, opening, isHeading, pieceOf, pieces, split, eventsFrom, headingEvents, headedIn, headedOf}
+use Rattle.atx.specs.Heading.{numbersOf as headingNumbers}
+
+-- number, place, found, events
+headed : List ℕ → ℕ → ℕ → List ℕ
+headed s options outs = let n = headingNumbers (headedOf s options outs .answer) in n .number ∷ n .place ∷ n .found ∷ n .events ∷ []
+
+-- ` # a#`: enter 11, 14 from 0 to 1, 12 from 1 to 2, 14 from 2 to 3, Data from 3 to 5, exit 11
+heading-case : headingEvents (32 ∷ 35 ∷ 32 ∷ 97 ∷ 35 ∷ []) ≡
+    enter 11 0
+    ∷ enter 14 0
+    ∷ exit 14 1
+    ∷ enter 12 1
+    ∷ exit 12 2
+    ∷ enter 14 2
+    ∷ exit 14 3
+    ∷ enter 0 3
+    ∷ exit 0 5
+    ∷ exit 11 5
+    ∷ []
+unfolding headingEvents eventsFrom split pieces pieceOf blanks leading spaceOrTab filled hash or choose
+heading-case = refl
+
+-- `# #a`: a `#` run followed directly by Data
+run-then-data : headingEvents (35 ∷ 32 ∷ 35 ∷ 97 ∷ []) ≡
+    enter 11 0 ∷ enter 12 0 ∷ exit 12 1 ∷ enter 14 1 ∷ exit 14 2 ∷ enter 12 2 ∷ exit 12 3 ∷ enter 0 3 ∷ exit 0 4 ∷ exit 11 4 ∷ []
+unfolding headingEvents eventsFrom split pieces pieceOf blanks leading spaceOrTab filled hash or choose
+run-then-data = refl
+
+-- `#` and the end; seven; `#a`; without option 8; one byte of output too few; none for a line that is no heading
+on-headings : (headed (35 ∷ 10 ∷ 97 ∷ []) 63 36 ≡ 0 ∷ 0 ∷ 1 ∷ 4 ∷ [])
+    × (headed (replicate 7 35) 63 999 ≡ 0 ∷ 0 ∷ 0 ∷ 0 ∷ [])
+    × (headed (35 ∷ 97 ∷ []) 63 999 ≡ 0 ∷ 0 ∷ 0 ∷ 0 ∷ [])
+    × (headed (35 ∷ []) 55 999 ≡ 0 ∷ 0 ∷ 0 ∷ 0 ∷ [])
+    × (headed (35 ∷ []) 8 35 ≡ 8 ∷ 0 ∷ 0 ∷ 0 ∷ [])
+    × (headed (97 ∷ []) 8 0 ≡ 0 ∷ 0 ∷ 0 ∷ 0 ∷ [])
+unfolding headed headedOf headedIn sized headingEvents eventsFrom split pieces pieceOf isHeading opening brokenOff indentation on blanks blanksUpTo leading spaceOrTab filled hash or and choose checkedLine reading lineOf endOf noFeed firstReturn
+on-headings = (refl, refl, refl, refl, refl, refl)

@@ -1,0 +1,5 @@
+pub mod Heading
+pub mod Promise
+pub mod Laws
+pub mod Rows
+pub mod Cases
