@@ -235,18 +235,19 @@ pub fn arguments(from: usize, takes: u8) -> Asked {
     asked
 }
 
+// Says what is wrong with an argument.
+fn say_wrong(what: u8, culprit: usize) -> u8 {
+    match what {
+        NO_NUMBER => blame(b"not a number", culprit),
+        UNKNOWN => blame(b"no such option", culprit),
+        _ => blame(b"one argument too many", culprit),
+    }
+}
+
 // Whether the arguments are good; says what is wrong where they are not.
 pub fn are_good(asked: Asked) -> bool {
-    if asked.wrong == NO_NUMBER {
-        blame(b"not a number", asked.culprit);
-        return false;
-    }
-    if asked.wrong == UNKNOWN {
-        blame(b"no such option", asked.culprit);
-        return false;
-    }
-    if asked.wrong == ONE_TOO_MANY {
-        blame(b"one argument too many", asked.culprit);
+    if asked.wrong != 0 {
+        say_wrong(asked.wrong, asked.culprit);
         return false;
     }
     if asked.awaits != 0 {

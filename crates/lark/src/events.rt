@@ -2,6 +2,7 @@
 
 use crate::say::say;
 use crate::say::say_number;
+use crate::say::say_with;
 use record::event::Event;
 use record::event::event_at;
 use record::limits::ENTER;
@@ -40,8 +41,7 @@ fn say_event(section: &[u8], k: usize) {
         say(b"-");
     }
     say_number(event.name as usize);
-    say(b"@");
-    say_number(event.place);
+    say_with(b"@", event.place);
 }
 
 // So many events, on a line; whether it was written.

@@ -10,16 +10,20 @@ use crate::say::WRONG;
 use crate::say::done;
 use crate::say::refuse;
 use crate::say::say;
-use crate::say::say_number;
+use crate::say::say_with;
 use record::check::Reading;
 use record::check::Refusal;
 use record::limits::MAX_RESULT;
 
-// Which call of the library is asked for.
-pub enum Call {
+pub enum Resolver {
     Attention,
     Headings,
     Lists,
+}
+
+// Which call of the library is asked for.
+pub enum Call {
+    Resolve(Resolver),
     Read,
 }
 
@@ -84,10 +88,8 @@ fn say_made(made: Made, out: &[u8], as_text: bool) -> u8 {
 fn say_reading(reading: Reading) -> u8 {
     match reading {
         Reading::Good { document, events } => {
-            say(b"document ");
-            say_number(document);
-            say(b" events ");
-            say_number(events);
+            say_with(b"document ", document);
+            say_with(b" events ", events);
             return done(say(b"\n"));
         }
         Reading::Refused(refusal) => {
@@ -96,25 +98,31 @@ fn say_reading(reading: Reading) -> u8 {
     }
 }
 
-fn run_on(call: Call, rec: &[u8], options: u32, as_text: bool) -> u8 {
+fn run_read(rec: &[u8], options: u32) -> u8 {
+    let mut work = [0u8; 65536];
+    say_reading(record::call::read(rec, options, &mut work))
+}
+
+// One of the three resolvers.
+fn make(resolver: Resolver, rec: &[u8], options: u32, out: &mut [u8], work: &mut [u8]) -> Made {
+    match resolver {
+        Resolver::Attention => make_attention(rec, options, out, work),
+        Resolver::Headings => make_headings(rec, options, out, work),
+        Resolver::Lists => make_lists(rec, options, out, work),
+    }
+}
+
+fn run_resolver(resolver: Resolver, rec: &[u8], options: u32, as_text: bool) -> u8 {
     let mut out = [0u8; 65536];
     let mut work = [0u8; 65536];
+    let made = make(resolver, rec, options, &mut out, &mut work);
+    say_made(made, &out, as_text)
+}
+
+fn run_on(call: Call, rec: &[u8], options: u32, as_text: bool) -> u8 {
     match call {
-        Call::Attention => {
-            let made = make_attention(rec, options, &mut out, &mut work);
-            return say_made(made, &out, as_text);
-        }
-        Call::Headings => {
-            let made = make_headings(rec, options, &mut out, &mut work);
-            return say_made(made, &out, as_text);
-        }
-        Call::Lists => {
-            let made = make_lists(rec, options, &mut out, &mut work);
-            return say_made(made, &out, as_text);
-        }
-        Call::Read => {
-            return say_reading(record::call::read(rec, options, &mut work));
-        }
+        Call::Resolve(resolver) => run_resolver(resolver, rec, options, as_text),
+        Call::Read => run_read(rec, options),
     }
 }
 
