@@ -83,6 +83,12 @@ fn read_file(path: &[u8], buffer: &mut [u8]) -> Got {
 // and a byte behind the last section.
 pub const RECORD_ROOM: usize = 65536;
 
+// Memory for a record, for a section and for a call's work: the library asks 65,536 bytes of each of those two. That it has so many is what
+// the type of the answer says, so that no caller counts them.
+pub fn memory() -> [u8; RECORD_ROOM] {
+    [0u8; RECORD_ROOM]
+}
+
 // The record in a file, or on standard input where the file's name is a dash.
 fn read_record(path: &[u8], buffer: &mut [u8]) -> Got {
     if same(path, b"-") {

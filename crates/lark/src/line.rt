@@ -7,7 +7,9 @@ use crate::events::first_enter;
 use crate::events::say_events;
 use crate::input::RECORD_ROOM;
 use crate::input::TEXT_ROOM;
+use crate::input::memory;
 use crate::say::done;
+use crate::say::end_line;
 use crate::say::refuse;
 use crate::say::say;
 use crate::say::say_number;
@@ -62,7 +64,7 @@ fn put_heading(line: &[u8], section: &[u8], events: usize, rec: &mut [u8]) -> us
 
 // The resolved events of a record, put into the section.
 fn resolve_title(rec: &[u8], options: u32, section: &mut [u8]) -> Title {
-    let mut work = [0u8; 65536];
+    let mut work = memory();
     match resolve_headings(rec, options, section, &mut work) {
         Answer::Resolved { events } => Title::Events(events),
         Answer::Refused(refusal) => Title::Refused(refusal),
@@ -71,7 +73,7 @@ fn resolve_title(rec: &[u8], options: u32, section: &mut [u8]) -> Title {
 
 // The resolved events of a line that is a heading, put into the section, where its events as it was read are.
 fn find_events(line: &[u8], options: u32, section: &mut [u8], events: usize) -> Title {
-    let mut rec = [0u8; RECORD_ROOM];
+    let mut rec = memory();
     let n = put_heading(line, section, events, &mut rec);
     resolve_title(&rec[0..n], options, section)
 }
@@ -98,7 +100,7 @@ fn say_leading(spaces: Spaces) {
             say(b"refused");
         }
     }
-    say(b"\n");
+    end_line();
 }
 
 // Where a heading's text stands, and its events.
@@ -156,7 +158,7 @@ fn say_start(start: Start) -> bool {
             say(b"refused");
         }
     }
-    say(b"\n")
+    end_line()
 }
 
 fn say_going(going: Going) {
@@ -184,7 +186,7 @@ fn read_further(line: &[u8], options: u32, size: usize, blank: bool) -> bool {
     };
     say_with(b"continuation of size ", size);
     say_going(continuation(line, options, held));
-    say(b"\n")
+    end_line()
 }
 
 // What the readers find beside a heading. They have nothing to refuse once the heading has answered, since all refuse a line for the same
@@ -209,7 +211,7 @@ fn answer(line: &[u8], asked: Asked, section: &[u8], title: Title) -> u8 {
 }
 
 pub fn read_line(line: &[u8], asked: Asked) -> u8 {
-    let mut section = [0u8; 65536];
+    let mut section = memory();
     let title = find_title(line, asked.options, &mut section);
     if let Title::Refused(refusal) = title {
         return refuse(refusal);

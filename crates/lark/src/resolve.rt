@@ -5,9 +5,11 @@ use crate::args::are_good;
 use crate::events::say_events;
 use crate::input::Got;
 use crate::input::RECORD_ROOM;
+use crate::input::memory;
 use crate::input::record_asked;
 use crate::say::WRONG;
 use crate::say::done;
+use crate::say::end_line;
 use crate::say::refuse;
 use crate::say::say;
 use crate::say::say_with;
@@ -90,7 +92,7 @@ fn say_reading(reading: Reading) -> u8 {
         Reading::Good { document, events } => {
             say_with(b"document ", document);
             say_with(b" events ", events);
-            return done(say(b"\n"));
+            return done(end_line());
         }
         Reading::Refused(refusal) => {
             return refuse(refusal);
@@ -99,7 +101,7 @@ fn say_reading(reading: Reading) -> u8 {
 }
 
 fn run_read(rec: &[u8], options: u32) -> u8 {
-    let mut work = [0u8; 65536];
+    let mut work = memory();
     say_reading(record::call::read(rec, options, &mut work))
 }
 
@@ -113,8 +115,8 @@ fn make(resolver: Resolver, rec: &[u8], options: u32, out: &mut [u8], work: &mut
 }
 
 fn run_resolver(resolver: Resolver, rec: &[u8], options: u32, as_text: bool) -> u8 {
-    let mut out = [0u8; 65536];
-    let mut work = [0u8; 65536];
+    let mut out = memory();
+    let mut work = memory();
     let made = make(resolver, rec, options, &mut out, &mut work);
     say_made(made, &out, as_text)
 }
@@ -130,7 +132,7 @@ pub fn run(call: Call, asked: Asked) -> u8 {
     if !are_good(asked) {
         return WRONG;
     }
-    let mut rec = [0u8; RECORD_ROOM];
+    let mut rec = memory();
     match record_asked(asked, &mut rec) {
         Got::Bytes(n) => {
             if n > RECORD_ROOM {

@@ -23,6 +23,10 @@ pub fn say_number(n: usize) {
     io::print_decimal(STDOUT_FILENO, n as u64);
 }
 
+pub fn end_line() -> bool {
+    say(b"\n")
+}
+
 // Words and a number.
 pub fn say_with(text: &[u8], n: usize) {
     say(text);

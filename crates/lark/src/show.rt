@@ -1,7 +1,8 @@
 // The commands `show` and `record`: a text made into a record, and resolved or written as it is.
 
-use crate::input::RECORD_ROOM;
+use crate::input::memory;
 use crate::say::done;
+use crate::say::end_line;
 use crate::say::refuse;
 use crate::say::say;
 use crate::say::say_quoted;
@@ -18,7 +19,7 @@ fn say_counts(groups: usize, tried: usize, events: usize) -> bool {
     say_with(b"groups ", groups);
     say_with(b", candidates tried ", tried);
     say_with(b", events ", events);
-    say(b"\n")
+    end_line()
 }
 
 fn say_answer(text: &[u8], section: &[u8], answer: Answer) -> u8 {
@@ -29,7 +30,7 @@ fn say_answer(text: &[u8], section: &[u8], answer: Answer) -> u8 {
             tried,
         } => {
             say_quoted(text);
-            say(b"\n");
+            end_line();
             say_tree(text, section, events);
             return done(say_counts(groups, tried, events));
         }
@@ -41,21 +42,21 @@ fn say_answer(text: &[u8], section: &[u8], answer: Answer) -> u8 {
 
 // The record of a text, resolved.
 fn show_record(text: &[u8], rec: &[u8], options: u32) -> u8 {
-    let mut out = [0u8; 65536];
-    let mut work = [0u8; 65536];
+    let mut out = memory();
+    let mut work = memory();
     let answer = resolve_attention(rec, options, &mut out, &mut work);
     say_answer(text, &out, answer)
 }
 
 pub fn show_text(text: &[u8], options: u32) -> u8 {
-    let mut rec = [0u8; RECORD_ROOM];
+    let mut rec = memory();
     let n = put_record(text, options, &mut rec);
     show_record(text, &rec[0..n], options)
 }
 
 // Only a good record is written.
 fn write_good(rec: &[u8], options: u32) -> u8 {
-    let mut work = [0u8; 65536];
+    let mut work = memory();
     match read(rec, options, &mut work) {
         Reading::Good { document, events } => done(say(rec)),
         Reading::Refused(refusal) => refuse(refusal),
@@ -63,7 +64,7 @@ fn write_good(rec: &[u8], options: u32) -> u8 {
 }
 
 pub fn record_text(text: &[u8], options: u32) -> u8 {
-    let mut rec = [0u8; RECORD_ROOM];
+    let mut rec = memory();
     let n = put_record(text, options, &mut rec);
     write_good(&rec[0..n], options)
 }
