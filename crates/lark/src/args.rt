@@ -127,7 +127,7 @@ fn letter(word: &[u8]) -> u8 {
     word[1]
 }
 
-// Whether an option is none that the command has: a dash and more. Of a longer word `first` is all that is known.
+// Whether a word that is no option of the command's is to be one: a dash and more. Of a longer word `first` is all that is known.
 fn is_unknown(first: u8, n: usize, takes: u8) -> bool {
     if takes != FILE {
         return false;
@@ -166,12 +166,9 @@ fn take_of_line(asked: Asked, option: u8) -> Asked {
     asked
 }
 
-// Argument i where no number is awaited and -- was not there.
-fn take_word(asked: Asked, i: usize, takes: u8) -> Asked {
+// Argument i, by its letter as an option and by whether it is an option that the command does not have.
+fn take_option(asked: Asked, i: usize, takes: u8, option: u8, unknown: bool) -> Asked {
     let mut asked = asked;
-    let mut word = [0u8; 3];
-    let n = os::arg(i, &mut word);
-    let option = letter(&word[..n]);
     if option == b'o' {
         asked.awaits = option;
         return asked;
@@ -189,12 +186,20 @@ fn take_word(asked: Asked, i: usize, takes: u8) -> Asked {
     if is_of_line(option, takes) {
         return take_of_line(asked, option);
     }
-    if is_unknown(word[0], n, takes) {
+    if unknown {
         asked.wrong = UNKNOWN;
         asked.culprit = i;
         return asked;
     }
     take_operand(asked, i)
+}
+
+// Argument i where no number is awaited and -- was not there.
+fn take_word(asked: Asked, i: usize, takes: u8) -> Asked {
+    let mut word = [0u8; 3];
+    let n = os::arg(i, &mut word);
+    let option = letter(&word[..n]);
+    take_option(asked, i, takes, option, is_unknown(word[0], n, takes))
 }
 
 // Argument i. What is wrong first is what is said.
@@ -235,18 +240,19 @@ pub fn arguments(from: usize, takes: u8) -> Asked {
     asked
 }
 
+// Says what is wrong with an argument.
+fn say_wrong(what: u8, culprit: usize) -> u8 {
+    match what {
+        NO_NUMBER => blame(b"not a number", culprit),
+        UNKNOWN => blame(b"no such option", culprit),
+        _ => blame(b"one argument too many", culprit),
+    }
+}
+
 // Whether the arguments are good; says what is wrong where they are not.
 pub fn are_good(asked: Asked) -> bool {
-    if asked.wrong == NO_NUMBER {
-        blame(b"not a number", asked.culprit);
-        return false;
-    }
-    if asked.wrong == UNKNOWN {
-        blame(b"no such option", asked.culprit);
-        return false;
-    }
-    if asked.wrong == ONE_TOO_MANY {
-        blame(b"one argument too many", asked.culprit);
+    if asked.wrong != 0 {
+        say_wrong(asked.wrong, asked.culprit);
         return false;
     }
     if asked.awaits != 0 {

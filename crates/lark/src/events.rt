@@ -1,7 +1,9 @@
 // A section of events, as the resolvers and the heading reader write it: read event by event, and said in document 01's notation.
 
+use crate::say::end_line;
 use crate::say::say;
 use crate::say::say_number;
+use crate::say::say_with;
 use record::event::Event;
 use record::event::event_at;
 use record::limits::ENTER;
@@ -40,8 +42,7 @@ fn say_event(section: &[u8], k: usize) {
         say(b"-");
     }
     say_number(event.name as usize);
-    say(b"@");
-    say_number(event.place);
+    say_with(b"@", event.place);
 }
 
 // So many events, on a line; whether it was written.
@@ -51,7 +52,7 @@ pub fn say_events(section: &[u8], events: usize) -> bool {
         say_event(section, k);
         k += 1;
     }
-    say(b"\n")
+    end_line()
 }
 
 // How many events are open behind an event, where so many were open before it.

@@ -44,6 +44,14 @@ fn without_feed(buffer: &[u8], n: usize) -> usize {
     n
 }
 
+// The text on standard input.
+fn text_input(buffer: &mut [u8]) -> Got {
+    match read_input(buffer) {
+        Got::Bytes(n) => Got::Bytes(without_feed(buffer, n)),
+        Got::Nothing => Got::Nothing,
+    }
+}
+
 // A text and a line have at most 16,384 bytes. A buffer for one has two more: one for the line feed at the end of standard input, and one that
 // shows that the text is too long, which is all that the library needs to refuse it for that.
 pub const TEXT_ROOM: usize = 16386;
@@ -51,14 +59,7 @@ pub const TEXT_ROOM: usize = 16386;
 // The text that is asked about. Of an argument that does not fit, the buffer has the beginning.
 pub fn text_asked(asked: Asked, buffer: &mut [u8]) -> Got {
     if asked.operand == 0 {
-        match read_input(buffer) {
-            Got::Bytes(n) => {
-                return Got::Bytes(without_feed(buffer, n));
-            }
-            Got::Nothing => {
-                return Got::Nothing;
-            }
-        }
+        return text_input(buffer);
     }
     let n = os::arg(asked.operand, buffer);
     if os::errno() != 0 {
@@ -82,6 +83,20 @@ fn read_file(path: &[u8], buffer: &mut [u8]) -> Got {
 // and a byte behind the last section.
 pub const RECORD_ROOM: usize = 65536;
 
+// Memory for a record, for a section and for a call's work: the library asks 65,536 bytes of each of those two. That it has so many is what
+// the type of the answer says, so that no caller counts them.
+pub fn memory() -> [u8; RECORD_ROOM] {
+    [0u8; RECORD_ROOM]
+}
+
+// The record in a file, or on standard input where the file's name is a dash.
+fn read_record(path: &[u8], buffer: &mut [u8]) -> Got {
+    if same(path, b"-") {
+        return read_input(buffer);
+    }
+    read_file(path, buffer)
+}
+
 // The record that is asked about.
 pub fn record_asked(asked: Asked, buffer: &mut [u8]) -> Got {
     if asked.operand == 0 {
@@ -93,8 +108,5 @@ pub fn record_asked(asked: Asked, buffer: &mut [u8]) -> Got {
         fail(b"the file's name");
         return Got::Nothing;
     }
-    if same(&path[..n], b"-") {
-        return read_input(buffer);
-    }
-    read_file(&path[..n], buffer)
+    read_record(&path[..n], buffer)
 }

@@ -1,21 +1,20 @@
 // The command `line`: what the line readers find in one line, and what the heading resolver makes of it where it is a heading.
 
 use crate::args::Asked;
-use crate::args::are_good;
 use crate::events::event_of;
 use crate::events::exit_of;
 use crate::events::first_enter;
 use crate::events::say_events;
-use crate::input::Got;
 use crate::input::RECORD_ROOM;
 use crate::input::TEXT_ROOM;
-use crate::input::text_asked;
-use crate::say::WRONG;
+use crate::input::memory;
 use crate::say::done;
+use crate::say::end_line;
 use crate::say::refuse;
 use crate::say::say;
 use crate::say::say_number;
 use crate::say::say_range;
+use crate::say::say_with;
 use crate::words::copy_in;
 use atx::Headed;
 use atx::heading;
@@ -63,28 +62,28 @@ fn put_heading(line: &[u8], section: &[u8], events: usize, rec: &mut [u8]) -> us
     8 + d + 8 * events
 }
 
+// The resolved events of a record, put into the section.
+fn resolve_title(rec: &[u8], options: u32, section: &mut [u8]) -> Title {
+    let mut work = memory();
+    match resolve_headings(rec, options, section, &mut work) {
+        Answer::Resolved { events } => Title::Events(events),
+        Answer::Refused(refusal) => Title::Refused(refusal),
+    }
+}
+
+// The resolved events of a line that is a heading, put into the section, where its events as it was read are.
+fn find_events(line: &[u8], options: u32, section: &mut [u8], events: usize) -> Title {
+    let mut rec = memory();
+    let n = put_heading(line, section, events, &mut rec);
+    resolve_title(&rec[0..n], options, section)
+}
+
 // The resolved events of a line, put into the section.
 fn find_title(line: &[u8], options: u32, section: &mut [u8]) -> Title {
-    let mut rec = [0u8; RECORD_ROOM];
-    let mut work = [0u8; 65536];
     match heading(line, options, section) {
-        Headed::NotHeading => {
-            return Title::NotHeading;
-        }
-        Headed::Refused(refusal) => {
-            return Title::Refused(refusal);
-        }
-        Headed::Heading { events } => {
-            let n = put_heading(line, section, events, &mut rec);
-            match resolve_headings(&rec[0..n], options, section, &mut work) {
-                Answer::Resolved { events } => {
-                    return Title::Events(events);
-                }
-                Answer::Refused(refusal) => {
-                    return Title::Refused(refusal);
-                }
-            }
-        }
+        Headed::NotHeading => Title::NotHeading,
+        Headed::Refused(refusal) => Title::Refused(refusal),
+        Headed::Heading { events } => find_events(line, options, section, events),
     }
 }
 
@@ -101,7 +100,7 @@ fn say_leading(spaces: Spaces) {
             say(b"refused");
         }
     }
-    say(b"\n");
+    end_line();
 }
 
 // Where a heading's text stands, and its events.
@@ -138,10 +137,8 @@ fn say_blank(blank: bool) {
 }
 
 fn say_item(taken: usize, container: Container) {
-    say(b"taken ");
-    say_number(taken);
-    say(b", size ");
-    say_number(container.size);
+    say_with(b"taken ", taken);
+    say_with(b", size ", container.size);
     let kind = container.kind;
     say_kind(kind);
     say_blank(container.blank);
@@ -161,22 +158,13 @@ fn say_start(start: Start) -> bool {
             say(b"refused");
         }
     }
-    say(b"\n")
+    end_line()
 }
 
-// What is found of a further line of an item whose size and flag are given; whether it was written. The item's mark does not matter.
-fn say_going(line: &[u8], asked: Asked) -> bool {
-    let held = Container {
-        kind: Kind::Bullet(b'-'),
-        size: asked.size,
-        blank: asked.blank,
-    };
-    say(b"continuation of size ");
-    say_number(asked.size);
-    match continuation(line, asked.options, held) {
+fn say_going(going: Going) {
+    match going {
         Going::Goes { taken, container } => {
-            say(b": taken ");
-            say_number(taken);
+            say_with(b": taken ", taken);
             say_blank(container.blank);
         }
         Going::Stops { container } => {
@@ -187,50 +175,46 @@ fn say_going(line: &[u8], asked: Asked) -> bool {
             say(b": refused");
         }
     }
-    say(b"\n")
 }
 
-// All readers refuse a line for the same reasons, but for the heading's own, so that the others have nothing to refuse once it has answered.
-fn read_line(line: &[u8], asked: Asked) -> u8 {
-    let options = asked.options;
-    let mut section = [0u8; 65536];
-    let found = find_title(line, options, &mut section);
-    let spaces = space_or_tab(line, options, 0, 16384);
-    let start = list_item(line, options, asked.interrupting);
-    match found {
-        Title::Events(events) => {
-            say_leading(spaces);
-            say_heading(&section, events);
-        }
-        Title::NotHeading => {
-            say_leading(spaces);
-            say(b"heading: no\n");
-        }
-        Title::Refused(refusal) => {
-            return refuse(refusal);
-        }
-    }
-    let written = say_start(start);
+// What is found of a further line of an item whose size and flag are given; whether it was written. The item's mark does not matter.
+fn read_further(line: &[u8], options: u32, size: usize, blank: bool) -> bool {
+    let held = Container {
+        kind: Kind::Bullet(b'-'),
+        size,
+        blank,
+    };
+    say_with(b"continuation of size ", size);
+    say_going(continuation(line, options, held));
+    end_line()
+}
+
+// What the readers find beside a heading. They have nothing to refuse once the heading has answered, since all refuse a line for the same
+// reasons, but for the heading's own.
+fn read_others(line: &[u8], asked: Asked) -> bool {
+    let written = say_start(list_item(line, asked.options, asked.interrupting));
     if asked.continuing {
-        return done(say_going(line, asked));
+        return read_further(line, asked.options, asked.size, asked.blank);
     }
-    done(written)
+    written
 }
 
-pub fn run(asked: Asked) -> u8 {
-    if !are_good(asked) {
-        return WRONG;
+// The answer on a line that is not refused.
+fn answer(line: &[u8], asked: Asked, section: &[u8], title: Title) -> u8 {
+    say_leading(space_or_tab(line, asked.options, 0, 16384));
+    if let Title::Events(events) = title {
+        say_heading(section, events);
+    } else {
+        say(b"heading: no\n");
     }
-    let mut bytes = [0u8; TEXT_ROOM];
-    match text_asked(asked, &mut bytes) {
-        Got::Bytes(n) => {
-            if n > TEXT_ROOM {
-                return WRONG;
-            }
-            return read_line(&bytes[0..n], asked);
-        }
-        Got::Nothing => {
-            return WRONG;
-        }
+    done(read_others(line, asked))
+}
+
+pub fn read_line(line: &[u8], asked: Asked) -> u8 {
+    let mut section = memory();
+    let title = find_title(line, asked.options, &mut section);
+    if let Title::Refused(refusal) = title {
+        return refuse(refusal);
     }
+    answer(line, asked, &section, title)
 }

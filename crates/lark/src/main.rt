@@ -17,11 +17,17 @@ mod split; // a text made into a record
 mod tree; // groups as an indented tree
 mod words; // bytes compared and copied
 
+use args::Asked;
 use args::FILE;
 use args::LINE;
 use args::TEXT;
+use args::are_good;
 use args::arguments;
+use input::Got;
+use input::TEXT_ROOM;
+use input::text_asked;
 use resolve::Call;
+use resolve::Resolver;
 use say::WRONG;
 use say::blame;
 use say::done;
@@ -30,24 +36,70 @@ use words::same;
 // The descriptor that a status is written to, where that is asked for.
 const STATUS_FILENO: i32 = 3;
 
-// The commands on a record.
-fn run_on_record(command: &[u8], next: usize) -> u8 {
+// A command on a record, or none that there is.
+enum OnRecord {
+    Is(Call),
+    Unknown,
+}
+
+fn call_of(command: &[u8]) -> OnRecord {
     if same(command, b"attention") {
-        return resolve::run(Call::Attention, arguments(next, FILE));
+        return OnRecord::Is(Call::Resolve(Resolver::Attention));
     }
     if same(command, b"headings") {
-        return resolve::run(Call::Headings, arguments(next, FILE));
+        return OnRecord::Is(Call::Resolve(Resolver::Headings));
     }
     if same(command, b"lists") {
-        return resolve::run(Call::Lists, arguments(next, FILE));
+        return OnRecord::Is(Call::Resolve(Resolver::Lists));
     }
     if same(command, b"read") {
-        return resolve::run(Call::Read, arguments(next, FILE));
+        return OnRecord::Is(Call::Read);
+    }
+    OnRecord::Unknown
+}
+
+// The commands on a record.
+fn run_on_record(command: &[u8], next: usize) -> u8 {
+    if let OnRecord::Is(call) = call_of(command) {
+        return resolve::run(call, arguments(next, FILE));
     }
     if next == 0 {
         return WRONG;
     }
     blame(b"no such command", next - 1)
+}
+
+// The commands on a text.
+enum OnText {
+    Show,
+    Line,
+    Record,
+}
+
+fn answer(command: OnText, text: &[u8], asked: Asked) -> u8 {
+    match command {
+        OnText::Show => show::show_text(text, asked.options),
+        OnText::Line => line::read_line(text, asked),
+        OnText::Record => show::record_text(text, asked.options),
+    }
+}
+
+fn run_on_text(command: OnText, asked: Asked) -> u8 {
+    if !are_good(asked) {
+        return WRONG;
+    }
+    let mut bytes = [0u8; TEXT_ROOM];
+    match text_asked(asked, &mut bytes) {
+        Got::Bytes(n) => {
+            if n > TEXT_ROOM {
+                return WRONG;
+            }
+            return answer(command, &bytes[0..n], asked);
+        }
+        Got::Nothing => {
+            return WRONG;
+        }
+    }
 }
 
 fn asks_for_help(command: &[u8]) -> bool {
@@ -63,13 +115,13 @@ fn asks_for_help(command: &[u8]) -> bool {
 // The commands on a text, and help; `next` is the number of the argument behind the command.
 fn run(command: &[u8], next: usize) -> u8 {
     if same(command, b"show") {
-        return show::show(arguments(next, TEXT));
+        return run_on_text(OnText::Show, arguments(next, TEXT));
     }
     if same(command, b"line") {
-        return line::run(arguments(next, LINE));
+        return run_on_text(OnText::Line, arguments(next, LINE));
     }
     if same(command, b"record") {
-        return show::write_record(arguments(next, TEXT));
+        return run_on_text(OnText::Record, arguments(next, TEXT));
     }
     if asks_for_help(command) {
         return done(help::say_help(libc::STDOUT_FILENO));

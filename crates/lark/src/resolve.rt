@@ -5,21 +5,27 @@ use crate::args::are_good;
 use crate::events::say_events;
 use crate::input::Got;
 use crate::input::RECORD_ROOM;
+use crate::input::memory;
 use crate::input::record_asked;
 use crate::say::WRONG;
 use crate::say::done;
+use crate::say::end_line;
 use crate::say::refuse;
 use crate::say::say;
-use crate::say::say_number;
+use crate::say::say_with;
 use record::check::Reading;
 use record::check::Refusal;
 use record::limits::MAX_RESULT;
 
-// Which call of the library is asked for.
-pub enum Call {
+pub enum Resolver {
     Attention,
     Headings,
     Lists,
+}
+
+// Which call of the library is asked for.
+pub enum Call {
+    Resolve(Resolver),
     Read,
 }
 
@@ -84,11 +90,9 @@ fn say_made(made: Made, out: &[u8], as_text: bool) -> u8 {
 fn say_reading(reading: Reading) -> u8 {
     match reading {
         Reading::Good { document, events } => {
-            say(b"document ");
-            say_number(document);
-            say(b" events ");
-            say_number(events);
-            return done(say(b"\n"));
+            say_with(b"document ", document);
+            say_with(b" events ", events);
+            return done(end_line());
         }
         Reading::Refused(refusal) => {
             return refuse(refusal);
@@ -96,25 +100,31 @@ fn say_reading(reading: Reading) -> u8 {
     }
 }
 
+fn run_read(rec: &[u8], options: u32) -> u8 {
+    let mut work = memory();
+    say_reading(record::call::read(rec, options, &mut work))
+}
+
+// One of the three resolvers.
+fn make(resolver: Resolver, rec: &[u8], options: u32, out: &mut [u8], work: &mut [u8]) -> Made {
+    match resolver {
+        Resolver::Attention => make_attention(rec, options, out, work),
+        Resolver::Headings => make_headings(rec, options, out, work),
+        Resolver::Lists => make_lists(rec, options, out, work),
+    }
+}
+
+fn run_resolver(resolver: Resolver, rec: &[u8], options: u32, as_text: bool) -> u8 {
+    let mut out = memory();
+    let mut work = memory();
+    let made = make(resolver, rec, options, &mut out, &mut work);
+    say_made(made, &out, as_text)
+}
+
 fn run_on(call: Call, rec: &[u8], options: u32, as_text: bool) -> u8 {
-    let mut out = [0u8; 65536];
-    let mut work = [0u8; 65536];
     match call {
-        Call::Attention => {
-            let made = make_attention(rec, options, &mut out, &mut work);
-            return say_made(made, &out, as_text);
-        }
-        Call::Headings => {
-            let made = make_headings(rec, options, &mut out, &mut work);
-            return say_made(made, &out, as_text);
-        }
-        Call::Lists => {
-            let made = make_lists(rec, options, &mut out, &mut work);
-            return say_made(made, &out, as_text);
-        }
-        Call::Read => {
-            return say_reading(record::call::read(rec, options, &mut work));
-        }
+        Call::Resolve(resolver) => run_resolver(resolver, rec, options, as_text),
+        Call::Read => run_read(rec, options),
     }
 }
 
@@ -122,7 +132,7 @@ pub fn run(call: Call, asked: Asked) -> u8 {
     if !are_good(asked) {
         return WRONG;
     }
-    let mut rec = [0u8; RECORD_ROOM];
+    let mut rec = memory();
     match record_asked(asked, &mut rec) {
         Got::Bytes(n) => {
             if n > RECORD_ROOM {

@@ -5,7 +5,7 @@
 use libc::STDERR_FILENO;
 use libc::STDOUT_FILENO;
 use record::check::Refusal;
-ghost use Prim.Native.Nat.{_≤_};
+ghost use Prim.Native.Nat.{_≤_, _<_};
 ghost use lib.ListN.{length};
 
 pub const ANSWERED: u8 = 0;
@@ -23,11 +23,22 @@ pub fn say_number(n: usize) {
     io::print_decimal(STDOUT_FILENO, n as u64);
 }
 
+pub fn end_line() -> bool {
+    say(b"\n")
+}
+
+// Words and a number.
+pub fn say_with(text: &[u8], n: usize) {
+    say(text);
+    say_number(n);
+}
+
 fn complain(text: &[u8]) {
     io::write_all(STDERR_FILENO, text);
 }
 
-fn complain_number(n: usize) {
+fn complain_with(text: &[u8], n: usize) {
+    complain(text);
     io::print_decimal(STDERR_FILENO, n as u64);
 }
 
@@ -48,20 +59,24 @@ pub fn wrong(what: &[u8]) -> u8 {
     WRONG
 }
 
-// What is wrong with argument i, in a line; of a long argument the beginning is said.
-pub fn blame(what: &[u8], i: usize) -> u8 {
+// Argument i; of a long one the beginning.
+fn complain_argument(i: usize) {
     let mut word = [0u8; 40];
     let n = os::arg(i, &mut word);
-    let whole = os::errno() == 0;
+    if os::errno() == 0 {
+        complain(&word[..n]);
+        return;
+    }
+    complain(&word);
+    complain(b"..");
+}
+
+// What is wrong with argument i, in a line.
+pub fn blame(what: &[u8], i: usize) -> u8 {
     complain(b"lark: ");
     complain(what);
     complain(b": ");
-    if whole {
-        complain(&word[..n]);
-    } else {
-        complain(&word);
-        complain(b"..");
-    }
+    complain_argument(i);
     complain(b"; see lark help\n");
     WRONG
 }
@@ -93,10 +108,8 @@ fn complain_row(number: usize) {
 
 // A refusal in a line: its number, its place and its row's words.
 pub fn refuse(refusal: Refusal) -> u8 {
-    complain(b"lark: refused ");
-    complain_number(refusal.number);
-    complain(b" at ");
-    complain_number(refusal.place);
+    complain_with(b"lark: refused ", refusal.number);
+    complain_with(b" at ", refusal.place);
     complain(b": ");
     complain_row(refusal.number);
     complain(b"\n");
@@ -106,8 +119,7 @@ pub fn refuse(refusal: Refusal) -> u8 {
 // From one place up to another.
 pub fn say_range(from: usize, to: usize) {
     say_number(from);
-    say(b"..");
-    say_number(to);
+    say_with(b"..", to);
 }
 
 // Whether a byte is said as it stands: no control byte, no quote and no backslash.
@@ -161,19 +173,26 @@ fn say_odd(byte: u8) {
     }
 }
 
+// The bytes from a place on up to one that is not said as it stands, and that one; the place behind.
+fn say_piece(text: &[u8], at: usize) -> usize
+    requires { ⌜ at < length (now text) ⌝ }
+    ensures { λ r. ⌜ (at < r) × (r ≤ length (now (text .entry))) ⌝ }
+{
+    let end = plain_end(text, at);
+    say(&text[at..end]);
+    if end == text.len() {
+        return end;
+    }
+    say_odd(text[end]);
+    end + 1
+}
+
 // A text between quotes, on one line whatever its bytes are, and with nothing in it that a terminal would take for a command.
 pub fn say_quoted(text: &[u8]) {
     say(b"\"");
     let mut at = 0;
     while at < text.len() {
-        let end = plain_end(text, at);
-        say(&text[at..end]);
-        if end == text.len() {
-            say(b"\"");
-            return;
-        }
-        say_odd(text[end]);
-        at = end + 1;
+        at = say_piece(text, at);
     }
     say(b"\"");
 }

@@ -10,7 +10,7 @@ use record::limits::DATA;
 use record::limits::ENTER;
 use record::limits::EXIT;
 use record::limits::MAX_EVENTS;
-ghost use Prim.Native.Nat.{_≤_, _<_};
+ghost use Prim.Native.Nat.{_+_, _≤_, _<_};
 ghost use lib.ListN.{length};
 
 // The marker that a byte is, or 0 where it is none or its option is off.
@@ -57,6 +57,14 @@ fn piece_end(text: &[u8], at: usize, options: u32) -> usize
     end
 }
 
+// Writes the enter and exit of a piece, at a place of the record.
+fn put_piece(rec: &mut [u8], to: usize, name: u8, from: usize, end: usize)
+    requires { ⌜ to + 16 ≤ length (now rec) ⌝ }
+{
+    put_event(rec, to, ENTER, name, from);
+    put_event(rec, to + 8, EXIT, name, end);
+}
+
 // Writes the enter and exit of each piece, from a place of the record on; how many events. A pair past the limit is enough for the record to
 // be refused for it.
 fn put_pieces(text: &[u8], options: u32, rec: &mut [u8], from: usize) -> usize {
@@ -75,8 +83,7 @@ fn put_pieces(text: &[u8], options: u32, rec: &mut [u8], from: usize) -> usize {
         }
         let end = piece_end(text, i, options);
         let name = name_of(text[i], options);
-        put_event(rec, to, ENTER, name, i);
-        put_event(rec, to + 8, EXIT, name, end);
+        put_piece(rec, to, name, i, end);
         to += 16;
         events += 2;
         i = end;

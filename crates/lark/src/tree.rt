@@ -2,6 +2,7 @@
 
 use crate::events::event_of;
 use crate::events::exit_of;
+use crate::say::end_line;
 use crate::say::say;
 use crate::say::say_quoted;
 use crate::say::say_range;
@@ -88,7 +89,7 @@ fn say_node(text: &[u8], event: Event, to: usize, depth: usize) {
     if event.name == DATA {
         say_part(text, event.place, to);
     }
-    say(b"\n");
+    end_line();
 }
 
 // How many groups are open behind an event of a group.

@@ -13,6 +13,14 @@ use record::check::Refusal;
 // What output and work memory hold before a call. No section has it where it was not written, and zeroed memory does not have it.
 const FILL: u8 = 0xa5;
 
+// Room for the longest record, 32,776 bytes, and the longest section, 64,004; and what a work memory has to have.
+const ROOM: usize = 65536;
+
+// Memory that holds one byte throughout. That it has so many bytes is what the type of the answer says, so that no caller counts them.
+pub fn filled(byte: u8) -> [u8; ROOM] {
+    [byte; ROOM]
+}
+
 // What the comparison shows.
 pub enum Verdict {
     Agrees,
@@ -104,23 +112,27 @@ fn compare_work(work: &[u8]) -> Verdict {
     Verdict::Agrees
 }
 
-fn compare_resolver(question: Question, s: &[u8], told: Numbers, section: &[u8]) -> Verdict {
-    let mut out = [FILL; 65536];
-    let mut work = [FILL; 65536];
-    let reply = ask_resolver(question, s, &mut out, &mut work);
-    let numbers = compare_numbers(reply, told);
+// What the numbers show, and where they agree, the output and the work memory.
+fn compare_all(numbers: Verdict, out: &[u8], section: &[u8], work: &[u8]) -> Verdict {
     if let Verdict::Agrees = numbers {
-        let output = compare_output(&out, section);
+        let output = compare_output(out, section);
         if let Verdict::Agrees = output {
-            return compare_work(&work);
+            return compare_work(work);
         }
         return output;
     }
     numbers
 }
 
+fn compare_resolver(question: Question, s: &[u8], told: Numbers, section: &[u8]) -> Verdict {
+    let mut out = filled(FILL);
+    let mut work = filled(FILL);
+    let reply = ask_resolver(question, s, &mut out, &mut work);
+    compare_all(compare_numbers(reply, told), &out, section, &work)
+}
+
 fn compare_heading(question: Question, s: &[u8], told: Numbers, section: &[u8]) -> Verdict {
-    let mut out = [FILL; 65536];
+    let mut out = filled(FILL);
     let reply = ask_heading(question, s, &mut out);
     let numbers = compare_numbers(reply, told);
     if let Verdict::Agrees = numbers {

@@ -14,7 +14,7 @@
 
 use record::bytes::u32_at;
 use record::limits::MAX_RESULT;
-ghost use Prim.Native.Nat.{_≤_};
+ghost use Prim.Native.Nat.{_≤_, _<_};
 ghost use lib.ListN.{length};
 
 pub const ATTENTION: usize = 0;
@@ -128,18 +128,10 @@ fn is_end(fd: i32) -> bool {
     libc::read(fd, &mut byte) == 0
 }
 
-fn question_in(s: &[u8; 24]) -> Question {
-    Question {
-        call: u32_at(s, 0),
-        options: u32_at(s, 4) as u32,
-        a: u32_at(s, 8),
-        b: u32_at(s, 12),
-        c: u32_at(s, 16),
-        length: u32_at(s, 20),
-    }
-}
-
-fn numbers_in(s: &[u8; 24]) -> Numbers {
+// Six numbers, which are an answer's or a question's.
+fn numbers_in(s: &[u8; 24]) -> Numbers
+    ensures { λ r. ⌜ r .second < 4294967296 ⌝ }
+{
     Numbers {
         first: u32_at(s, 0),
         second: u32_at(s, 4),
@@ -147,6 +139,19 @@ fn numbers_in(s: &[u8; 24]) -> Numbers {
         fourth: u32_at(s, 12),
         fifth: u32_at(s, 16),
         section: u32_at(s, 20),
+    }
+}
+
+fn question_of(six: Numbers) -> Question
+    requires { ⌜ six .second < 4294967296 ⌝ }
+{
+    Question {
+        call: six.first,
+        options: six.second as u32,
+        a: six.third,
+        b: six.fourth,
+        c: six.fifth,
+        length: six.section,
     }
 }
 
@@ -163,7 +168,7 @@ pub fn read_begin(fd: i32) -> Begun {
     if got < 24 {
         return Begun::Ill;
     }
-    let question = question_in(&bytes);
+    let question = question_of(numbers_in(&bytes));
     if !is_question(question) {
         return Begun::Ill;
     }

@@ -13,7 +13,9 @@ mod tally; // how many entries there were, by call
 
 use crate::compare::Verdict;
 use crate::compare::compare;
+use crate::compare::filled;
 use crate::entry::Begun;
+use crate::entry::Numbers;
 use crate::entry::Question;
 use crate::entry::Told;
 use crate::entry::read_begin;
@@ -28,9 +30,6 @@ use crate::tally::Tally;
 // A list is read up to so many entries; a longer one is refused. It is what shows that the reading ends.
 const MOST: usize = 100000000;
 
-// Room for the longest record, 32,776 bytes, and the longest section, 64,004.
-const ROOM: usize = 65536;
-
 // What comes of an entry, with its call; or there is none.
 enum Step {
     Agrees(usize),
@@ -39,10 +38,45 @@ enum Step {
     Ill,
 }
 
-// The question has been read: its bytes, the crate's answer, and ours against it. Where they differ that is said, unless quiet.
+// The entry has been read: our answer against the crate's. Where they differ that is said, unless quiet.
+fn judge(
+    number: usize,
+    question: Question,
+    s: &[u8],
+    told: Numbers,
+    section: &[u8],
+    quiet: bool,
+) -> Step {
+    let verdict = compare(question, s, told, section);
+    if let Verdict::Agrees = verdict {
+        return Step::Agrees(question.call);
+    }
+    if !quiet {
+        say_difference(number, question, told, verdict);
+    }
+    Step::Differs(question.call)
+}
+
+// The question, its bytes and the numbers of the crate's answer have been read: the answer's section.
+fn finish_answer(
+    fd: i32,
+    number: usize,
+    question: Question,
+    s: &[u8],
+    told: Numbers,
+    quiet: bool,
+) -> Step {
+    let mut section = filled(0);
+    let written = read_bytes(fd, &mut section, told.section);
+    if written != told.section {
+        return Step::Ill;
+    }
+    judge(number, question, s, told, &section[0..written], quiet)
+}
+
+// The question has been read: its bytes, and the crate's answer.
 fn finish_entry(fd: i32, number: usize, question: Question, quiet: bool) -> Step {
-    let mut input = [0u8; ROOM];
-    let mut section = [0u8; ROOM];
+    let mut input = filled(0);
     let length = read_bytes(fd, &mut input, question.length);
     if length != question.length {
         return Step::Ill;
@@ -50,18 +84,7 @@ fn finish_entry(fd: i32, number: usize, question: Question, quiet: bool) -> Step
     match read_told(fd, question.call) {
         Told::Ill => Step::Ill,
         Told::Answer(told) => {
-            let written = read_bytes(fd, &mut section, told.section);
-            if written != told.section {
-                return Step::Ill;
-            }
-            let verdict = compare(question, &input[0..length], told, &section[0..written]);
-            if let Verdict::Agrees = verdict {
-                return Step::Agrees(question.call);
-            }
-            if !quiet {
-                say_difference(number, question, told, verdict);
-            }
-            Step::Differs(question.call)
+            finish_answer(fd, number, question, &input[0..length], told, quiet)
         }
     }
 }

@@ -13,6 +13,7 @@ use crate::entry::Question;
 use crate::entry::SPACE_OR_TAB;
 use crate::tally::Tally;
 use libc::STDOUT_FILENO;
+use record::check::Refusal;
 
 pub fn say(text: &[u8]) {
     io::write_all(STDOUT_FILENO, text);
@@ -26,6 +27,12 @@ fn say_number(n: usize) {
 fn say_with(text: &[u8], n: usize) {
     say(text);
     say_number(n);
+}
+
+// Words and a number, at the end of a line.
+fn say_last(text: &[u8], n: usize) {
+    say_with(text, n);
+    say(b"\n");
 }
 
 fn say_call(call: usize) {
@@ -62,29 +69,25 @@ fn say_numbers(numbers: Numbers) {
     say(b" bytes\n");
 }
 
+fn say_refusal(refusal: Refusal) {
+    say_with(b"refused ", refusal.number);
+    say_last(b" at ", refusal.place);
+}
+
+fn say_byte(at: usize, crates: u8, ours: u8) {
+    say_with(b"the same numbers, but at ", at);
+    say_with(b" of the section ", ours as usize);
+    say_last(b" where the crate has ", crates as usize);
+}
+
 fn say_verdict(verdict: Verdict) {
     match verdict {
         Verdict::Agrees => say(b"the same\n"),
-        Verdict::Refused(refusal) => {
-            say_with(b"refused ", refusal.number);
-            say_with(b" at ", refusal.place);
-            say(b"\n");
-        }
+        Verdict::Refused(refusal) => say_refusal(refusal),
         Verdict::Numbers(ours) => say_numbers(ours),
-        Verdict::Byte { at, crates, ours } => {
-            say_with(b"the same numbers, but at ", at);
-            say_with(b" of the section ", ours as usize);
-            say_with(b" where the crate has ", crates as usize);
-            say(b"\n");
-        }
-        Verdict::Behind(at) => {
-            say_with(b"the output is changed behind the section, at ", at);
-            say(b"\n");
-        }
-        Verdict::Work(at) => {
-            say_with(b"the work memory is not zero, at ", at);
-            say(b"\n");
-        }
+        Verdict::Byte { at, crates, ours } => say_byte(at, crates, ours),
+        Verdict::Behind(at) => say_last(b"the output is changed behind the section, at ", at),
+        Verdict::Work(at) => say_last(b"the work memory is not zero, at ", at),
     }
 }
 
@@ -108,8 +111,7 @@ fn say_count(tally: Tally, call: usize) {
     if call < CALLS {
         say(b"  ");
         say_call(call);
-        say_with(b" ", tally.of[call]);
-        say(b"\n");
+        say_last(b" ", tally.of[call]);
     }
 }
 

@@ -6,10 +6,10 @@ use Rattle.lark.proofs.events.say_events.Statement.{statement}
 use Rattle.lark.proofs.events.say_events.Tie as tie
 
 abbrev Inv-loop : tie.InvT-loop
-Inv-loop section events k₀ t4 k = k ≤ events
+Inv-loop section events k₀ k = k ≤ events
 
 abbrev μ-loop : tie.MeasureT-loop
-μ-loop section events k₀ t4 k = events - k
+μ-loop section events k₀ k = events - k
 
 loop-holds : tie.Need-loop-holds Inv-loop μ-loop
 loop-holds c = search needs
@@ -26,11 +26,8 @@ loop-less c = search needs
 loop-again : tie.Need-loop-again Inv-loop μ-loop
 loop-again c = search needs
 
-slice-aggregate-say : tie.Need-slice-aggregate-say Inv-loop μ-loop
-slice-aggregate-say c = search needs
-
-say-requires : tie.Need-say-requires Inv-loop μ-loop
-say-requires c κs = search needs
+end-line-requires : tie.Need-end-line-requires Inv-loop μ-loop
+end-line-requires c κs = search needs
 
 returns : tie.Need-returns Inv-loop μ-loop
 returns c = search needs
@@ -46,6 +43,5 @@ say-events-spec =
     add-k
     loop-less
     loop-again
-    slice-aggregate-say
-    say-requires
+    end-line-requires
     returns)

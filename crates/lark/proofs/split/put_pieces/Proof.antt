@@ -46,14 +46,8 @@ shared-slice-read-name-of c = search needs
 name-of-requires : tie.Need-name-of-requires Inv-loop μ-loop
 name-of-requires c κs = search needs
 
-put-event-requires : tie.Need-put-event-requires Inv-loop μ-loop
-put-event-requires c κs = search needs
-
-add-put-event : tie.Need-add-put-event Inv-loop μ-loop
-add-put-event c = search needs
-
-put-event-requires-2 : tie.Need-put-event-requires-2 Inv-loop μ-loop
-put-event-requires-2 c κs = search needs
+put-piece-requires : tie.Need-put-piece-requires Inv-loop μ-loop
+put-piece-requires c κs = search needs
 
 add-to : tie.Need-add-to Inv-loop μ-loop
 add-to c = search needs
@@ -90,9 +84,7 @@ put-pieces-spec =
     piece-end-requires
     shared-slice-read-name-of
     name-of-requires
-    put-event-requires
-    add-put-event
-    put-event-requires-2
+    put-piece-requires
     add-to
     add-events
     loop-less
