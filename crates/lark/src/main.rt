@@ -3,7 +3,7 @@
 // A Rattle program has no exit status of its own to give. So where its first argument is `--status` it writes the digit 0, 1 or 2 to
 // descriptor 3, and the script `lark` at the repository's root, which asks for that, leaves with it. Nobody else needs to pass it.
 //
-// Each command finds its whole answer first and writes then, so that nothing is on standard output where something is wrong.
+// Each command finds out first whether something is wrong, and writes then, so that nothing is on standard output where something is.
 
 mod args; // the arguments behind a command
 mod events; // a section of events, read and said
