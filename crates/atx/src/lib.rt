@@ -1,4 +1,4 @@
-// The heading reader: whether a line is a heading, and its events, written to an output.
+// The heading reader: whether a line is an ATX heading (CommonMark 0.31 §4.2), and its events, written to an output.
 
 use record::bytes::put_u32;
 use record::check::Refusal;

@@ -1,4 +1,4 @@
--- `lines::line::check_line` meets its contract: each return is a case of the definition.
+-- `scan::line::check_line` meets its contract: each return is a case of the definition.
 -- Assumes nothing.
 use Rattle.scan.proofs.Checks.{options-over, too-long, returned, passed}
 use borrow.Author.Needs.{needs}

@@ -1,4 +1,4 @@
--- `lines::line::line_end` meets its contract. The invariant: n bytes without a line feed are passed, and what is left of their run makes
+-- `scan::line::line_end` meets its contract. The invariant: n bytes without a line feed are passed, and what is left of their run makes
 -- up the whole; the measure is what is left of the slice.
 -- Assumes nothing.
 use Prim.Native.Nat.{_-_}

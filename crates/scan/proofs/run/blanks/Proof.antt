@@ -1,4 +1,4 @@
--- `lines::scan::blanks` meets its contract. The invariant: n bytes of the run are passed, and what is left of it, up to the maximum,
+-- `scan::run::blanks` meets its contract. The invariant: n bytes of the run are passed, and what is left of it, up to the maximum,
 -- makes up the whole; the measure is what is left of the slice.
 -- Assumes nothing.
 use mathlib.Core.Path.{sym, _∙_}

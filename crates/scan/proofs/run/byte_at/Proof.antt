@@ -1,4 +1,4 @@
--- `lines::scan::byte_at` meets its contract: the byte is there, or the default is given.
+-- `scan::run::byte_at` meets its contract: the byte is there, or the default is given.
 -- Assumes nothing.
 use mathlib.Core.Path.{sym}
 use lib.ListN.{List·getD-eq-default}

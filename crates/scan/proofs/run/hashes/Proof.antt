@@ -1,4 +1,4 @@
--- `lines::scan::hashes` meets its contract. The invariant: n bytes of the run are passed, and what is left of it makes up the whole; the
+-- `scan::run::hashes` meets its contract. The invariant: n bytes of the run are passed, and what is left of it makes up the whole; the
 -- measure is what is left of the slice.
 -- Assumes nothing.
 use Prim.Native.Nat.{_-_}

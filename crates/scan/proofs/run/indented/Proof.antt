@@ -1,4 +1,4 @@
--- `lines::scan::indented` meets its contract: each return is a case of the definition.
+-- `scan::run::indented` meets its contract: each return is a case of the definition.
 -- Assumes nothing.
 use Rattle.scan.proofs.Blanks.{indent-three, indent-free}
 use borrow.Author.Needs.{needs}

@@ -1,4 +1,4 @@
--- `lines::scan::is_blank` meets its contract: each return is a case of the definition.
+-- `scan::run::is_blank` meets its contract: each return is a case of the definition.
 -- Assumes nothing.
 use borrow.Author.Tests.{eq-eqb, ne-eqb}
 use Rattle.scan.specs.Run.{or, spaceOrTab}

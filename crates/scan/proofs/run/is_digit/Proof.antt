@@ -1,4 +1,4 @@
--- `lines::scan::is_digit` meets its contract: each return is a case of the definition.
+-- `scan::run::is_digit` meets its contract: each return is a case of the definition.
 -- Assumes nothing.
 use mathlib.Core.Path.{sym}
 use Rattle.scan.proofs.ByteKinds.{below-digits, above-digits, a-digit}
