@@ -22,6 +22,11 @@
  * each exit closes the innermost event that is open. A SECTION, which is what a call writes, is the second of these two lines alone: count
  * and events. Event i of a section stands at 4 + 8 * i; event i of a record at 8 + D + 8 * i.
  *
+ * YOU BRING THE EVENTS. The library has no tokenizer: where the runs, headings and items of a document are comes from you, in part by the line
+ * readers. To hand a section on to another resolver, put the document before it again (count D, D bytes): that is a record. A resolver may
+ * write more events than a record may have, and deeper ones, attention most of all; such a record is refused with 3 or 5. So attention comes
+ * last.
+ *
  * A LINE is bytes from where reading starts. It ends before its first line feed, or where the bytes end.
  *
  *
@@ -138,6 +143,14 @@ static inline const char *lark_refusal_text(size_t number) {
     case LARK_REFUSED_OUTPUT: return "the output is too short for the result";
     default: return "no such refusal";
     }
+}
+
+/* The number that stands in four bytes, least byte first: a count, or an event's place, which stands 4 bytes into the event. */
+static inline size_t lark_number_at(const uint8_t *bytes) {
+    size_t number = 0;
+    int i;
+    for (i = 3; i >= 0; i--) number = number << 8 | bytes[i];
+    return number;
 }
 
 /* The answer of lark_read. */

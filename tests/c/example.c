@@ -13,7 +13,10 @@ static uint8_t out[LARK_OUT_BYTES], work[LARK_WORK_BYTES];
 int main(void) {
     struct lark_resolved r = lark_resolve_attention(record, sizeof record, LARK_OPTION_ATTENTION, out, sizeof out, work, sizeof work);
     printf("%s, groups %zu, events %zu:", lark_refusal_text(r.number), r.groups, r.events);
-    for (size_t i = 4; i < 4 + 8 * r.events; i += 8) printf(" %c%d@%d", out[i] == LARK_ENTER ? '+' : '-', out[i + 1], out[i + 4]);
+    for (size_t i = 0; i < r.events; i++) {
+        const uint8_t *event = out + 4 + 8 * i;
+        printf(" %c%d@%zu", event[0] == LARK_ENTER ? '+' : '-', event[1], lark_number_at(event + 4));
+    }
     printf("\n");
     return r.number != LARK_ACCEPTED;
 }

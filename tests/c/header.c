@@ -31,6 +31,7 @@ int main(void) {
                                 LARK_NAME_BLOCK_QUOTE_PREFIX, LARK_NAME_OTHER_CONTAINER};
     static const int refusals[] = {LARK_ACCEPTED, LARK_REFUSED_WORK, LARK_REFUSED_OPTIONS, LARK_REFUSED_COUNT, LARK_REFUSED_RETURN,
                                    LARK_REFUSED_EVENT, LARK_REFUSED_SHAPE, LARK_REFUSED_RESULT, LARK_REFUSED_OUTPUT};
+    static const uint8_t four[] = {1, 2, 3, 4}, most[] = {255, 255, 255, 255}, none[] = {0, 0, 0, 0};
     char version[32];
     int i, j;
 
@@ -46,6 +47,8 @@ int main(void) {
 
     sprintf(version, "%d.%d.%d", LARK_VERSION_MAJOR, LARK_VERSION_MINOR, LARK_VERSION_PATCH);
     holds("the version in both forms", strcmp(LARK_VERSION, version) == 0);
+
+    holds("the number in four bytes", lark_number_at(four) == 0x04030201 && lark_number_at(most) == 0xffffffff && lark_number_at(none) == 0);
 
     for (i = 0; i < 9; i++) {
         holds("a refusal in words", strlen(lark_refusal_text((size_t)i)) > 5);
