@@ -7,6 +7,7 @@
 // What is expected is written from document 01: the table's rows, and the rules for the rest. What the Rust crate answers is compared
 // elsewhere, by `replay` and `oracle/run`.
 
+// All that is tried stands in the script.
 fn main() {
     trial::run();
 }

@@ -21,14 +21,17 @@ use record::event::event_at;
 ghost use Prim.Native.Nat.{_≤_};
 ghost use lib.ListN.{length};
 
+// Words on standard output.
 fn say(text: &[u8]) {
     io::write_all(STDOUT_FILENO, text);
 }
 
+// A number in decimal digits.
 fn say_number(n: usize) {
     io::print_decimal(STDOUT_FILENO, n as u64);
 }
 
+// A refusal by its number and place.
 fn say_refusal(refusal: Refusal) {
     say(b"refused ");
     say_number(refusal.number);
@@ -36,6 +39,7 @@ fn say_refusal(refusal: Refusal) {
     say_number(refusal.place);
 }
 
+// A container's flag, as 1 or 0.
 fn say_flag(blank: bool) {
     if blank {
         say(b", flag 1");
@@ -44,6 +48,7 @@ fn say_flag(blank: bool) {
     }
 }
 
+// What space-or-tab found: how many bytes it took, that there are too few, or a refusal.
 fn say_spaces(found: Spaces) {
     match found {
         Spaces::Taken(n) => {
@@ -55,6 +60,7 @@ fn say_spaces(found: Spaces) {
     }
 }
 
+// Whether an item is bulleted or ordered, and its mark as the number of a byte.
 fn say_kind(kind: Kind) {
     match kind {
         Kind::Bullet(mark) => {
@@ -68,6 +74,7 @@ fn say_kind(kind: Kind) {
     }
 }
 
+// What list item start found: the bytes taken and the container that opens, no list item, or a refusal.
 fn say_start(found: Start) {
     match found {
         Start::Item { taken, container } => {
@@ -84,6 +91,7 @@ fn say_start(found: Start) {
     }
 }
 
+// What continuation found: the bytes taken, or no continuation, each with the flag as it then stands; or a refusal.
 fn say_going(found: Going) {
     match found {
         Going::Goes { taken, container } => {
@@ -160,6 +168,7 @@ fn say_headed(found: Headed, out: &[u8]) {
     }
 }
 
+// The heading reader, lent so many bytes of the output. A question for more than there are is not asked.
 fn ask_heading(s: &[u8], options: u32, out: &mut [u8], lent: usize) {
     if lent > out.len() {
         return;
@@ -169,6 +178,7 @@ fn ask_heading(s: &[u8], options: u32, out: &mut [u8], lent: usize) {
     say_headed(found, out);
 }
 
+// The reader that a letter stands for, with what it takes of the two numbers; of any other letter nothing is said.
 fn ask(s: &[u8], reader: u8, options: u32, a: usize, b: usize, out: &mut [u8]) {
     if reader == b'h' {
         ask_heading(s, options, out, a);
@@ -233,6 +243,7 @@ fn line(s: &[u8], bytes: &mut [u8], out: &mut [u8]) {
     say(b"\n");
 }
 
+// All lines of the script, with one buffer for the bytes that they spell and one for the output.
 fn run(text: &[u8]) {
     let mut bytes = [0u8; 32768];
     let mut out = [0u8; 65536];
@@ -247,6 +258,7 @@ fn run(text: &[u8]) {
     }
 }
 
+// The script on standard input, as much of it as the buffer has room for.
 fn main() {
     let mut buffer = io::large_buffer();
     let n = io::read_full(0, &mut buffer);

@@ -7,14 +7,17 @@ use libc::STDOUT_FILENO;
 use reader::Found;
 use reader::event_number;
 
+// Words on standard output.
 fn say(text: &[u8]) {
     io::write_all(STDOUT_FILENO, text);
 }
 
+// A number in decimal digits.
 fn say_number(n: usize) {
     io::print_decimal(STDOUT_FILENO, n as u64);
 }
 
+// The event that was found, or that the record ends before it; and the end of the line.
 fn say_found(found: Found) {
     match found {
         Found::Event { kind, name, place } => {
@@ -46,6 +49,7 @@ fn line(s: &[u8], bytes: &mut [u8]) {
     say_found(event_number(&bytes[0..n], script::number(s, number)));
 }
 
+// All lines of the script, with one buffer for the records that they spell.
 fn run(text: &[u8]) {
     let mut bytes = [0u8; 65536];
     let mut i = 0;
@@ -59,6 +63,7 @@ fn run(text: &[u8]) {
     }
 }
 
+// The script on standard input, as much of it as the buffer has room for.
 fn main() {
     let mut buffer = io::large_buffer();
     let n = io::read_full(0, &mut buffer);

@@ -20,6 +20,7 @@ pub enum Judged {
     Sized(usize),
 }
 
+// The finding on the e events from a place on: heading by heading up to the first that offends, or to the end with the sizes added up.
 pub fn judge(s: &[u8], from: usize, e: usize) -> Judged
     requires { ⌜ (e ≤ 2048) × (from + 8 * e ≤ length (now s)) ⌝ }
     ensures { λ r. ⌜ r ≡ judgedOf (headings (eventsAt e (now (s .entry)) from)) ⌝ }

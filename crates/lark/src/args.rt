@@ -67,6 +67,7 @@ fn spelled(word: &[u8]) -> Number {
     Number::Is(value)
 }
 
+// A number with one more digit behind it, or as it is where it has six already, so that it never overflows.
 fn with_digit(value: u32, digit: u8) -> u32 {
     if value > 99999 {
         return value;
@@ -152,6 +153,7 @@ fn is_of_line(option: u8, takes: u8) -> bool {
     option == b'c'
 }
 
+// An option that only a line has: -i and -b set what they stand for, and -c awaits its number.
 fn take_of_line(asked: Asked, option: u8) -> Asked {
     let mut asked = asked;
     if option == b'i' {

@@ -26,6 +26,7 @@ fn read_all(fd: i32, buffer: &mut [u8], name: &[u8]) -> Got {
     Got::Bytes(n + more)
 }
 
+// All that standard input has, as far as the buffer goes.
 fn read_input(buffer: &mut [u8]) -> Got {
     read_all(STDIN_FILENO, buffer, b"standard input")
 }
@@ -68,6 +69,7 @@ pub fn text_asked(asked: Asked, buffer: &mut [u8]) -> Got {
     Got::Bytes(n)
 }
 
+// All that a file has, as far as the buffer goes. Where it cannot be opened, that is said.
 fn read_file(path: &[u8], buffer: &mut [u8]) -> Got {
     let fd = os::open_read(path);
     if fd < 0 {

@@ -87,6 +87,7 @@ fn find_title(line: &[u8], options: u32, section: &mut [u8]) -> Title {
     }
 }
 
+// What is found of the spaces and tabs in front, on a line.
 fn say_leading(spaces: Spaces) {
     say(b"leading spaces and tabs: ");
     match spaces {
@@ -117,6 +118,7 @@ fn say_heading(section: &[u8], events: usize) {
     say_events(section, events);
 }
 
+// Whether an item is bulleted or ordered, and its mark.
 fn say_kind(kind: Kind) {
     match kind {
         Kind::Bullet(mark) => {
@@ -130,12 +132,14 @@ fn say_kind(kind: Kind) {
     }
 }
 
+// A container's flag; where it is not set nothing is said.
 fn say_blank(blank: bool) {
     if blank {
         say(b", blank");
     }
 }
 
+// The bytes that a list item takes, and its container: the size, the kind and the flag.
 fn say_item(taken: usize, container: Container) {
     say_with(b"taken ", taken);
     say_with(b", size ", container.size);
@@ -161,6 +165,7 @@ fn say_start(start: Start) -> bool {
     end_line()
 }
 
+// What is found of a further line: the bytes taken, or no, each with the flag as it then stands; or that it is refused.
 fn say_going(going: Going) {
     match going {
         Going::Goes { taken, container } => {
@@ -210,6 +215,7 @@ fn answer(line: &[u8], asked: Asked, section: &[u8], title: Title) -> u8 {
     done(read_others(line, asked))
 }
 
+// The answer on any line. The heading comes first: all that can be refused shows there, before a word is written.
 pub fn read_line(line: &[u8], asked: Asked) -> u8 {
     let mut section = memory();
     let title = find_title(line, asked.options, &mut section);

@@ -42,6 +42,7 @@ enum OnRecord {
     Unknown,
 }
 
+// The call of the library that a command on a record stands for.
 fn call_of(command: &[u8]) -> OnRecord {
     if same(command, b"attention") {
         return OnRecord::Is(Call::Resolve(Resolver::Attention));
@@ -76,6 +77,7 @@ enum OnText {
     Record,
 }
 
+// What a command says of its text, and the status that it leaves with.
 fn answer(command: OnText, text: &[u8], asked: Asked) -> u8 {
     match command {
         OnText::Show => show::show_text(text, asked.options),
@@ -84,6 +86,7 @@ fn answer(command: OnText, text: &[u8], asked: Asked) -> u8 {
     }
 }
 
+// A command on a text. It answers only where its arguments are good and the text can be had.
 fn run_on_text(command: OnText, asked: Asked) -> u8 {
     if !are_good(asked) {
         return WRONG;
@@ -102,6 +105,7 @@ fn run_on_text(command: OnText, asked: Asked) -> u8 {
     }
 }
 
+// Whether the command is one of the three words for help.
 fn asks_for_help(command: &[u8]) -> bool {
     if same(command, b"help") {
         return true;
@@ -147,10 +151,12 @@ fn wants_status() -> bool {
     same(&word[..n], b"--status")
 }
 
+// Writes the status where the script `lark` reads it.
 fn tell(status: u8) {
     io::print_decimal(STATUS_FILENO, status as u64);
 }
 
+// The command is the first argument, or the second where the first asks for the status.
 fn main() {
     if wants_status() {
         tell(command_at(2));

@@ -35,6 +35,7 @@ enum Made {
     Refused(Refusal),
 }
 
+// The section with the attention runs resolved. How many groups it made and candidates it tried, only `show` says.
 fn make_attention(rec: &[u8], options: u32, out: &mut [u8], work: &mut [u8]) -> Made {
     match attention::call::resolve_attention(rec, options, out, work) {
         attention::call::Answer::Resolved {
@@ -46,6 +47,7 @@ fn make_attention(rec: &[u8], options: u32, out: &mut [u8], work: &mut [u8]) -> 
     }
 }
 
+// The section with the headings resolved.
 fn make_headings(rec: &[u8], options: u32, out: &mut [u8], work: &mut [u8]) -> Made {
     match heading::resolve::resolve_headings(rec, options, out, work) {
         heading::resolve::Answer::Resolved { events } => Made::Events(events),
@@ -53,6 +55,7 @@ fn make_headings(rec: &[u8], options: u32, out: &mut [u8], work: &mut [u8]) -> M
     }
 }
 
+// The section with the lists resolved.
 fn make_lists(rec: &[u8], options: u32, out: &mut [u8], work: &mut [u8]) -> Made {
     match list::call::resolve_lists(rec, options, out, work) {
         list::call::Answer::Resolved { events } => Made::Events(events),
@@ -72,6 +75,7 @@ fn say_section(out: &[u8], events: usize) -> bool {
     say(&out[0..end])
 }
 
+// The section that was made, as text or as bytes, or the refusal.
 fn say_made(made: Made, out: &[u8], as_text: bool) -> u8 {
     match made {
         Made::Events(events) => {
@@ -100,6 +104,7 @@ fn say_reading(reading: Reading) -> u8 {
     }
 }
 
+// Whether a record is good, and its two counts.
 fn run_read(rec: &[u8], options: u32) -> u8 {
     let mut work = memory();
     say_reading(record::call::read(rec, options, &mut work))
@@ -114,6 +119,7 @@ fn make(resolver: Resolver, rec: &[u8], options: u32, out: &mut [u8], work: &mut
     }
 }
 
+// What a resolver makes of a record, in memory for it alone.
 fn run_resolver(resolver: Resolver, rec: &[u8], options: u32, as_text: bool) -> u8 {
     let mut out = memory();
     let mut work = memory();
@@ -121,6 +127,7 @@ fn run_resolver(resolver: Resolver, rec: &[u8], options: u32, as_text: bool) -> 
     say_made(made, &out, as_text)
 }
 
+// The call that is asked for, on a record; only a resolver's answer can be had as text.
 fn run_on(call: Call, rec: &[u8], options: u32, as_text: bool) -> u8 {
     match call {
         Call::Resolve(resolver) => run_resolver(resolver, rec, options, as_text),
@@ -128,6 +135,7 @@ fn run_on(call: Call, rec: &[u8], options: u32, as_text: bool) -> u8 {
     }
 }
 
+// A command on a record. It answers only where its arguments are good and the record can be had.
 pub fn run(call: Call, asked: Asked) -> u8 {
     if !are_good(asked) {
         return WRONG;

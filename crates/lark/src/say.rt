@@ -15,14 +15,17 @@ pub const REFUSED: u8 = 1;
 // Bad arguments, or an input or output that fails.
 pub const WRONG: u8 = 2;
 
+// Words on standard output; whether they were written.
 pub fn say(text: &[u8]) -> bool {
     io::write_all(STDOUT_FILENO, text)
 }
 
+// A number in decimal digits.
 pub fn say_number(n: usize) {
     io::print_decimal(STDOUT_FILENO, n as u64);
 }
 
+// A line feed; whether it was written.
 pub fn end_line() -> bool {
     say(b"\n")
 }
@@ -33,10 +36,12 @@ pub fn say_with(text: &[u8], n: usize) {
     say_number(n);
 }
 
+// Words on standard error.
 fn complain(text: &[u8]) {
     io::write_all(STDERR_FILENO, text);
 }
 
+// Words and a number, on standard error.
 fn complain_with(text: &[u8], n: usize) {
     complain(text);
     io::print_decimal(STDERR_FILENO, n as u64);

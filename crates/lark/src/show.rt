@@ -22,6 +22,7 @@ fn say_counts(groups: usize, tried: usize, events: usize) -> bool {
     end_line()
 }
 
+// The text, its tree and the counts, or the refusal.
 fn say_answer(text: &[u8], section: &[u8], answer: Answer) -> u8 {
     match answer {
         Answer::Resolved {
@@ -48,6 +49,7 @@ fn show_record(text: &[u8], rec: &[u8], options: u32) -> u8 {
     say_answer(text, &out, answer)
 }
 
+// The command `show`: a text's groups, by way of its record.
 pub fn show_text(text: &[u8], options: u32) -> u8 {
     let mut rec = memory();
     let n = put_record(text, options, &mut rec);
@@ -63,6 +65,7 @@ fn write_good(rec: &[u8], options: u32) -> u8 {
     }
 }
 
+// The command `record`: the bytes of the record that `show` makes.
 pub fn record_text(text: &[u8], options: u32) -> u8 {
     let mut rec = memory();
     let n = put_record(text, options, &mut rec);

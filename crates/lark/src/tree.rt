@@ -28,6 +28,7 @@ fn say_levels(left: usize) -> usize
     left - 1
 }
 
+// The spaces in front of a line: two for each group that is open.
 fn say_indent(depth: usize) {
     let mut left = depth;
     while left > 0 {
@@ -35,6 +36,7 @@ fn say_indent(depth: usize) {
     }
 }
 
+// Whether a name is a group's: Emphasis, Strong or Strikethrough.
 fn is_group(name: u8) -> bool {
     if name == EMPHASIS {
         return true;
@@ -53,6 +55,7 @@ fn is_shown(name: u8) -> bool {
     is_group(name)
 }
 
+// What a group or data is called, and a space.
 fn say_name(name: u8) {
     if name == EMPHASIS {
         say(b"Emphasis ");

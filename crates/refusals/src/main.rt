@@ -3,6 +3,7 @@
 //
 // What is expected is written from that table.
 
+// All that is tried stands in the script.
 fn main() {
     trial::run();
 }

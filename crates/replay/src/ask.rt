@@ -54,10 +54,12 @@ fn resolved(events: usize) -> Reply {
     })
 }
 
+// A flag as the list has it: 1 where it is set, else 0.
 fn flag(set: bool) -> usize {
     if set { 1 } else { 0 }
 }
 
+// The attention resolver. Of its three counts only the events are on the list.
 fn ask_attention(s: &[u8], options: u32, out: &mut [u8], work: &mut [u8]) -> Reply {
     match resolve_attention(s, options, out, work) {
         attention::call::Answer::Resolved {
@@ -69,6 +71,7 @@ fn ask_attention(s: &[u8], options: u32, out: &mut [u8], work: &mut [u8]) -> Rep
     }
 }
 
+// The heading resolver: how many events its section has, or a refusal.
 fn ask_headings(s: &[u8], options: u32, out: &mut [u8], work: &mut [u8]) -> Reply {
     match resolve_headings(s, options, out, work) {
         heading::resolve::Answer::Resolved { events } => resolved(events),
@@ -76,6 +79,7 @@ fn ask_headings(s: &[u8], options: u32, out: &mut [u8], work: &mut [u8]) -> Repl
     }
 }
 
+// The list resolver: how many events its section has, or a refusal.
 fn ask_lists(s: &[u8], options: u32, out: &mut [u8], work: &mut [u8]) -> Reply {
     match resolve_lists(s, options, out, work) {
         list::call::Answer::Resolved { events } => resolved(events),
@@ -110,6 +114,7 @@ pub fn ask_heading(question: Question, s: &[u8], out: &mut [u8]) -> Reply {
     }
 }
 
+// The space-or-tab reader, with a minimum and a maximum: whether there are enough, and the bytes taken.
 fn ask_spaces(question: Question, s: &[u8]) -> Reply {
     match space_or_tab(s, question.options, question.a, question.b) {
         Spaces::Taken(n) => unwritten(1, n, 0, 0, 0),
@@ -118,6 +123,7 @@ fn ask_spaces(question: Question, s: &[u8]) -> Reply {
     }
 }
 
+// The mark of an item of either kind, as a number.
 fn mark_of(kind: Kind) -> usize {
     match kind {
         Kind::Bullet(mark) => mark as usize,
@@ -125,6 +131,7 @@ fn mark_of(kind: Kind) -> usize {
     }
 }
 
+// The list item reader: whether one starts here, the bytes taken, and its size, flag and mark.
 fn ask_item(question: Question, s: &[u8]) -> Reply {
     match list_item(s, question.options, question.a == 1) {
         Start::Item { taken, container } => {
@@ -153,6 +160,7 @@ fn kind_of(mark: u8) -> Kind {
     Kind::Bullet(mark)
 }
 
+// The continuation reader, on an item of this size, flag and mark: whether it goes on, the bytes taken, and the flag as it then stands.
 fn ask_going(question: Question, s: &[u8]) -> Reply {
     let kind = kind_of((question.c % 256) as u8);
     let held = Container {

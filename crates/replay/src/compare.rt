@@ -36,6 +36,7 @@ pub enum Verdict {
     Work(usize),
 }
 
+// Whether two answers have the same five numbers and a section of the same length.
 fn same_numbers(a: Numbers, b: Numbers) -> bool {
     if a.first != b.first {
         return false;
@@ -55,6 +56,7 @@ fn same_numbers(a: Numbers, b: Numbers) -> bool {
     a.section == b.section
 }
 
+// Our numbers against the crate's; a refusal of ours differs from any.
 fn compare_numbers(reply: Reply, told: Numbers) -> Verdict {
     match reply {
         Reply::Refused(refusal) => Verdict::Refused(refusal),
@@ -124,6 +126,7 @@ fn compare_all(numbers: Verdict, out: &[u8], section: &[u8], work: &[u8]) -> Ver
     numbers
 }
 
+// The answer of a resolver: the numbers, the output and the work memory, both filled before the call.
 fn compare_resolver(question: Question, s: &[u8], told: Numbers, section: &[u8]) -> Verdict {
     let mut out = filled(FILL);
     let mut work = filled(FILL);
@@ -131,6 +134,7 @@ fn compare_resolver(question: Question, s: &[u8], told: Numbers, section: &[u8])
     compare_all(compare_numbers(reply, told), &out, section, &work)
 }
 
+// The answer of the heading reader, which has no work memory: the numbers, and where they agree, the output.
 fn compare_heading(question: Question, s: &[u8], told: Numbers, section: &[u8]) -> Verdict {
     let mut out = filled(FILL);
     let reply = ask_heading(question, s, &mut out);

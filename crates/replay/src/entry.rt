@@ -142,6 +142,7 @@ fn numbers_in(s: &[u8; 24]) -> Numbers
     }
 }
 
+// Six numbers as a question: the call, the options, the three arguments and the length of the record or line.
 fn question_of(six: Numbers) -> Question
     requires { ⌜ six .second < 4294967296 ⌝ }
 {

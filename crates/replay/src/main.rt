@@ -120,6 +120,7 @@ fn replay(fd: i32) {
     say(b"the list of answers is too long\n");
 }
 
+// Opens the list and reads it through; one that cannot be opened is said to be so.
 fn main() {
     let fd = os::open_read(b"answers");
     if fd < 0 {

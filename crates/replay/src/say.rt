@@ -15,10 +15,12 @@ use crate::tally::Tally;
 use libc::STDOUT_FILENO;
 use record::check::Refusal;
 
+// Words as they stand.
 pub fn say(text: &[u8]) {
     io::write_all(STDOUT_FILENO, text);
 }
 
+// A number in decimal digits.
 fn say_number(n: usize) {
     io::print_decimal(STDOUT_FILENO, n as u64);
 }
@@ -35,6 +37,7 @@ fn say_last(text: &[u8], n: usize) {
     say(b"\n");
 }
 
+// A call, by the name that `entry` has for it.
 fn say_call(call: usize) {
     match call {
         ATTENTION => say(b"attention"),
@@ -47,6 +50,7 @@ fn say_call(call: usize) {
     }
 }
 
+// Which entry it is, and what it asks: all six numbers, but none of the input's bytes.
 fn say_question(number: usize, question: Question) {
     say_with(b"entry ", number);
     say(b", ");
@@ -59,6 +63,7 @@ fn say_question(number: usize, question: Question) {
     say(b" bytes\n");
 }
 
+// An answer, the crate's or ours: its five numbers, and the length of the section.
 fn say_numbers(numbers: Numbers) {
     say_number(numbers.first);
     say_with(b" ", numbers.second);
@@ -69,17 +74,20 @@ fn say_numbers(numbers: Numbers) {
     say(b" bytes\n");
 }
 
+// A refusal of ours, by its number and place.
 fn say_refusal(refusal: Refusal) {
     say_with(b"refused ", refusal.number);
     say_last(b" at ", refusal.place);
 }
 
+// A byte of the section that differs: its place, ours and the crate's.
 fn say_byte(at: usize, crates: u8, ours: u8) {
     say_with(b"the same numbers, but at ", at);
     say_with(b" of the section ", ours as usize);
     say_last(b" where the crate has ", crates as usize);
 }
 
+// What the comparison shows of our answer, on a line.
 fn say_verdict(verdict: Verdict) {
     match verdict {
         Verdict::Agrees => say(b"the same\n"),
@@ -107,6 +115,7 @@ pub fn say_ill(before: usize) {
     say(b" entries\n");
 }
 
+// How many entries there were of a call, on a line.
 fn say_count(tally: Tally, call: usize) {
     if call < CALLS {
         say(b"  ");

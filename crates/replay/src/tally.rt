@@ -10,6 +10,7 @@ pub struct Tally {
 
 // No sum here can wrap: far fewer entries are read than a number can count. `main` has the bound.
 impl Tally {
+    // All counts at 0, before the first entry.
     pub fn new() -> Tally {
         Tally {
             of: [0; CALLS],

@@ -5,17 +5,20 @@ use crate::section::Written;
 use record::check::Reading;
 use record::check::Refusal;
 
+// A refusal by its number and place; a call that refuses writes nothing.
 fn say_refusal(refusal: Refusal) -> Written {
     say_with(b"refused ", refusal.number);
     say_with(b" at ", refusal.place);
     Written::Nothing
 }
 
+// How many events a resolver answers, which is how many its section has to have.
 fn say_events(n: usize) -> Written {
     say_with(b"events ", n);
     Written::Section(n)
 }
 
+// The same with attention's other two counts: the groups, and the candidates tried.
 fn say_groups(events: usize, groups: usize, tried: usize) -> Written {
     let written = say_events(events);
     say_with(b" groups ", groups);
@@ -23,12 +26,14 @@ fn say_groups(events: usize, groups: usize, tried: usize) -> Written {
     written
 }
 
+// The two counts of a good record; to read one writes nothing.
 fn say_good(document: usize, events: usize) -> Written {
     say_with(b"good ", document);
     say_with(b" ", events);
     Written::Nothing
 }
 
+// Whether a record is good. The one call that has no output.
 fn call_read(s: &[u8], options: u32, work: &mut [u8]) -> Written {
     match record::call::read(s, options, work) {
         Reading::Good { document, events } => say_good(document, events),
@@ -36,6 +41,7 @@ fn call_read(s: &[u8], options: u32, work: &mut [u8]) -> Written {
     }
 }
 
+// The attention resolver, the one with three counts.
 fn call_attention(s: &[u8], options: u32, out: &mut [u8], work: &mut [u8]) -> Written {
     match attention::call::resolve_attention(s, options, out, work) {
         attention::call::Answer::Resolved {
@@ -47,6 +53,7 @@ fn call_attention(s: &[u8], options: u32, out: &mut [u8], work: &mut [u8]) -> Wr
     }
 }
 
+// The heading resolver, which answers how many events there are and nothing more.
 fn call_headings(s: &[u8], options: u32, out: &mut [u8], work: &mut [u8]) -> Written {
     match heading::resolve::resolve_headings(s, options, out, work) {
         heading::resolve::Answer::Resolved { events } => say_events(events),
@@ -54,6 +61,7 @@ fn call_headings(s: &[u8], options: u32, out: &mut [u8], work: &mut [u8]) -> Wri
     }
 }
 
+// The list resolver, which answers how many events there are and nothing more.
 fn call_lists(s: &[u8], options: u32, out: &mut [u8], work: &mut [u8]) -> Written {
     match list::call::resolve_lists(s, options, out, work) {
         list::call::Answer::Resolved { events } => say_events(events),

@@ -2,10 +2,12 @@
 
 use libc::STDOUT_FILENO;
 
+// Words as they stand.
 pub fn say(text: &[u8]) {
     io::write_all(STDOUT_FILENO, text);
 }
 
+// A number in decimal digits.
 pub fn say_number(n: usize) {
     io::print_decimal(STDOUT_FILENO, n as u64);
 }
