@@ -1,3 +1,4 @@
+pub mod Shapes
 pub mod Offenders
 pub mod Exactly
 pub mod Heads

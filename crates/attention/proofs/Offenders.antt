@@ -7,13 +7,14 @@ use mathlib.Core.List.{List, [], _∷_}
 use mathlib.Core.Option.{Option, none, some}
 use native.Mathlib.Omega.{arith}
 use lib.ListN.{length, drop}
-use borrow.Author.Tests.{not-true, not-false}
+use borrow.Author.Tests.{eqb-true, eq-eqb, not-true}
 use Rattle.record.specs.Choice.{choose, and}
 use Rattle.record.specs.Stack.{nth}
 use Rattle.record.specs.declared.event.Event.{Event}
 use Rattle.record.proofs.Bools.{and-left, and-right, and-both, clash}
 use Rattle.runs.specs.Runs.{entersRun, shaped, offenderFrom, offender}
 use Rattle.attention.specs.Shape.{Offends}
+use Rattle.attention.proofs.Shapes.{shape-of, shaped-so}
 
 module _ (doc : List ℕ) (options : ℕ) where
   test : Event → List Event → Bool
@@ -21,21 +22,29 @@ module _ (doc : List ℕ) (options : ℕ) where
 
   -- the test of one event is the predicate at the front of a list
   here : (e : Event) (es : List Event) → test e es ≡ true → Offends doc options (e ∷ es) 0
-  unfolding test
+  unfolding test entersRun
   here e es q =
-      record { within = omega arith; enters = and-left _ _ q; broken = not-true (shaped doc options e es) (and-right _ _ q) }
+      let enters = and-left _ _ q in
+      record {
+        within = omega arith;
+        enters = eqb-true _ _ (and-left _ _ enters);
+        run = eqb-true _ _ (and-right _ _ enters);
+        unlike = λ s. clash (shaped-so doc options e es s) (not-true _ (and-right _ _ q));
+      }
 
   not-here : (e : Event) (es : List Event) → test e es ≡ false → Offends doc options (e ∷ es) 0 → ⊥
-  unfolding test
-  not-here e es q o =
-      let b : not (shaped doc options e es) ≡ true = rw (o .broken) in
-      clash (and-both _ _ (o .enters) b) q
+  unfolding test entersRun
+  not-here e es q o = go (shaped doc options e es) refl
+    where
+      go : (z : Bool) → shaped doc options e es ≡ z → ⊥
+      go true s = o .unlike (shape-of doc options e es s)
+      go false s = clash (and-both _ _ (and-both _ _ (eq-eqb _ _ (o .enters)) (eq-eqb _ _ (o .run))) (ap not s)) q
 
   later : (e : Event) (es : List Event) (k : ℕ) → Offends doc options es k → Offends doc options (e ∷ es) (suc k)
-  later e es k o = let h = o .within in record { within = omega arith; enters = o .enters; broken = o .broken }
+  later e es k o = let h = o .within in record { within = omega arith; enters = o .enters; run = o .run; unlike = o .unlike }
 
   earlier : (e : Event) (es : List Event) (k : ℕ) → Offends doc options (e ∷ es) (suc k) → Offends doc options es k
-  earlier e es k o = let h = o .within in record { within = omega arith; enters = o .enters; broken = o .broken }
+  earlier e es k o = let h = o .within in record { within = omega arith; enters = o .enters; run = o .run; unlike = o .unlike }
 
   -- where an offender is named, it is that many events on, it offends, and none before it does
   pub record Named (es : List Event) (i k : ℕ) : Type 0 where
