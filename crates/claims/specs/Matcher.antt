@@ -54,7 +54,7 @@ use Rattle.matcher.specs.Groups.{Grouped}
 use Rattle.matcher.specs.State.{Fresh, Ready}
 use Rattle.matcher.proofs.Chained.{onward-went}
 use Rattle.chains.specs.Walk.{onward}
-use Rattle.claims.specs.Records.{written-number}
+use Rattle.claims.specs.Records.{docOf, allEvents, written-number}
 use Rattle.matcher.specs.declared.closers.Step.the-variants.{Closed}
 use Rattle.matcher.specs.declared.closers.Found.the-variants.{Groups}
 
@@ -66,13 +66,7 @@ none-offended : (o : Option ℕ) (all es : List Event) → unlessOffended o all 
 none-offended none all es q = refl
 none-offended (some j) all es q = let z : _≡_ {A = ℕ} 0 1 = cc in absurd (omega arith)
 
--- a record, its document and its events, and the groups that the plain rule makes of them
-abbrev pub docOf : List ℕ → List ℕ
-docOf s = documentOf s (documentCount s)
-
-abbrev pub allEvents : List ℕ → List Event
-allEvents s = eventsOf s (documentCount s) (eventCount s)
-
+-- the groups that the plain rule makes of a record
 abbrev pub plainGroups : List ℕ → ℕ → List Group
 plainGroups s options = groupsOf crate options (docOf s) (allEvents s)
 

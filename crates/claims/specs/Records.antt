@@ -1,6 +1,6 @@
 -- The claims of the calls on a record, as C sees them: `lark_read`, `lark_resolve_attention`, `lark_resolve_headings`, `lark_resolve_lists`.
 -- For each: any two results that its promise allows are equal; what a buffer held before is in nothing that it answers or writes; each
--- number is given exactly when the table says; no refusal writes.
+-- number is given exactly when the table says; no refusal writes; and what number 0 comes with, in the answer and in the output.
 -- Assumes nothing.
 use Prim.Native.Nat.{ℕ, _+_, _*_, _<_, _≤_}
 use native.Mathlib.Omega.{arith}
@@ -11,10 +11,10 @@ use lib.ListN.{length, take, drop, replicate}
 use lib.Dec.{leb}
 use borrow.Author.Tests.{leb-true, leb-false}
 use Rattle.record.specs.Check.{admitted, refuse}
-use Rattle.record.specs.Event.{documentOf, eventsOf}
+use Rattle.record.specs.Event.{documentOf, eventsOf, sectionBytes}
 use Rattle.record.specs.Rows.{Least, Row, row-1, row-2, row-3, row-4, row-5, documentCount, eventCount}
 use Rattle.record.specs.Written.{WrittenRow, by-check, row-6, row-7, row-8, ExactlyWritten}
-use Rattle.record.specs.Outcome.{Outcome, accepted, refused, refusing, Resolution, outcome, onto, bytesWritten}
+use Rattle.record.specs.Outcome.{Outcome, accepted, refused, refusing, Resolution, gives, outcome, onto, bytesWritten}
 use Rattle.record.specs.Promise.{Writes, writes-determined, writes-same-answer, writes-same-work, writes-same-bytes, writes-keep-rest}
 use Rattle.record.specs.declared.check.Reading.{Reading}
 use Rattle.record.specs.declared.check.Reading.the-variants.{Good, Refused}
@@ -22,6 +22,8 @@ use Rattle.record.specs.declared.event.Event.{Event}
 use Rattle.record.proofs.Exactly.{exactly}
 use Rattle.record.proofs.Sections.{length-section}
 use Rattle.record.proofs.Output.{onto-none}
+use Rattle.runs.specs.Rule.{crate}
+use Rattle.runs.specs.Pieces.{outcome as matching}
 use Rattle.attention.specs.Attention.{attention}
 use Rattle.attention.specs.Promise.{resolution as attentionOutcome, answerOf as attentionAnswer}
 use Rattle.attention.specs.Shape.{Offends as RunOffends}
@@ -38,6 +40,13 @@ use Rattle.ledgerlark.specs.Answers.{readingOf, attentionOf, headingsOf, listsO
 use Rattle.ledgerlark.specs.declared.resolve.LarkReading.{LarkReading}
 use Rattle.ledgerlark.specs.declared.resolve.LarkResolved.{LarkResolved}
 use Rattle.claims.specs.Told.{Told}
+
+-- a record's document and its events, by its two counts
+abbrev pub docOf : List ℕ → List ℕ
+docOf s = documentOf s (documentCount s)
+
+abbrev pub allEvents : List ℕ → List Event
+allEvents s = eventsOf s (documentCount s) (eventCount s)
 
 -- "A refusal returns its number and place, all else zero"
 
@@ -64,15 +73,6 @@ written-number (row-8 es h g e f) = omega arith
 
 -- lark_read
 
-pub read-unique : {s : List ℕ} {options : ℕ} {work : List ℕ} {r₁ r₂ : LarkReading} {w₁ w₂ : List ℕ} →
-    ReadAs s options work r₁ w₁ → ReadAs s options work r₂ w₂ → (r₁ ≡ r₂) × (w₁ ≡ w₂)
-read-unique p q = (p .answer ∙ sym (q .answer), p .wiped ∙ sym (q .wiped))
-
-pub read-isolated : {s : List ℕ} {options : ℕ} {work₁ work₂ : List ℕ} {r₁ r₂ : LarkReading} {w₁ w₂ : List ℕ} →
-    length work₁ ≡ length work₂ → ReadAs s options work₁ r₁ w₁ → ReadAs s options work₂ r₂ w₂ → (r₁ ≡ r₂) × (w₁ ≡ w₂)
-read-isolated {s} {options} e p q =
-    (p .answer ∙ ap (λ (n : ℕ). readingOf (admitted s options n)) e ∙ sym (q .answer), p .wiped ∙ ap (λ (n : ℕ). replicate n 0) e ∙ sym (q .wiped))
-
 read-back : (a : Reading) (n p : ℕ) → 0 < n → readingOf a ≡ readRefusal n p → a ≡ refuse n p
 read-back (Good d e) n p h q = let z : 0 ≡ n = ap (λ (x : LarkReading). x .number) q in absurd (omega arith)
 read-back (Refused x) n p h q =
@@ -85,7 +85,7 @@ read-whole : (a : Reading) → 0 < readingOf a .number → readingOf a ≡ readR
 read-whole (Good d e) h = absurd (omega arith)
 read-whole (Refused x) h = refl
 
-pub read-exactly : {s : List ℕ} {options : ℕ} {work : List ℕ} {r : LarkReading} {work′ : List ℕ} → ReadAs s options work r work′ →
+read-exactly : {s : List ℕ} {options : ℕ} {work : List ℕ} {r : LarkReading} {work′ : List ℕ} → ReadAs s options work r work′ →
     Told (λ (x : LarkReading). x .number) (λ (x : LarkReading). x .place) readRefusal (Row s options (length work)) r
 read-exactly {s} {options} {work} {r} a =
     record {
@@ -103,12 +103,43 @@ read-exactly {s} {options} {work} {r} a =
         let k : r .number ≡ x .number = ap (λ (y : LarkReading). y .number) (a .answer ∙ ap readingOf q) in
         absurd (omega arith)
 
+-- the claim of the call that reads, of one record and one option number
+pub record ReadClaim (s : List ℕ) (options : ℕ) : Type 0 where
+  pub unique : (work : List ℕ) (r₁ r₂ : LarkReading) (w₁ w₂ : List ℕ) → ReadAs s options work r₁ w₁ → ReadAs s options work r₂ w₂ → (r₁ ≡ r₂) × (w₁ ≡ w₂)
+  pub isolated : (work₁ work₂ : List ℕ) (r₁ r₂ : LarkReading) (w₁ w₂ : List ℕ) → length work₁ ≡ length work₂ →
+      ReadAs s options work₁ r₁ w₁ → ReadAs s options work₂ r₂ w₂ → (r₁ ≡ r₂) × (w₁ ≡ w₂)
+  pub exactly : (work : List ℕ) (r : LarkReading) (work′ : List ℕ) → ReadAs s options work r work′ →
+      Told (λ (x : LarkReading). x .number) (λ (x : LarkReading). x .place) readRefusal (Row s options (length work)) r
+  pub accepts : (work : List ℕ) (r : LarkReading) (work′ : List ℕ) → ReadAs s options work r work′ → r .number ≡ 0 →
+      r ≡ record { number = 0; place = 0; document = documentCount s; events = eventCount s }
+  pub wiped : (work : List ℕ) (r : LarkReading) (work′ : List ℕ) → ReadAs s options work r work′ → work′ ≡ replicate (length work) 0
+
+pub read-claim : (s : List ℕ) (options : ℕ) → ReadClaim s options
+read-claim s options =
+    record {
+      unique = λ work r₁ r₂ w₁ w₂ p q. (p .answer ∙ sym (q .answer), p .wiped ∙ sym (q .wiped));
+      isolated = λ work₁ work₂ r₁ r₂ w₁ w₂ e p q. (
+        p .answer ∙ ap (λ (n : ℕ). readingOf (admitted s options n)) e ∙ sym (q .answer),
+        p .wiped ∙ ap (λ (n : ℕ). replicate n 0) e ∙ sym (q .wiped),
+      );
+      exactly = λ work r work′ a. read-exactly a;
+      accepts = λ work r work′ a z. a .answer ∙ ap readingOf (exactly s options (length work) .accepted (read-exactly a .none-holds z));
+      wiped = λ work r work′ a. a .wiped;
+    }
+
 -- every call that writes, once: what it comes to, and how its answer reads that
 
--- an answer reads an outcome in numbers: 0 where something is written, a refusal's number and place else
-pub record Reads (answers : Outcome → LarkResolved) : Type 0 where
+-- number 0, and how much was made
+abbrev pub resolved : ℕ → ℕ → ℕ → LarkResolved
+resolved events groups tried = record { number = 0; place = 0; events = events; groups = groups; tried = tried }
+
+-- an answer reads an outcome in numbers: how much was made where something is written, a refusal's number and place else
+pub record Reads (groups tried : ℕ) (answers : Outcome → LarkResolved) : Type 0 where
   pub of-refused : (n p : ℕ) → answers (refusing n p) ≡ refusal n p
-  pub of-accepted : (es : List Event) → answers (accepted es) .number ≡ 0
+  pub of-accepted : (es : List Event) → answers (accepted es) ≡ resolved (length es) groups tried
+
+of-zero : {groups tried : ℕ} {answers : Outcome → LarkResolved} → Reads groups tried answers → (es : List Event) → answers (accepted es) .number ≡ 0
+of-zero reads es = ap (λ (x : LarkResolved). x .number) (reads .of-accepted es)
 
 -- two calls on one record, with one option number, on two pairs of buffers of the same lengths, whatever these held: the same answer, the same
 -- bytes written, work memory alike, and behind what is written each output as it was
@@ -137,21 +168,21 @@ writes-isolated {comes} {answers} {out₁} {out₂} {work₁} {work₂} eo ew p 
     both : bytesWritten (comes (length out₁) (length work₁)) ≡ bytesWritten (comes (length out₂) (length work₂))
     both = cc
 
-keeps : {comes : ℕ → ℕ → Outcome} {answers : Outcome → LarkResolved} {out work : List ℕ} {r : LarkResolved} {out′ work′ : List ℕ} →
-    Reads answers → (o : Outcome) → comes (length out) (length work) ≡ o → Writes comes answers out work r out′ work′ → 0 < r .number → out′ ≡ out
-keeps {comes} {answers} {out} {work} {r} reads (accepted es) e a h =
-    let z : r .number ≡ 0 = ap (λ (x : LarkResolved). x .number) (a .answer ∙ ap answers e) ∙ reads .of-accepted es in absurd (omega arith)
-keeps {comes} {answers} {out} {work} {r} reads (refused x) e a h =
+keeps : {groups tried : ℕ} {comes : ℕ → ℕ → Outcome} {answers : Outcome → LarkResolved} {out work : List ℕ} {r : LarkResolved} {out′ work′ : List ℕ} →
+    Reads groups tried answers → (o : Outcome) → comes (length out) (length work) ≡ o → Writes comes answers out work r out′ work′ → 0 < r .number → out′ ≡ out
+keeps {groups} {tried} {comes} {answers} {out} {work} {r} reads (accepted es) e a h =
+    let z : r .number ≡ 0 = ap (λ (x : LarkResolved). x .number) (a .answer ∙ ap answers e) ∙ of-zero reads es in absurd (omega arith)
+keeps {groups} {tried} {comes} {answers} {out} {work} {r} reads (refused x) e a h =
     a .output ∙ ap (λ (o : Outcome). onto (bytesWritten o) out) e ∙ onto-none out
 
-no-refusal-writes : {comes : ℕ → ℕ → Outcome} {answers : Outcome → LarkResolved} {out work : List ℕ} {r : LarkResolved} {out′ work′ : List ℕ} →
-    Reads answers → Writes comes answers out work r out′ work′ → 0 < r .number → out′ ≡ out
-no-refusal-writes {comes} {answers} {out} {work} reads a h = keeps reads (comes (length out) (length work)) refl a h
+no-refusal-writes : {groups tried : ℕ} {comes : ℕ → ℕ → Outcome} {answers : Outcome → LarkResolved} {out work : List ℕ} {r : LarkResolved} {out′ work′ : List ℕ} →
+    Reads groups tried answers → Writes comes answers out work r out′ work′ → 0 < r .number → out′ ≡ out
+no-refusal-writes {groups} {tried} {comes} {answers} {out} {work} reads a h = keeps reads (comes (length out) (length work)) refl a h
 
-back : {answers : Outcome → LarkResolved} → Reads answers → (o : Outcome) (n p : ℕ) → 0 < n → answers o ≡ refusal n p → o ≡ refusing n p
-back {answers} reads (accepted es) n p h q =
-    let z : 0 ≡ n = sym (reads .of-accepted es) ∙ ap (λ (x : LarkResolved). x .number) q in absurd (omega arith)
-back {answers} reads (refused x) n p h q =
+back : {groups tried : ℕ} {answers : Outcome → LarkResolved} → Reads groups tried answers → (o : Outcome) (n p : ℕ) → 0 < n → answers o ≡ refusal n p → o ≡ refusing n p
+back {groups} {tried} {answers} reads (accepted es) n p h q =
+    let z : 0 ≡ n = sym (of-zero reads es) ∙ ap (λ (x : LarkResolved). x .number) q in absurd (omega arith)
+back {groups} {tried} {answers} reads (refused x) n p h q =
     let e : refusal (x .number) (x .place) ≡ refusal n p = sym (reads .of-refused (x .number) (x .place)) ∙ q in
     let e₁ : x .number ≡ n = ap (λ (y : LarkResolved). y .number) e in
     let e₂ : x .place ≡ p = ap (λ (y : LarkResolved). y .place) e in
@@ -162,12 +193,12 @@ abbrev pub Numbered : (ℕ → ℕ → Type 0) → LarkResolved → Type 0
 Numbered R r = Told (λ (x : LarkResolved). x .number) (λ (x : LarkResolved). x .place) refusal R r
 
 -- the rows as the resolver's own crate states them, read as numbers
-told : {comes : ℕ → ℕ → Outcome} {answers : Outcome → LarkResolved} {s : List ℕ} {options : ℕ} {Offends : ℕ → Type 0} {resolve : ℕ → ℕ → Resolution}
-    {out work : List ℕ} {r : LarkResolved} {out′ work′ : List ℕ} → Reads answers →
+told : {groups tried : ℕ} {comes : ℕ → ℕ → Outcome} {answers : Outcome → LarkResolved} {s : List ℕ} {options : ℕ} {Offends : ℕ → Type 0} {resolve : ℕ → ℕ → Resolution}
+    {out work : List ℕ} {r : LarkResolved} {out′ work′ : List ℕ} → Reads groups tried answers →
     comes (length out) (length work) ≡ outcome (admitted s options (length work)) resolve (length out) →
     ExactlyWritten s options (length work) Offends resolve (length out) → Writes comes answers out work r out′ work′ →
     Numbered (WrittenRow s options (length work) Offends (resolve (documentCount s) (eventCount s)) (length out)) r
-told {comes} {answers} {s} {options} {Offends} {resolve} {out} {work} {r} reads e x a =
+told {groups} {tried} {comes} {answers} {s} {options} {Offends} {resolve} {out} {work} {r} reads e x a =
     record {
       given = λ n p l. a .answer ∙ ap answers (e ∙ x .given n p l) ∙ reads .of-refused n p;
       only = λ n p h q. x .refused n p (sym e ∙ back reads (comes (length out) (length work)) n p h (sym (a .answer) ∙ q));
@@ -178,7 +209,7 @@ told {comes} {answers} {s} {options} {Offends} {resolve} {out} {work} {r} reads 
   where
     zero-number : (o : Outcome) → comes (length out) (length work) ≡ o →
         ((n p : ℕ) → WrittenRow s options (length work) Offends (resolve (documentCount s) (eventCount s)) (length out) n p → ⊥) → r .number ≡ 0
-    zero-number (accepted es) c none = ap (λ (y : LarkResolved). y .number) (a .answer ∙ ap answers c) ∙ reads .of-accepted es
+    zero-number (accepted es) c none = ap (λ (y : LarkResolved). y .number) (a .answer ∙ ap answers c) ∙ of-zero reads es
     zero-number (refused y) c none = absurd (none (y .number) (y .place) (x .refused (y .number) (y .place) (sym e ∙ c) .holds))
 
     none-held : (o : Outcome) → comes (length out) (length work) ≡ o → r .number ≡ 0 →
@@ -190,21 +221,33 @@ told {comes} {answers} {s} {options} {Offends} {resolve} {out} {work} {r} reads 
         absurd (omega arith)
 
     whole : (o : Outcome) → r ≡ answers o → 0 < r .number → r ≡ refusal (r .number) (r .place)
-    whole (accepted es) q h = let z : r .number ≡ 0 = ap (λ (v : LarkResolved). v .number) q ∙ reads .of-accepted es in absurd (omega arith)
+    whole (accepted es) q h = let z : r .number ≡ 0 = ap (λ (v : LarkResolved). v .number) q ∙ of-zero reads es in absurd (omega arith)
     whole (refused y) q h =
         let k : r ≡ refusal (y .number) (y .place) = q ∙ reads .of-refused (y .number) (y .place) in
         rw k refl
 
--- the claim of a call that writes, of one record and one option number: `As` is its promise, `bytes` what it writes with an output and a work
--- memory of these lengths, and `R` the rows of the table that it can give
-pub record Claim (As : List ℕ → List ℕ → LarkResolved → List ℕ → List ℕ → Type 0) (bytes : ℕ → ℕ → List ℕ) (R : ℕ → ℕ → ℕ → ℕ → Type 0) : Type 0 where
+-- with number 0 the resolver's definition makes events of the record: they are counted, with the groups and the candidates tried, and written
+pub record Accepts (made : Resolution) (groups tried : ℕ) (out : List ℕ) (r : LarkResolved) (out′ : List ℕ) : Type 0 where
+  pub events : List Event
+  pub made-so : made ≡ gives events
+  pub answer : r ≡ resolved (length events) groups tried
+  pub written : out′ ≡ onto (sectionBytes events) out
+
+-- the claim of a call that writes, of one record and one option number: `Offends` says which enter events break the shape rule, `made` is what
+-- the definition makes of the record, `groups` and `tried` are counted with it, `As` is the promise, and `bytes` what is written with an output
+-- and a work memory of these lengths
+pub record Claim (s : List ℕ) (options : ℕ) (Offends : ℕ → Type 0) (made : Resolution) (groups tried : ℕ)
+    (As : List ℕ → List ℕ → LarkResolved → List ℕ → List ℕ → Type 0) (bytes : ℕ → ℕ → List ℕ) : Type 0 where
   pub unique : (out work : List ℕ) (r₁ r₂ : LarkResolved) (o₁ o₂ w₁ w₂ : List ℕ) →
       As out work r₁ o₁ w₁ → As out work r₂ o₂ w₂ → (r₁ ≡ r₂) × (o₁ ≡ o₂) × (w₁ ≡ w₂)
   pub isolated : (out₁ out₂ work₁ work₂ : List ℕ) (r₁ r₂ : LarkResolved) (o₁ o₂ w₁ w₂ : List ℕ) →
       length out₁ ≡ length out₂ → length work₁ ≡ length work₂ → As out₁ work₁ r₁ o₁ w₁ → As out₂ work₂ r₂ o₂ w₂ →
       Isolated (bytes (length out₁) (length work₁)) out₁ out₂ r₁ r₂ o₁ o₂ w₁ w₂
-  pub exactly : (out work : List ℕ) (r : LarkResolved) (out′ work′ : List ℕ) → As out work r out′ work′ → Numbered (R (length out) (length work)) r
+  pub exactly : (out work : List ℕ) (r : LarkResolved) (out′ work′ : List ℕ) → As out work r out′ work′ →
+      Numbered (WrittenRow s options (length work) Offends made (length out)) r
   pub refusal-writes-nothing : (out work : List ℕ) (r : LarkResolved) (out′ work′ : List ℕ) → As out work r out′ work′ → 0 < r .number → out′ ≡ out
+  pub accepts : (out work : List ℕ) (r : LarkResolved) (out′ work′ : List ℕ) → As out work r out′ work′ → r .number ≡ 0 →
+      Accepts made groups tried out r out′
   pub fits : (out work : List ℕ) → length (bytes (length out) (length work)) ≤ length out
   pub wiped : (out work : List ℕ) (r : LarkResolved) (out′ work′ : List ℕ) → As out work r out′ work′ → work′ ≡ replicate (length work) 0
 
@@ -216,17 +259,18 @@ at-most a b f = go (leb a b) refl
     go false q = absurd (f (leb-false _ _ q))
 
 -- which holds of each, by its promise alone
-claimed : (comes : ℕ → ℕ → Outcome) (answers : Outcome → LarkResolved) (s : List ℕ) (options : ℕ) (Offends : ℕ → Type 0) (resolve : ℕ → ℕ → Resolution) →
-    Reads answers → ((outs works : ℕ) → comes outs works ≡ outcome (admitted s options works) resolve outs) →
+claimed : (comes : ℕ → ℕ → Outcome) (answers : Outcome → LarkResolved) (s : List ℕ) (options : ℕ) (Offends : ℕ → Type 0) (resolve : ℕ → ℕ → Resolution)
+    (groups tried : ℕ) → Reads groups tried answers → ((outs works : ℕ) → comes outs works ≡ outcome (admitted s options works) resolve outs) →
     ((outs works : ℕ) → ExactlyWritten s options works Offends resolve outs) →
-    Claim (Writes comes answers) (λ outs works. bytesWritten (comes outs works))
-    (λ outs works. WrittenRow s options works Offends (resolve (documentCount s) (eventCount s)) outs)
-claimed comes answers s options Offends resolve reads e x =
+    Claim s options Offends (resolve (documentCount s) (eventCount s)) groups tried (Writes comes answers)
+    (λ outs works. bytesWritten (comes outs works))
+claimed comes answers s options Offends resolve groups tried reads e x =
     record {
       unique = λ out work r₁ r₂ o₁ o₂ w₁ w₂ p q. writes-determined p q;
       isolated = λ out₁ out₂ work₁ work₂ r₁ r₂ o₁ o₂ w₁ w₂ eo ew p q. writes-isolated eo ew p q;
       exactly = λ out work r out′ work′ a. told reads (e (length out) (length work)) (x (length out) (length work)) a;
       refusal-writes-nothing = λ out work r out′ work′ a h. no-refusal-writes reads a h;
+      accepts = λ out work r out′ work′ a z. made-so out work r out′ work′ a z (comes (length out) (length work)) refl;
       fits = λ out work. room (length out) (length work) (comes (length out) (length work)) refl;
       wiped = λ out work r out′ work′ a. a .wiped;
     }
@@ -238,46 +282,53 @@ claimed comes answers s options Offends resolve reads e x =
         let g = x outs works .good es (sym (e outs works) ∙ c) in
         rw (c, length-section es) (at-most (4 + 8 * length es) outs (λ h. g .1 8 0 (row-8 es (g .0) h refl refl)))
 
--- lark_resolve_attention: what offends is a run
+    made-so : (out work : List ℕ) (r : LarkResolved) (out′ work′ : List ℕ) → Writes comes answers out work r out′ work′ → r .number ≡ 0 →
+        (o : Outcome) → comes (length out) (length work) ≡ o → Accepts (resolve (documentCount s) (eventCount s)) groups tried out r out′
+    made-so out work r out′ work′ a z (accepted es) c =
+        record {
+          events = es;
+          made-so = x (length out) (length work) .good es (sym (e (length out) (length work)) ∙ c) .0;
+          answer = a .answer ∙ ap answers c ∙ reads .of-accepted es;
+          written = a .output ∙ ap (λ (o : Outcome). onto (bytesWritten o) out) c;
+        }
+    made-so out work r out′ work′ a z (refused y) c =
+        let h = written-number (x (length out) (length work) .refused (y .number) (y .place) (sym (e (length out) (length work)) ∙ c) .holds) in
+        let k : r .number ≡ y .number = ap (λ (v : LarkResolved). v .number) (a .answer ∙ ap answers c ∙ reads .of-refused (y .number) (y .place)) in
+        absurd (omega arith)
+
+-- lark_resolve_attention: what offends is a run; the groups and the candidates tried are the plain rule's
 pub attention-claim : (s : List ℕ) (options : ℕ) →
-    Claim (AttentionAs s options) (λ outs works. bytesWritten (attentionOutcome s options outs works))
-    (λ outs works.
-    WrittenRow s options works (RunOffends (documentOf s (documentCount s)) options (eventsOf s (documentCount s) (eventCount s)))
-    (attention options (documentOf s (documentCount s)) (eventsOf s (documentCount s) (eventCount s))) outs)
+    Claim s options (RunOffends (docOf s) options (allEvents s)) (attention options (docOf s) (allEvents s))
+    (length (matching crate options (docOf s) (allEvents s) .groups)) (matching crate options (docOf s) (allEvents s) .tried)
+    (AttentionAs s options) (λ outs works. bytesWritten (attentionOutcome s options outs works))
 unfolding attentionOutcome
 attention-claim s options =
     claimed (attentionOutcome s options) (λ (o : Outcome). attentionOf (attentionAnswer s options o)) s options
-    (RunOffends (documentOf s (documentCount s)) options (eventsOf s (documentCount s) (eventCount s)))
-    (λ d e. attention options (documentOf s d) (eventsOf s d e))
+    (RunOffends (docOf s) options (allEvents s)) (λ d e. attention options (documentOf s d) (eventsOf s d e)) _ _
     (record { of-refused = λ n p. refl; of-accepted = λ es. refl })
     (λ outs works. refl)
     (λ outs works. attention-exactly-resolved s options works outs)
 
 -- lark_resolve_headings: what offends is a heading
 pub headings-claim : (s : List ℕ) (options : ℕ) →
-    Claim (HeadingsAs s options) (λ outs works. bytesWritten (headingOutcome s options outs works))
-    (λ outs works.
-    WrittenRow s options works (HeadingOffends (eventsOf s (documentCount s) (eventCount s)))
-    (headings (eventsOf s (documentCount s) (eventCount s))) outs)
+    Claim s options (HeadingOffends (allEvents s)) (headings (allEvents s)) 0 0 (HeadingsAs s options)
+    (λ outs works. bytesWritten (headingOutcome s options outs works))
 unfolding headingOutcome
 headings-claim s options =
-    claimed (headingOutcome s options) (λ (o : Outcome). headingsOf (headingAnswer o)) s options
-    (HeadingOffends (eventsOf s (documentCount s) (eventCount s))) (λ d e. headings (eventsOf s d e))
+    claimed (headingOutcome s options) (λ (o : Outcome). headingsOf (headingAnswer o)) s options (HeadingOffends (allEvents s))
+    (λ d e. headings (eventsOf s d e)) 0 0
     (record { of-refused = λ n p. refl; of-accepted = λ es. refl })
     (λ outs works. refl)
     (λ outs works. headings-exactly-resolved s options works outs)
 
 -- lark_resolve_lists: what offends is an item
 pub lists-claim : (s : List ℕ) (options : ℕ) →
-    Claim (ListsAs s options) (λ outs works. bytesWritten (listOutcome s options outs works))
-    (λ outs works.
-    WrittenRow s options works (ItemOffends (documentOf s (documentCount s)) (eventsOf s (documentCount s) (eventCount s)))
-    (lists (documentOf s (documentCount s)) (eventsOf s (documentCount s) (eventCount s))) outs)
+    Claim s options (ItemOffends (docOf s) (allEvents s)) (lists (docOf s) (allEvents s)) 0 0 (ListsAs s options)
+    (λ outs works. bytesWritten (listOutcome s options outs works))
 unfolding listOutcome
 lists-claim s options =
-    claimed (listOutcome s options) (λ (o : Outcome). listsOf (listAnswer o)) s options
-    (ItemOffends (documentOf s (documentCount s)) (eventsOf s (documentCount s) (eventCount s)))
-    (λ d e. lists (documentOf s d) (eventsOf s d e))
+    claimed (listOutcome s options) (λ (o : Outcome). listsOf (listAnswer o)) s options (ItemOffends (docOf s) (allEvents s))
+    (λ d e. lists (documentOf s d) (eventsOf s d e)) 0 0
     (record { of-refused = λ n p. refl; of-accepted = λ es. refl })
     (λ outs works. refl)
     (λ outs works. lists-exactly-resolved s options works outs)
