@@ -1,7 +1,7 @@
 -- The claims of the calls on a line, as C sees them: `lark_space_or_tab`, `lark_list_item`, `lark_continuation`, `lark_heading`.
 -- For each: any two answers that its promise allows are equal; each number is given exactly when the table says. The first three write
 -- nothing and take no memory, so there is nothing a buffer held that could show. The heading reader has isolation too, and no refusal and no finding of
--- it writes.
+-- it writes. Where no row holds, what is found is what the definition says.
 -- Assumes nothing.
 use Prim.Native.Nat.{ℕ, _+_, _*_, _<_, _≤_}
 use native.Mathlib.Omega.{arith}
@@ -13,9 +13,10 @@ use lib.Dec.{leb, ltb}
 use borrow.Author.Tests.{ltb-false}
 use Rattle.record.proofs.Output.{onto-bytes, onto-rest, onto-none}
 use Rattle.record.proofs.Sections.{length-section}
+use Rattle.record.specs.Event.{sectionBytes}
 use Rattle.record.specs.declared.event.Event.{Event}
 use Rattle.record.specs.Choice.{choose, and}
-use Rattle.record.specs.Outcome.{Outcome, accepted, refused, sized, onto}
+use Rattle.record.specs.Outcome.{Outcome, accepted, refused, refusing, sized, onto}
 use Rattle.record.specs.Rows.{Least}
 use Rattle.record.specs.declared.check.Refusal.{Refusal}
 use Rattle.scan.specs.Line.{lineOf, refusal, checkedLine, reading}
@@ -224,8 +225,8 @@ headed-whole (Heading events) h = absurd (omega arith)
 headed-whole NotHeading h = absurd (omega arith)
 headed-whole (HeadedRefused x) h = refl
 
--- the one reader that writes, with an output of the length `outs`
-pub record WritingClaim (As : List ℕ → LarkHeaded → List ℕ → Type 0) (bytes : ℕ → List ℕ) (R : ℕ → ℕ → ℕ → Type 0) : Type 0 where
+-- the one reader that writes, with an output of the length `outs`: `found` is what it answers, and `section` what it writes, where no row holds
+pub record WritingClaim (As : List ℕ → LarkHeaded → List ℕ → Type 0) (bytes : ℕ → List ℕ) (R : ℕ → ℕ → ℕ → Type 0) (found : LarkHeaded) (section : List ℕ) : Type 0 where
   pub unique : (out : List ℕ) (r₁ r₂ : LarkHeaded) (o₁ o₂ : List ℕ) → As out r₁ o₁ → As out r₂ o₂ → (r₁ ≡ r₂) × (o₁ ≡ o₂)
   pub isolated : (out₁ out₂ : List ℕ) (r₁ r₂ : LarkHeaded) (o₁ o₂ : List ℕ) → length out₁ ≡ length out₂ → As out₁ r₁ o₁ → As out₂ r₂ o₂ →
       (r₁ ≡ r₂) × (take (length (bytes (length out₁))) o₁ ≡ take (length (bytes (length out₁))) o₂)
@@ -233,6 +234,7 @@ pub record WritingClaim (As : List ℕ → LarkHeaded → List ℕ → Type 0) (
       drop (length (bytes (length out))) out′ ≡ drop (length (bytes (length out))) out
   pub exactly : (out : List ℕ) (r : LarkHeaded) (out′ : List ℕ) → As out r out′ →
       Told (λ (x : LarkHeaded). x .number) (λ (x : LarkHeaded). x .place) headedRefusal (R (length out)) r
+  pub finds : (out : List ℕ) (r : LarkHeaded) (out′ : List ℕ) → As out r out′ → ((n p : ℕ) → R (length out) n p → ⊥) → (r ≡ found) × (out′ ≡ onto section out)
   pub fits : (out : List ℕ) → length (bytes (length out)) ≤ length out
   pub only-a-heading-writes : (out : List ℕ) (r : LarkHeaded) (out′ : List ℕ) → As out r out′ → r .found ≡ 0 → out′ ≡ out
 
@@ -277,6 +279,34 @@ silent s options outs =
     silent-reading (checkedLine s options) (choose (isHeading (lineOf s) options) (headed (sized (headingEvents (lineOf s)) outs)) (nothing NotHeading))
     (silent-choice (isHeading (lineOf s) options) (sized (headingEvents (lineOf s)) outs))
 
+-- what is answered where a heading is found, or none is, comes with what is written then
+abbrev GoesWith : List Event → Bool → Result → Type 0
+GoesWith es z x = x .answer ≡ choose z (Heading (length es)) NotHeading → x .bytes ≡ choose z (sectionBytes es) []
+
+with-sized : (es : List Event) (long short : Bool) → GoesWith es true (headed (choose long (refusing 7 0) (choose short (refusing 8 0) (accepted es))))
+unfolding choose
+with-sized es true short q = let z : _≡_ {A = ℕ} 0 1 = cc in absurd (omega arith)
+with-sized es false true q = let z : _≡_ {A = ℕ} 0 1 = cc in absurd (omega arith)
+with-sized es false false q = refl
+
+with-choice : (es : List Event) (outs : ℕ) (z : Bool) → GoesWith es z (choose z (headed (sized es outs)) (nothing NotHeading))
+unfolding choose sized
+with-choice es outs true q = with-sized es (ltb 8000 (length es)) (ltb outs (4 + 8 * length es)) q
+with-choice es outs false q = refl
+
+with-reading : (c : Checked) (es : List Event) (z : Bool) (x : Result) → GoesWith es z x → GoesWith es z (reading c (λ r. nothing (HeadedRefused r)) x)
+unfolding reading choose
+with-reading (Ends n) es z x f q = f q
+with-reading (Bad r) es true x f q = let z : _≡_ {A = ℕ} 0 1 = cc in absurd (omega arith)
+with-reading (Bad r) es false x f q = let z : _≡_ {A = ℕ} 0 1 = cc in absurd (omega arith)
+
+goes-with : (s : List ℕ) (options outs : ℕ) → GoesWith (headingEvents (lineOf s)) (isHeading (lineOf s) options) (headedOf s options outs)
+unfolding headedOf headedIn
+goes-with s options outs =
+    with-reading (checkedLine s options) (headingEvents (lineOf s)) (isHeading (lineOf s) options)
+    (choose (isHeading (lineOf s) options) (headed (sized (headingEvents (lineOf s)) outs)) (nothing NotHeading))
+    (with-choice (headingEvents (lineOf s)) outs (isHeading (lineOf s) options))
+
 -- what is written fits
 within-choice : (z : Bool) (a b : Outcome) (outs : ℕ) → (z ≡ false → length (headed b .bytes) ≤ outs) → length (headed a .bytes) ≤ outs →
     length (headed (choose z a b) .bytes) ≤ outs
@@ -307,7 +337,9 @@ within s options outs =
     within-reading (checkedLine s options) (choose (isHeading (lineOf s) options) (headed (sized (headingEvents (lineOf s)) outs)) (nothing NotHeading)) outs
     (within-line (isHeading (lineOf s) options) (sized (headingEvents (lineOf s)) outs) outs (within-sized (headingEvents (lineOf s)) outs))
 
-pub heading-claim : (s : List ℕ) (options : ℕ) → WritingClaim (HeadedAs s options) (λ outs. headedOf s options outs .bytes) (WritingRow s options)
+pub heading-claim : (s : List ℕ) (options : ℕ) →
+    WritingClaim (HeadedAs s options) (λ outs. headedOf s options outs .bytes) (WritingRow s options)
+    (headedNumbers (headingFound (lineOf s) options)) (choose (isHeading (lineOf s) options) (sectionBytes (headingEvents (lineOf s))) [])
 heading-claim s options =
     record {
       unique = λ out r₁ r₂ o₁ o₂ p q. (p .answer ∙ sym (q .answer), p .output ∙ sym (q .output));
@@ -320,6 +352,9 @@ heading-claim s options =
           );
       rest-kept = λ out r out′ a. seam (headedOf s options (length out) .bytes) out out′ (a .output) .1;
       exactly = λ out r out′ a. heading-told s options (length out) r (a .answer);
+      finds = λ out r out′ a none.
+          let so = heading-exactly s options (length out) .finds none in
+          (a .answer ∙ ap headedNumbers so, a .output ∙ ap (λ (bs : List ℕ). onto bs out) (goes-with s options (length out) so));
       fits = λ out. within s options (length out);
       only-a-heading-writes = λ out r out′ a z.
           let none = silent s options (length out) (sym (ap (λ (x : LarkHeaded). x .found) (a .answer)) ∙ z) in
