@@ -1,38 +1,25 @@
 -- From the load pass to the matcher: with the runs in their slots and every chain empty, the matcher can begin.
 -- Assumes nothing.
-use mathlib.Core.Path.{_≡_, refl, sym, ap, _∙_}
+use mathlib.Core.Path.{_≡_, sym, ap, _∙_}
 use mathlib.Core.Bool.{Bool, true, false, not}
 use mathlib.Core.List.{List}
-use mathlib.Core.Option.{Option, none, some}
 use Prim.Native.Nat.{ℕ, _+_, _*_, _≤_, _<_}
 use native.Mathlib.Omega.{arith}
 use lib.Dec.{eqb}
 use lib.ListN.{length, getD, length-map}
-use Rattle.record.specs.Choice.{choose}
 use Rattle.record.specs.declared.event.Event.{Event}
 use Rattle.runs.specs.Runs.{runsOf}
 use Rattle.runs.specs.Rule.{crate}
-use Rattle.runs.specs.Plain.{Standing, at}
+use Rattle.runs.specs.Plain.{at}
 use Rattle.runs.specs.Pieces.{standing}
 use Rattle.slots.specs.Words.{get16}
 use Rattle.slots.specs.Layout.{Room, linkOf, chainOf}
 use Rattle.groups.specs.Matches.{begin}
-use Rattle.loading.specs.Chains.{containerNumber, markerNumber, chainNumber as loadedNumber}
 use Rattle.loading.specs.Held.{Slotted}
 use Rattle.loading.specs.Promise.{Ready as Loaded}
-use Rattle.matcher.specs.Chains.{markerIndex, containerIndex, chainNumber, Reads}
+use Rattle.matcher.specs.Chains.{Reads}
 use Rattle.matcher.specs.State.{Fresh}
 use Rattle.attention.specs.Start.{Cleared}
-
--- both crates number the chains alike
-same-container : (o : Option ℕ) → containerNumber o ≡ containerIndex o
-unfolding containerIndex
-same-container none = refl
-same-container (some k) = refl
-
-same-number : (r : Standing) → loadedNumber r ≡ chainNumber r
-unfolding loadedNumber chainNumber markerNumber markerIndex
-same-number r = ap (λ (k : ℕ). 3 * k + choose (eqb (r .marker) 42) 0 (choose (eqb (r .marker) 95) 1 2)) (same-container (r .container))
 
 module _ {options : ℕ} {doc : List ℕ} {es : List Event} {n : ℕ} {w w′ : List ℕ} (room : Room w) (l : Loaded doc es options n w) (c : Cleared w 6147 w′) where
   pair-kept : (b : ℕ) → b + 1 < 16384 → get16 w′ b ≡ get16 w b
@@ -78,7 +65,7 @@ module _ {options : ℕ} {doc : List ℕ} {es : List Event} {n : ℕ} {w w′ : 
               marker = λ j h. let k : j < 1024 = low j h in c .slots (j * 16 + 4) (omega arith) ∙ slot j h .marker;
               opens = λ j h p. let k : j < 1024 = low j h in flag-kept (j * 16 + 5) (omega arith) ∙ slot j h .opens;
               closes = λ j h. let k : j < 1024 = low j h in flag-kept (j * 16 + 6) (omega arith) ∙ slot j h .closes;
-              chain = λ j h. let k : j < 1024 = low j h in pair-kept (j * 16 + 8) (omega arith) ∙ slot j h .chain ∙ same-number (at (begin crate options doc es) j);
+              chain = λ j h. let k : j < 1024 = low j h in pair-kept (j * 16 + 8) (omega arith) ∙ slot j h .chain;
               known = λ j h. slot j h .marked;
             };
         heads = c .heads;

@@ -14,9 +14,9 @@ use Rattle.record.proofs.Parts.{document-byte}
 use Rattle.runs.specs.Runs.{optionOn, isMarker, byteAt, byteBefore, innermostOf, runOf}
 use Rattle.runs.specs.Flanking.{canOpen, canClose}
 use Rattle.runs.specs.Rule.{crate}
+use Rattle.runs.specs.Chains.{containerNumber, markerNumber, chainNumber}
 use Rattle.runs.specs.Pieces.{standing}
 use Rattle.runs.proofs.Firsts.{orFeed, feed-opens, feed-closes}
-use Rattle.loading.specs.Chains.{containerNumber, markerNumber, chainNumber}
 use Rattle.loading.specs.Held.{Slotted}
 use Rattle.loading.specs.Filling.{Filled, Settling, Settled}
 

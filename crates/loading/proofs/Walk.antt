@@ -19,8 +19,8 @@ use Rattle.record.proofs.Soundness.{Stands, after-enter, after-exit}
 use Rattle.runs.specs.Runs.{Run, innermostOf, runOf, runsOf, shaped, offender}
 use Rattle.runs.specs.Rule.{crate}
 use Rattle.runs.specs.Plain.{Standing, at}
+use Rattle.runs.specs.Chains.{containerNumber}
 use Rattle.runs.specs.Pieces.{standing}
-use Rattle.loading.specs.Chains.{containerNumber}
 use Rattle.loading.specs.Held.{Slotted, Holds}
 use Rattle.loading.specs.Filling.{Keeps, Settling, Settled}
 use Rattle.loading.specs.Promise.{Loadable, Ready, Loads}

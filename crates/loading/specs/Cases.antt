@@ -8,8 +8,8 @@ use mathlib.Core.Option.{Option, none, some}
 use Rattle.record.specs.Choice.{choose, and}
 use Rattle.runs.specs.Runs.{optionOn, isMarker, allAre, byteAt, allowed}
 use Rattle.runs.specs.Plain.{Standing}
+use Rattle.runs.specs.Chains.{markerNumber, chainNumber}
 use Rattle.loading.specs.Between.{between}
-use Rattle.loading.specs.Chains.{markerNumber, chainNumber}
 
 abbrev run : ℕ → Option ℕ → Standing
 run marker container = record { marker = marker; container = container; whole = 1; left = 1; opens = true; closes = true }

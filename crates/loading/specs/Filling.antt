@@ -11,9 +11,9 @@ use Rattle.record.specs.declared.event.Event.{Event}
 use Rattle.runs.specs.Runs.{isMarker, innermostOf, runOf}
 use Rattle.runs.specs.Rule.{crate}
 use Rattle.runs.specs.Plain.{Standing}
+use Rattle.runs.specs.Chains.{containerNumber}
 use Rattle.runs.specs.Pieces.{standing}
 use Rattle.slots.specs.Layout.{Room, wholeOf, leftOf, markerOf, opensOf, closesOf, chainOf, firstGroupOf, latestGroupOf, linkOf}
-use Rattle.loading.specs.Chains.{containerNumber}
 use Rattle.loading.specs.Held.{Slotted}
 
 -- a flag as a byte

@@ -10,8 +10,8 @@ use lib.ListN.{length}
 use Rattle.record.specs.Choice.{and}
 use Rattle.runs.specs.Runs.{isMarker}
 use Rattle.runs.specs.Plain.{Standing, at, sameContainer}
+use Rattle.runs.specs.Chains.{chainNumber, same-chain}
 use Rattle.slots.specs.Layout.{wholeOf, leftOf, markerOf, opensOf, closesOf, chainOf, firstGroupOf, latestGroupOf, linkOf}
-use Rattle.loading.specs.Chains.{chainNumber, same-chain}
 
 -- the slot n holds this run, which is in no group yet and on no chain
 pub record Slotted (w : List ℕ) (n : ℕ) (r : Standing) : Type 0 where

@@ -1,5 +1,4 @@
 pub mod Between
-pub mod Chains
 pub mod Held
 pub mod Filling
 pub mod Promise

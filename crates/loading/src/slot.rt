@@ -21,9 +21,9 @@ ghost use Prim.Native.Nat.{_+_, _*_, _≤_, _<_};
 ghost use lib.ListN.{length};
 ghost use Rattle.record.specs.Event.{documentOf};
 ghost use Rattle.runs.specs.Runs.{byteAt, byteBefore};
+ghost use Rattle.runs.specs.Chains.{markerNumber};
 ghost use Rattle.runs.proofs.Firsts.{orFeed};
 ghost use Rattle.slots.specs.Layout.{Room, withOpens, withCloses, withChain, withFirstGroup, withLatestGroup, withLink};
-ghost use Rattle.loading.specs.Chains.{markerNumber};
 ghost use Rattle.loading.specs.Filling.{bit, Filled, Settling, Settled};
 
 // A flag as a byte.

@@ -15,10 +15,11 @@ use borrow.Author.Tests.{eq-eqb, ne-eqb, eqb-true, eqb-false, ltb-true, ltb-fals
 use Rattle.record.specs.Choice.{choose, and}
 use Rattle.record.proofs.Bools.{clash}
 use Rattle.runs.specs.Plain.{Standing, at, opener}
+use Rattle.runs.specs.Chains.{chainNumber}
 use Rattle.slots.specs.Words.{get16, put16}
 use Rattle.slots.specs.Layout.{leftOf, opensOf, linkOf, headOf, chainOf, openAt}
 use Rattle.slots.proofs.Laws.{Apart, Beside}
-use Rattle.matcher.specs.Chains.{chainNumber, on, latest, openers, Listed}
+use Rattle.matcher.specs.Chains.{on, latest, openers, Listed}
 use Rattle.chains.specs.Step.{unchained, popped, cleared}
 use Rattle.matcher.proofs.Lists.{on-opener, on-chain, on-yes, on-not, latest-on, latest-off, latest-shut, latest-level, openers-le, openers-on, openers-off, openers-past, openers-shut, openers-level, Level, level-less, Shut}
 use Rattle.matcher.proofs.Frames.{SameRuns, SameLeft, SameGroups, SameChains, same-runs, runs-then, groups-then, listed-same}

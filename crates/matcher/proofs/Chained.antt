@@ -18,11 +18,12 @@ use Rattle.runs.specs.declared.Next.{Next}
 use Rattle.runs.specs.declared.Next.the-variants.{Match, Done}
 use Rattle.runs.specs.Rule.{Rule, Side}
 use Rattle.runs.specs.Plain.{Standing, Group, at, sideOf, opener, closer, candidate, takes, Look, hit, miss, settle, back, look, forth}
+use Rattle.runs.specs.Chains.{chainNumber}
 use Rattle.slots.specs.Words.{get16, put16}
 use Rattle.slots.specs.Layout.{leftOf, markerOf, opensOf, closesOf, linkOf, headOf, chainOf, openAt}
 use Rattle.slots.proofs.Laws.{Apart, Beside}
 use Rattle.chains.specs.Walk.{down, seek, first, takesAt, bothAt, closing, opening, passed, raised, onward, Sound}
-use Rattle.matcher.specs.Chains.{chainNumber, on, latest, openers, Reads, Listed}
+use Rattle.matcher.specs.Chains.{on, latest, openers, Reads, Listed}
 use Rattle.matcher.specs.Groups.{Grouped}
 use Rattle.matcher.specs.State.{Ready}
 use Rattle.chains.proofs.Flags.{passed-on, passed-off, raised-on, raised-off, opening-none, opening-some, closing-none, closing-some}

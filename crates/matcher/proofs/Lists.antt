@@ -4,20 +4,20 @@
 --     openers-more, openers-same ..           the same of the count
 --     candidate-on                            the plain rule's candidates are the runs on the closer's chain
 -- Assumes nothing.
-use Prim.Native.Nat.{ℕ, zero, suc, _+_, _-_, _*_, _<_, _≤_}
-use mathlib.Core.Path.{_≡_, refl, _∙_, sym, ap}
+use Prim.Native.Nat.{ℕ, zero, suc, _+_, _-_, _<_, _≤_}
+use mathlib.Core.Path.{_≡_, refl, _∙_}
 use mathlib.Core.List.{List}
 use mathlib.Core.Bool.{Bool, true, false, _||_}
-use mathlib.Core.Option.{Option, none, some}
 use native.Mathlib.Omega.{arith}
 use native.Mathlib.Numerals.{add-one}
 use lib.Dec.{eqb, ltb}
-use borrow.Author.Tests.{eq-eqb, ne-eqb, eqb-true, eqb-false}
-use Rattle.record.specs.Choice.{choose, and}
+use borrow.Author.Tests.{eq-eqb, eqb-true}
+use Rattle.record.specs.Choice.{choose}
 use Rattle.record.proofs.Bools.{and-left, and-right, and-both, clash}
 use Rattle.runs.specs.Runs.{isMarker}
-use Rattle.runs.specs.Plain.{Standing, at, opener, candidate, sameContainer}
-use Rattle.matcher.specs.Chains.{markerIndex, containerIndex, chainNumber, on, latest, openers}
+use Rattle.runs.specs.Plain.{Standing, at, opener, candidate}
+use Rattle.runs.specs.Chains.{chainNumber, same-chain}
+use Rattle.matcher.specs.Chains.{on, latest, openers}
 
 module _ (rs : List Standing) (k j : ℕ) where
   pub on-opener : on rs k j ≡ true → opener (at rs j) ≡ true
@@ -141,71 +141,8 @@ openers-shut rs a (suc m) h =
     let e : a + suc m ≡ a + m + 1 = omega arith in
     rw e (openers-off rs (a + m) (h (a + m) (omega arith) (omega arith)) ∙ openers-shut rs a m (λ j x y. h j x (omega arith)))
 
--- a marker is known by its index
-index-low : (m : ℕ) → markerIndex m < 3
-unfolding markerIndex choose
-index-low m = go (eqb m 42) (eqb m 95)
-  where
-    go : (x y : Bool) → choose x 0 (choose y 1 2) < 3
-    go true y = omega arith
-    go false true = omega arith
-    go false false = omega arith
-
-index-back : (m : ℕ) → isMarker m ≡ true → m ≡ choose (eqb (markerIndex m) 0) 42 (choose (eqb (markerIndex m) 1) 95 126)
-unfolding isMarker markerIndex choose
-index-back m h = go (eqb m 42) refl (eqb m 95) refl (eqb m 126) refl
-  where
-    go : (x : Bool) → eqb m 42 ≡ x → (y : Bool) → eqb m 95 ≡ y → (z : Bool) → eqb m 126 ≡ z
-        → m ≡ choose (eqb (markerIndex m) 0) 42 (choose (eqb (markerIndex m) 1) 95 126)
-    go true a y b z d = rw a (eqb-true m 42 a)
-    go false a true b z d = rw (a, b) (eqb-true m 95 b)
-    go false a false b true d = rw (a, b) (eqb-true m 126 d)
-    go false a false b false d = let f : _≡_ {A = Bool} false true = rw (a, b, d) at h in absurd (clash f refl)
-
-index-same : (m l : ℕ) → isMarker m ≡ true → isMarker l ≡ true → markerIndex m ≡ markerIndex l → m ≡ l
-index-same m l a b e =
-    index-back m a ∙ ap (λ x. choose (eqb x 0) 42 (choose (eqb x 1) 95 126)) e ∙ sym (index-back l b)
-
--- containers are the same where their indices are
-container-same : (a b : Option ℕ) → sameContainer a b ≡ eqb (containerIndex a) (containerIndex b)
-unfolding sameContainer containerIndex
-container-same none none = refl
-container-same none (some b) = sym (ne-eqb 0 (b + 1) (λ e. omega arith))
-container-same (some a) none = sym (ne-eqb (a + 1) 0 (λ e. omega arith))
-container-same (some a) (some b) = go (eqb a b) refl
-  where
-    go : (z : Bool) → eqb a b ≡ z → eqb a b ≡ eqb (a + 1) (b + 1)
-    go true e = rw e (sym (eq-eqb (a + 1) (b + 1) (let q : a ≡ b = eqb-true a b e in omega arith)))
-    go false e = rw e (sym (ne-eqb (a + 1) (b + 1) (λ x. eqb-false a b e (omega arith))))
-
--- one chain, one marker and one container
-chain-same : (a b : Standing) → isMarker (a .marker) ≡ true → isMarker (b .marker) ≡ true
-    → eqb (chainNumber a) (chainNumber b) ≡ and (eqb (a .marker) (b .marker)) (sameContainer (a .container) (b .container))
-unfolding chainNumber and
-chain-same a b ka kb = rw (container-same (a .container) (b .container)) (go (eqb (a .marker) (b .marker)) refl (eqb (containerIndex (a .container)) (containerIndex (b .container))) refl)
-  where
-    la : markerIndex (a .marker) < 3
-    la = index-low (a .marker)
-
-    lb : markerIndex (b .marker) < 3
-    lb = index-low (b .marker)
-
-    go : (x : Bool) → eqb (a .marker) (b .marker) ≡ x → (y : Bool) → eqb (containerIndex (a .container)) (containerIndex (b .container)) ≡ y
-        → eqb (3 * containerIndex (a .container) + markerIndex (a .marker)) (3 * containerIndex (b .container) + markerIndex (b .marker))
-        ≡ and (eqb (a .marker) (b .marker)) (eqb (containerIndex (a .container)) (containerIndex (b .container)))
-    go true e true f =
-        let m : markerIndex (a .marker) ≡ markerIndex (b .marker) = ap markerIndex (eqb-true (a .marker) (b .marker) e) in
-        let k : containerIndex (a .container) ≡ containerIndex (b .container) = eqb-true (containerIndex (a .container)) (containerIndex (b .container)) f in
-        rw (e, f) (eq-eqb (3 * containerIndex (a .container) + markerIndex (a .marker)) (3 * containerIndex (b .container) + markerIndex (b .marker)) (omega arith))
-    go true e false f =
-        let k : containerIndex (a .container) ≡ containerIndex (b .container) → ⊥ = eqb-false (containerIndex (a .container)) (containerIndex (b .container)) f in
-        rw (e, f) (ne-eqb (3 * containerIndex (a .container) + markerIndex (a .marker)) (3 * containerIndex (b .container) + markerIndex (b .marker)) (λ x. k (omega (arith, la, lb))))
-    go false e y f =
-        let k : markerIndex (a .marker) ≡ markerIndex (b .marker) → ⊥ = λ x. eqb-false (a .marker) (b .marker) e (index-same (a .marker) (b .marker) ka kb x) in
-        rw e (ne-eqb (3 * containerIndex (a .container) + markerIndex (a .marker)) (3 * containerIndex (b .container) + markerIndex (b .marker)) (λ x. k (omega (arith, la, lb))))
-
 -- the plain rule's candidates for a closer are the runs on its chain
 pub candidate-on : (rs : List Standing) (j i : ℕ) → isMarker (at rs j .marker) ≡ true → isMarker (at rs i .marker) ≡ true
     → candidate (at rs j) (at rs i) ≡ on rs (chainNumber (at rs i)) j
 unfolding candidate on
-candidate-on rs j i kj ki = rw (chain-same (at rs j) (at rs i) kj ki)
+candidate-on rs j i kj ki = rw (same-chain (at rs j) (at rs i) kj ki)

@@ -14,7 +14,7 @@ use borrow.Author.Tests.{eq-eqb, ne-eqb, eqb-true, eqb-false, lt-ltb, le-ltb, lt
 use Rattle.record.specs.Choice.{choose, and}
 use Rattle.record.proofs.Bools.{and-left, and-right, and-both, and-false, clash}
 use Rattle.runs.specs.Plain.{Standing, at, opener, closer, amount, takenBy, alter, change, matched, total}
-use Rattle.matcher.specs.Chains.{chainNumber}
+use Rattle.runs.specs.Chains.{chainNumber}
 use Rattle.matcher.proofs.Lists.{Level, Shut}
 use Rattle.chains.proofs.Pops.{amount-le}
 

@@ -18,7 +18,7 @@ use Rattle.runs.specs.Plain.{Standing, Group, group, at, opener, closer, amount
 use Rattle.slots.specs.Words.{get16, put16}
 use Rattle.slots.specs.Layout.{wholeOf, leftOf, markerOf, opensOf, closesOf, linkOf, headOf, chainOf, openAt, withLeft}
 use Rattle.slots.proofs.Laws.{Apart, Beside, length-put, get-put-same, word-after-word, byte-after-word}
-use Rattle.matcher.specs.Chains.{chainNumber, openers, Reads, Listed}
+use Rattle.matcher.specs.Chains.{openers, Reads, Listed}
 use Rattle.matcher.specs.Groups.{Grouped}
 use Rattle.matcher.specs.State.{Ready}
 use Rattle.chains.specs.Step.{unchained, cleared, leaves, lowered, joined, takenAt, matchedAt, Ranged, Takable}

@@ -3,28 +3,17 @@
 -- open, latest first, as the plain rule has them on finishing that closer".
 -- The list is said without lists: the head of a chain is the latest such run, and the link of each is the latest such run before it.
 -- Assumes nothing.
-use Prim.Native.Nat.{ℕ, zero, suc, _+_, _*_, _<_, _≤_}
+use Prim.Native.Nat.{ℕ, zero, suc, _+_, _<_}
 use mathlib.Core.Path.{_≡_}
 use mathlib.Core.Bool.{Bool, true, false}
 use mathlib.Core.List.{List}
-use mathlib.Core.Option.{Option, none, some}
 use lib.Dec.{eqb, ltb}
 use lib.ListN.{length}
 use Rattle.record.specs.Choice.{choose, and}
 use Rattle.runs.specs.Runs.{isMarker}
 use Rattle.runs.specs.Plain.{Standing, at, opener}
+use Rattle.runs.specs.Chains.{chainNumber}
 use Rattle.slots.specs.Layout.{Room, wholeOf, leftOf, markerOf, opensOf, closesOf, chainOf, linkOf, headOf, openAt}
-
--- "one per marker and container": three to each container, one more triple for the runs that stand in none
-unfoldable pub markerIndex : ℕ → ℕ
-markerIndex marker = choose (eqb marker 42) 0 (choose (eqb marker 95) 1 2)
-
-unfoldable pub containerIndex : Option ℕ → ℕ
-containerIndex none = 0
-containerIndex (some e) = e + 1
-
-unfoldable pub chainNumber : Standing → ℕ
-chainNumber r = 3 * containerIndex (r .container) + markerIndex (r .marker)
 
 -- slot by slot the memory has the runs of a list. Whether a run opens is asked only while it has markers left: after that nothing looks
 pub record Reads (w : List ℕ) (rs : List Standing) (n : ℕ) : Type 0 where

@@ -3,6 +3,7 @@ pub mod Flanking
 pub mod Rule
 pub mod Paragraph
 pub mod Plain
+pub mod Chains
 pub mod Pieces
 pub mod Output
 pub mod Texts

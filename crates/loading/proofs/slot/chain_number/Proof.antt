@@ -3,7 +3,7 @@
 use native.Mathlib.Omega.{arith}
 use borrow.Author.Tests.{eq-eqb, ne-eqb}
 use Rattle.record.specs.Choice.{choose}
-use Rattle.loading.specs.Chains.{markerNumber}
+use Rattle.runs.specs.Chains.{markerNumber}
 use borrow.Author.Needs.{needs}
 use Rattle.loading.proofs.slot.chain_number.Statement.{statement}
 use Rattle.loading.proofs.slot.chain_number.Tie as tie

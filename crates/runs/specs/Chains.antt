@@ -1,4 +1,5 @@
--- The number of a run's chain: one chain to each marker and container. The map of work memory has room for 6,147 of them.
+-- Document 01's "the chains, one per marker and container" as a number: the one that the load pass gives a run and the matcher goes by. With
+-- 2,048 events there are 6,147 of them. `same-chain` is their law: two runs have one number just where they have one marker and one container.
 -- Assumes nothing.
 use Prim.Native.Nat.{ℕ, _+_, _*_, _<_}
 use mathlib.Core.Path.{_≡_, refl, sym, ap}
