@@ -14,7 +14,7 @@ use Prim.Native.Nat.{ℕ, _+_, _<_, _≤_}
 use native.Mathlib.Omega.{arith}
 use mathlib.Core.Path.{_≡_, refl, sym, ap, _∙_}
 use mathlib.Core.Bool.{true}
-use mathlib.Core.List.{List}
+use mathlib.Core.List.{List, []}
 use mathlib.Core.Option.{Option, none, some}
 use lib.ListN.{length}
 use Rattle.record.specs.Event.{documentOf, eventsOf, sectionBytes}
@@ -35,6 +35,7 @@ use Rattle.runs.specs.Rule.{Rule, crate}
 use Rattle.runs.specs.Pieces.{outcome}
 use Rattle.runs.specs.Output.{output}
 use Rattle.groups.specs.Theorems.{groupsOf}
+use Rattle.groups.specs.Matches.{begin}
 use Rattle.groups.specs.Spans.{Held, NeverCross}
 use Rattle.groups.specs.Containers.{NeverCrosses, OneContainer}
 use Rattle.groups.proofs.Theorems as groups
@@ -43,9 +44,14 @@ use Rattle.output.specs.Tiling.{allPieces, holding, Marker}
 use Rattle.output.proofs.MarkerBytes as pieces
 use Rattle.attention.specs.Attention.{unlessOffended, attention}
 use Rattle.attention.specs.Promise.{resolution, answerOf}
+use Rattle.attention.specs.Start.{Cleared}
 use Rattle.attention.proofs.Exactly.{exactly-resolved}
+use Rattle.attention.proofs.Beginning.{begins}
 use Rattle.ledgerlark.specs.Answers.{attentionOf, AttentionAs}
 use Rattle.ledgerlark.specs.declared.resolve.LarkResolved.{LarkResolved}
+use Rattle.slots.specs.Layout.{Room}
+use Rattle.loading.specs.Promise.{Loads}
+use Rattle.loading.specs.declared.pass.Loaded.the-variants.{Runs}
 use Rattle.matcher.specs.Promise.{Answers, Handles}
 use Rattle.matcher.specs.Closer.{closerFrom}
 use Rattle.matcher.specs.Chains.{Listed}
@@ -53,6 +59,7 @@ use Rattle.matcher.specs.Along.{closerBy, chained}
 use Rattle.matcher.specs.Groups.{Grouped}
 use Rattle.matcher.specs.State.{Fresh, Ready}
 use Rattle.matcher.proofs.Chained.{onward-went}
+use Rattle.matcher.proofs.Resolving.{fresh-ready}
 use Rattle.chains.specs.Walk.{onward}
 use Rattle.claims.specs.Records.{docOf, allEvents, written-number}
 use Rattle.matcher.specs.declared.closers.Step.the-variants.{Closed}
@@ -153,6 +160,37 @@ pub groups-are-the-plain-rule's : (rule : Rule) (w : List ℕ) (n made tried : �
     × ((rs : List Standing) → Fresh w rs n →
     (made ≡ length (plain rule rs .groups)) × (tried ≡ plain rule rs .tried) × Grouped w′ (plain rule rs .groups) n)
 groups-are-the-plain-rule's rule w n made tried w′ a = (a .along, λ rs f. let x = a .of rs f in (x .made, x .count, x .grouped))
+
+-- of a record: `Loads` is what the pass that loads the runs promises (crates/loading), `Cleared` what clearing the heads of the chains does
+-- (crates/attention). After both the memory is as before the first match, for the runs of this record: here the statements on chains begin
+pub accepted-begins : (s : List ℕ) (options n : ℕ) (w w₁ w₂ : List ℕ) → Room w → Loads s (documentCount s) (eventCount s) options w (Runs n) w₁ →
+    Cleared w₁ 6147 w₂ → Fresh w₂ (begin crate options (docOf s) (allEvents s)) n
+accepted-begins s options n w w₁ w₂ room l c = let same = l .same-length in begins (omega arith) (l .runs n refl) c
+
+-- so the groups that the memory then holds are those that are reported and written
+pub accepted-groups : (s : List ℕ) (options n made tried : ℕ) (w w′ : List ℕ) → Fresh w (begin crate options (docOf s) (allEvents s)) n →
+    Answers (crate .rule options) w n (Groups made tried) w′ →
+    (made ≡ length (plainGroups s options)) × (tried ≡ outcome crate options (docOf s) (allEvents s) .tried) × Grouped w′ (plainGroups s options) n
+unfolding outcome
+accepted-groups s options n made tried w w′ f a = groups-are-the-plain-rule's (crate .rule options) w n made tried w′ a .1 (begin crate options (docOf s) (allEvents s)) f
+
+-- where a matcher stands that began on the memory w₀ with the runs rs₀, and has gone on by steps that keep the promise of `handle_closer`: its
+-- memory, the height of its open runs, the run to go on from, the candidates tried; and the groups and runs as the plain rule has them by then
+pub data Stands (rule : Rule) (n : ℕ) (w₀ : List ℕ) (rs₀ : List Standing) : List ℕ → ℕ → ℕ → ℕ → List Group → List Standing → Type 0 where
+  at-the-first : Stands rule n w₀ rs₀ w₀ 0 0 0 [] rs₀
+  after-a-closer : {w w′ : List ℕ} {height from tried next height′ groups′ tried′ : ℕ} {gs : List Group} {rs : List Standing} →
+      Stands rule n w₀ rs₀ w height from tried gs rs → Handles rule w height n from (length gs) tried (Closed next height′ groups′ tried′) w′ →
+      Stands rule n w₀ rs₀ w′ height′ next tried′ (closerFrom rule rs from gs tried .groups) (closerFrom rule rs from gs tried .runs)
+
+ready-there : {rule : Rule} {n : ℕ} {w₀ : List ℕ} {rs₀ : List Standing} {w : List ℕ} {height from tried : ℕ} {gs : List Group} {rs : List Standing} →
+    Fresh w₀ rs₀ n → Stands rule n w₀ rs₀ w height from tried gs rs → Ready w height rs gs n from
+ready-there f at-the-first = fresh-ready _ _ _ f
+ready-there f (after-a-closer st h) = let x = h .of _ _ (ready-there f st) refl in rw (x .at) (x .ready)
+
+-- after each closer that takes an opener, from the first to the last, the chains hold exactly the runs up to it that can still open
+pub chains-after-each : (rule : Rule) (n : ℕ) (w₀ : List ℕ) (rs₀ : List Standing) (w : List ℕ) (height from tried : ℕ) (gs : List Group) (rs : List Standing) →
+    Fresh w₀ rs₀ n → Stands rule n w₀ rs₀ w height from tried gs rs → Listed w height rs from
+chains-after-each rule n w₀ rs₀ w height from tried gs rs f st = ready-there f st .listed
 
 -- after each closer the chains hold exactly the runs up to it that can still open, as the plain rule has them on finishing that closer. A closer
 -- that takes an opener is a step of its own: this is what the step promises
