@@ -17,11 +17,11 @@ use Rattle.record.specs.Stack.{fitsOpen, after}
 use Rattle.record.specs.Sound.{placed, soundFrom}
 use Rattle.record.specs.declared.event.Event.{Event}
 use Rattle.record.proofs.Bools.{and-left, and-right}
+use Rattle.record.proofs.Chosen.{chosen}
 use Rattle.scan.specs.Run.{or, spaceOrTab, hash, leading, first, blanks, blanksUpTo, indentation}
 use Rattle.atx.specs.Heading.{opening, isHeading, piece, pieceOf, pieces, split, eventsFrom, headingEvents}
 use Rattle.atx.specs.Laws.{gapless, HeadingLaws, HeadingShape}
 use Rattle.atx.specs.declared.Piece.{Piece}
-use Rattle.scan.proofs.Chosen.{chosen}
 use Rattle.scan.proofs.Leading.{leading-short, first-of}
 use Rattle.scan.proofs.Blanks.{blanks-length}
 use Rattle.atx.proofs.Pieces.{sized, split-cons}
