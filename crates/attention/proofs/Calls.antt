@@ -9,6 +9,7 @@ use native.Mathlib.Omega.{arith}
 use lib.ListN.{length}
 use borrow.Author.Tests.{lt-ltb}
 use Rattle.record.specs.Choice.{choose}
+use Rattle.record.specs.Options.{optionOn}
 use Rattle.record.specs.Bytes.{u32At}
 use Rattle.record.specs.Event.{documentOf, eventsOf}
 use Rattle.record.specs.Check.{refuse, admitted}
@@ -21,7 +22,7 @@ use Rattle.record.specs.declared.check.Reading.the-variants as readings
 use Rattle.record.proofs.Good.{admission}
 use Rattle.record.proofs.Parts.{length-document}
 use Rattle.record.proofs.Sections.{length-eventsAt}
-use Rattle.runs.specs.Runs.{optionOn, offender, runsOf}
+use Rattle.runs.specs.Runs.{offender, runsOf}
 use Rattle.runs.specs.Rule.{Rule, crate}
 use Rattle.runs.specs.Plain.{Standing, plain}
 use Rattle.groups.specs.Matches.{begin}

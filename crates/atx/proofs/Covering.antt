@@ -11,16 +11,17 @@ use lib.ListN.{length, getD, take, drop, length-drop}
 use lib.Seq.{getD-drop}
 use borrow.Author.Tests.{le-leb, lt-ltb, eq-eqb, leb-true, eqb-true}
 use Rattle.record.specs.Choice.{choose, and}
+use Rattle.record.specs.Options.{optionOn}
 use Rattle.record.specs.Event.{enter, exit}
 use Rattle.record.specs.Stack.{fitsOpen, after}
 use Rattle.record.specs.Sound.{placed, soundFrom}
 use Rattle.record.specs.declared.event.Event.{Event}
 use Rattle.record.proofs.Bools.{and-left, and-right}
-use Rattle.scan.specs.Run.{or, spaceOrTab, hash, leading, first, blanks, blanksUpTo, on, indentation}
+use Rattle.record.proofs.Chosen.{chosen}
+use Rattle.scan.specs.Run.{or, spaceOrTab, hash, leading, first, blanks, blanksUpTo, indentation}
 use Rattle.atx.specs.Heading.{opening, isHeading, piece, pieceOf, pieces, split, eventsFrom, headingEvents}
 use Rattle.atx.specs.Laws.{gapless, HeadingLaws, HeadingShape}
 use Rattle.atx.specs.declared.Piece.{Piece}
-use Rattle.scan.proofs.Chosen.{chosen}
 use Rattle.scan.proofs.Leading.{leading-short, first-of}
 use Rattle.scan.proofs.Blanks.{blanks-length}
 use Rattle.atx.proofs.Pieces.{sized, split-cons}
@@ -126,7 +127,7 @@ indent-chosen false l e = refl
 -- before a byte that is neither, the indentation is all of the spaces and tabs
 indent-all : (options : ℕ) (l : List ℕ) → spaceOrTab (getD l (indentation options l) 0) ≡ false → blanks l ≡ indentation options l
 unfolding indentation
-indent-all options l e = indent-chosen (on options 32) l e
+indent-all options l e = indent-chosen (optionOn options 32) l e
 
 hash-first : (l : List ℕ) → hash (first l) ≡ true → pieceOf l ≡ piece 12 (leading hash l)
 unfolding pieceOf choose

@@ -13,12 +13,12 @@ use Rattle.record.specs.Choice.{choose}
 use Rattle.record.specs.Bytes.{Wrote}
 use Rattle.record.specs.Event.{enter, exit, eventBytes, flat}
 use Rattle.record.specs.declared.event.Event.{Event}
+use Rattle.record.proofs.Chosen.{chosen}
 use Rattle.record.proofs.Splice.{wrote-then, wrote-none, wrote-length}
 use Rattle.record.proofs.Sections.{length-flat, flat-append}
 use Rattle.scan.specs.Run.{spaceOrTab, filled, hash, leading, first, blanks, blanksUpTo}
 use Rattle.atx.specs.Heading.{piece, pieceOf, pieces, split, eventsFrom}
 use Rattle.atx.specs.declared.Piece.{Piece}
-use Rattle.scan.proofs.Chosen.{chosen}
 use Rattle.scan.proofs.Leading.{leading-short, run-some}
 use Rattle.scan.proofs.ByteKinds.{a-hash, no-hash, filled-otherwise}
 use Rattle.scan.proofs.Blanks.{rest-of, counts-all}

@@ -5,10 +5,11 @@ use mathlib.Core.Path.{_≡_, refl}
 use mathlib.Core.List.{List, [], _∷_}
 use lib.ListN.{replicate}
 use Rattle.record.specs.Choice.{choose, and}
+use Rattle.record.specs.Options.{optionOn}
 use Rattle.record.specs.Check.{firstReturn}
 use Rattle.record.specs.Event.{enter, exit}
 use Rattle.record.specs.Outcome.{sized}
-use Rattle.scan.specs.Run.{or, spaceOrTab, filled, hash, leading, blanks, blanksUpTo, on, indentation}
+use Rattle.scan.specs.Run.{or, spaceOrTab, filled, hash, leading, blanks, blanksUpTo, indentation}
 use Rattle.scan.specs.Line.{noFeed, endOf, lineOf, checkedLine, reading}
 use Rattle.atx.specs.Heading.{brokenOff, opening, isHeading, pieceOf, pieces, split, eventsFrom, headingEvents, headedIn, headedOf}
 use Rattle.atx.specs.Heading.{numbersOf as headingNumbers}
@@ -46,5 +47,5 @@ on-headings : (headed (35 ∷ 10 ∷ 97 ∷ []) 63 36 ≡ 0 ∷ 0 ∷ 1 ∷ 4 �
     × (headed (35 ∷ []) 55 999 ≡ 0 ∷ 0 ∷ 0 ∷ 0 ∷ [])
     × (headed (35 ∷ []) 8 35 ≡ 8 ∷ 0 ∷ 0 ∷ 0 ∷ [])
     × (headed (97 ∷ []) 8 0 ≡ 0 ∷ 0 ∷ 0 ∷ 0 ∷ [])
-unfolding headed headedOf headedIn sized headingEvents eventsFrom split pieces pieceOf isHeading opening brokenOff indentation on blanks blanksUpTo leading spaceOrTab filled hash or and choose checkedLine reading lineOf endOf noFeed firstReturn
+unfolding headed headedOf headedIn sized headingEvents eventsFrom split pieces pieceOf isHeading opening brokenOff indentation optionOn blanks blanksUpTo leading spaceOrTab filled hash or and choose checkedLine reading lineOf endOf noFeed firstReturn
 on-headings = (refl, refl, refl, refl, refl, refl)

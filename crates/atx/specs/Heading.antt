@@ -6,10 +6,11 @@ use mathlib.Core.List.{List, [], _∷_, _++_}
 use lib.ListN.{length, drop}
 use lib.Dec.{leb}
 use Rattle.record.specs.Choice.{choose, and}
+use Rattle.record.specs.Options.{optionOn}
 use Rattle.record.specs.Event.{enter, exit, sectionBytes}
 use Rattle.record.specs.Outcome.{Outcome, accepted, refused, sized}
 use Rattle.record.specs.declared.event.Event.{Event}
-use Rattle.scan.specs.Run.{spaceOrTab, filled, hash, leading, first, blanks, on, indentation}
+use Rattle.scan.specs.Run.{spaceOrTab, filled, hash, leading, first, blanks, indentation}
 use Rattle.scan.specs.Line.{lineOf, checkedLine, reading}
 use Rattle.atx.specs.declared.Piece.{Piece}
 use Rattle.atx.specs.declared.Headed.{Headed}
@@ -26,7 +27,7 @@ opening l = and (leb 1 (leading hash l)) (and (leb (leading hash l) 6) (brokenOf
 
 -- "Heading (option 8)", after the indentation
 unfoldable pub isHeading : List ℕ → ℕ → Bool
-isHeading l options = and (on options 8) (opening (drop (indentation options l) l))
+isHeading l options = and (optionOn options 8) (opening (drop (indentation options l) l))
 
 abbrev pub piece : ℕ → ℕ → Piece
 piece name size = record { name = name; size = size }

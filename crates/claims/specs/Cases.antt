@@ -8,6 +8,7 @@ use mathlib.Core.Bool.{false}
 use mathlib.Core.List.{List, [], _∷_, _++_, map}
 use lib.Dec.{eqb}
 use Rattle.record.specs.Choice.{choose, and}
+use Rattle.record.specs.Options.{optionOn}
 use Rattle.record.specs.Check.{firstReturn}
 use Rattle.record.specs.Event.{enter, exit}
 use Rattle.record.specs.Stack.{after}
@@ -15,7 +16,7 @@ use Rattle.record.specs.Outcome.{Resolution, offends, gives}
 use Rattle.record.specs.declared.event.Event.{Event}
 use Rattle.classes.specs.Class.{classOf, standardClass, amended, whitespace, punctuation}
 use Rattle.runs.specs.Texts.{bytes}
-use Rattle.runs.specs.Runs.{optionOn, byteAt, byteBefore, entersRun, runsFrom, runsOf, isMarker, allowed, leftAtOnce, allAre, shaped, offenderFrom, offender}
+use Rattle.runs.specs.Runs.{byteAt, byteBefore, entersRun, runsFrom, runsOf, isMarker, allowed, leftAtOnce, allAre, shaped, offenderFrom, offender}
 use Rattle.runs.specs.Flanking.{classBeside, leftFlanking, rightFlanking, besideMarker, flanksLeft, flanksRight, canOpen, canClose}
 use Rattle.runs.specs.Rule.{threes, tildes, ruleOver}
 use Rattle.runs.specs.Plain.{opener, closer, sameContainer, candidate, takes, back, look, forth, amount, alter, matched, rounds, total, plain}
@@ -23,7 +24,7 @@ use Rattle.runs.specs.Pieces.{standing, outcome, groupName, closings, openings,
 use Rattle.runs.specs.Output.{closingEvents, openingEvents, leftoverEvents, runEvents, replaced, output}
 use Rattle.runs.specs.Cases.{stretchOf, nameOf, splitFrom, split}
 use Rattle.attention.specs.Attention.{attention}
-use Rattle.scan.specs.Run.{or, spaceOrTab, filled, digit, hash, leading, every, count, blank, blanks, blanksUpTo, on, indentation}
+use Rattle.scan.specs.Run.{or, spaceOrTab, filled, digit, hash, leading, every, count, blank, blanks, blanksUpTo, indentation}
 use Rattle.scan.specs.Line.{noFeed, endOf, lineOf, checkedLine, reading}
 use Rattle.lines.specs.Item.{breakMark, isMark, markOrBlank, marksOnly, thematicBreak, bulletMark, orderedMark, startsWithOne, mayStart, orderedOf, markerOf, padding, filledStart, startAfter, startFrom, startAt, startIn, startOf, numbersOf}
 use Rattle.atx.specs.Heading.{brokenOff, opening, isHeading, pieceOf, pieces, eventsFrom, headingEvents}
@@ -93,5 +94,5 @@ table =
     ∷ []
 
 pub twelve-cases : map (λ (c : Case). reply (c .asked) (c .text)) table ≡ map (λ (c : Case). c .answer) table
-unfolding table reply groupsAndData headingTexts attention offender offenderFrom shaped leftAtOnce allAre allowed bytes split splitFrom stretchOf nameOf choose and after classOf standardClass amended whitespace punctuation optionOn byteAt byteBefore entersRun runsFrom runsOf isMarker classBeside leftFlanking rightFlanking besideMarker flanksLeft flanksRight canOpen canClose threes tildes ruleOver opener closer sameContainer candidate takes back look forth amount alter matched rounds total plain standing outcome groupName closings openings closed opened remains closingEvents openingEvents leftoverEvents runEvents replaced output startOf startIn startAt startFrom startAfter filledStart padding markerOf orderedOf mayStart startsWithOne orderedMark bulletMark thematicBreak marksOnly markOrBlank isMark breakMark blank blanks blanksUpTo indentation on every count leading digit hash filled spaceOrTab or checkedLine reading lineOf endOf noFeed firstReturn brokenOff opening isHeading pieceOf pieces splitHeading eventsFrom headingEvents isOf beforeFirst throughLast innerOf leaf leaves startsWith headed shapedHeading withText resolvedFrom offending earliest headings
+unfolding table reply groupsAndData headingTexts attention offender offenderFrom shaped leftAtOnce allAre allowed bytes split splitFrom stretchOf nameOf choose and after classOf standardClass amended whitespace punctuation optionOn byteAt byteBefore entersRun runsFrom runsOf isMarker classBeside leftFlanking rightFlanking besideMarker flanksLeft flanksRight canOpen canClose threes tildes ruleOver opener closer sameContainer candidate takes back look forth amount alter matched rounds total plain standing outcome groupName closings openings closed opened remains closingEvents openingEvents leftoverEvents runEvents replaced output startOf startIn startAt startFrom startAfter filledStart padding markerOf orderedOf mayStart startsWithOne orderedMark bulletMark thematicBreak marksOnly markOrBlank isMark breakMark blank blanks blanksUpTo indentation every count leading digit hash filled spaceOrTab or checkedLine reading lineOf endOf noFeed firstReturn brokenOff opening isHeading pieceOf pieces splitHeading eventsFrom headingEvents isOf beforeFirst throughLast innerOf leaf leaves startsWith headed shapedHeading withText resolvedFrom offending earliest headings
 twelve-cases = refl

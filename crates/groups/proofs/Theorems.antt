@@ -1,7 +1,7 @@
 -- The theorems of specs/Theorems.antt, each from the file that has its proof.
 -- Assumes nothing.
 use Rattle.groups.specs.Theorems.{groupsOf, withTildes, AccountsHold, NoneOverspent, EachMade, EachTook, EachJoined, ClosersInOrder, TildesAsTheRuleSays, EachHeld, GroupsNeverCross, EventsArePaired, ContainersNeverCrossed, ContainerIsOne, PlainRuleEnds, NothingWithoutRuns}
-use Rattle.runs.specs.Runs.{optionOn}
+use Rattle.record.specs.Options.{optionOn}
 use Rattle.groups.specs.Matches.{begin}
 use Rattle.groups.proofs.Matches.{outcome-matched}
 use Rattle.groups.proofs.Accounts.{outcome-account, spent-within}

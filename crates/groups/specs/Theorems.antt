@@ -6,9 +6,10 @@ use mathlib.Core.Path.{_≡_, refl}
 use mathlib.Core.Bool.{Bool, true, false}
 use mathlib.Core.List.{List, []}
 use lib.ListN.{length}
+use Rattle.record.specs.Options.{optionOn}
 use Rattle.record.specs.Sound.{sound}
 use Rattle.record.specs.declared.event.Event.{Event}
-use Rattle.runs.specs.Runs.{optionOn, runsOf}
+use Rattle.runs.specs.Runs.{runsOf}
 use Rattle.runs.specs.Rule.{Side, Rule, Profile, ruleOver, crate, standard}
 use Rattle.runs.specs.Plain.{Standing, Group, at, plain}
 use Rattle.runs.specs.Pieces.{outcome, closed, opened}

@@ -12,6 +12,7 @@ use borrow.Author.Tests.{leb-true, eqb-false}
 use Rattle.record.specs.Choice.{choose, and}
 use Rattle.record.specs.declared.check.Refusal.{Refusal}
 use Rattle.record.proofs.Bools.{and-right}
+use Rattle.record.proofs.Chosen.{chosen}
 use Rattle.scan.specs.Run.{blank, blanks, blanksUpTo, indentation}
 use Rattle.scan.specs.Line.{lineOf, checkedLine, reading}
 use Rattle.lines.specs.Spaces.{spacesIn, spacesOf}
@@ -27,7 +28,6 @@ use Rattle.lines.specs.declared.item.Marker.{Marker}
 use Rattle.lines.specs.declared.item.Marker.the-variants.{Marked, Unmarked}
 use Rattle.lines.specs.declared.item.Start.the-variants.{Item, NotItem, Refused as StartRefused}
 use Rattle.lines.specs.declared.going.Going.the-variants.{Goes, Stops, Refused as GoingRefused}
-use Rattle.scan.proofs.Chosen.{chosen}
 use Rattle.scan.proofs.Blanks.{upTo-max, upTo-length, blanks-length, indent-length}
 use Rattle.lines.proofs.Marks.{Told, told}
 

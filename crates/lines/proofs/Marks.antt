@@ -14,13 +14,13 @@ use lib.Seq.{drop-cons}
 use borrow.Author.Tests.{eq-eqb, ne-eqb, le-leb, lt-leb, leb-true}
 use Rattle.record.specs.Choice.{choose, and}
 use Rattle.record.proofs.Bools.{and-left, and-right, and-false}
+use Rattle.record.proofs.Chosen.{chosen}
 use Rattle.scan.specs.Run.{or, spaceOrTab, digit, leading, every, count, first}
 use Rattle.lines.specs.Item.{breakMark, isMark, markOrBlank, marksOnly, thematicBreak, bulletMark, orderedMark, startsWithOne, mayStart, orderedOf, markerOf}
 use Rattle.lines.specs.declared.container.Kind.{Kind}
 use Rattle.lines.specs.declared.container.Kind.the-variants.{Bullet, Ordered}
 use Rattle.lines.specs.declared.item.Marker.{Marker}
 use Rattle.lines.specs.declared.item.Marker.the-variants.{Marked, Unmarked}
-use Rattle.scan.proofs.Chosen.{chosen}
 use Rattle.scan.proofs.Leading.{first-of}
 
 and-true : (b : Bool) → and b true ≡ b

@@ -6,8 +6,9 @@ use mathlib.Core.Bool.{Bool, true, false}
 use mathlib.Core.List.{List, [], _∷_}
 use lib.ListN.{replicate}
 use Rattle.record.specs.Choice.{choose, and}
+use Rattle.record.specs.Options.{optionOn}
 use Rattle.record.specs.Check.{firstReturn}
-use Rattle.scan.specs.Run.{or, spaceOrTab, digit, leading, every, count, blank, blanks, blanksUpTo, on, indentation}
+use Rattle.scan.specs.Run.{or, spaceOrTab, digit, leading, every, count, blank, blanks, blanksUpTo, indentation}
 use Rattle.scan.specs.Line.{noFeed, endOf, lineOf, checkedLine, reading}
 use Rattle.lines.specs.Spaces.{spacesIn, spacesOf}
 use Rattle.lines.specs.Item.{breakMark, isMark, markOrBlank, marksOnly, thematicBreak, bulletMark, orderedMark, startsWithOne, mayStart, orderedOf, markerOf, padding, filledStart, startAfter, startFrom, startAt, startIn, startOf, container}
@@ -59,7 +60,7 @@ on-starts : (start (49 ∷ 50 ∷ 51 ∷ 52 ∷ 53 ∷ 54 ∷ 55 ∷ 56 ∷ 57 �
     × (start (45 ∷ 32 ∷ 32 ∷ 10 ∷ 97 ∷ []) 59 false ≡ 0 ∷ 0 ∷ 1 ∷ 1 ∷ 2 ∷ 1 ∷ 45 ∷ [])
     × (start (45 ∷ []) 59 true ≡ 0 ∷ 0 ∷ 0 ∷ 0 ∷ 0 ∷ 0 ∷ 0 ∷ [])
     × (start (45 ∷ 32 ∷ 97 ∷ []) 47 false ≡ 0 ∷ 0 ∷ 0 ∷ 0 ∷ 0 ∷ 0 ∷ 0 ∷ [])
-unfolding start startOf startIn startAt startFrom startAfter filledStart padding markerOf orderedOf mayStart startsWithOne orderedMark bulletMark thematicBreak marksOnly markOrBlank isMark breakMark blank blanks blanksUpTo indentation on every count leading digit spaceOrTab or and choose checkedLine reading lineOf endOf noFeed firstReturn
+unfolding start startOf startIn startAt startFrom startAfter filledStart padding markerOf orderedOf mayStart startsWithOne orderedMark bulletMark thematicBreak marksOnly markOrBlank isMark breakMark blank blanks blanksUpTo indentation optionOn every count leading digit spaceOrTab or and choose checkedLine reading lineOf endOf noFeed firstReturn
 on-starts = (refl, refl, refl, refl, refl, refl, refl, refl, refl, refl, refl, refl, refl)
 
 -- a blank line with the flag set and clear; a filled line that goes on, has too few, has none; size 0

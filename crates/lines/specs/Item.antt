@@ -6,7 +6,8 @@ use mathlib.Core.List.{List}
 use lib.ListN.{getD, drop}
 use lib.Dec.{leb, eqb}
 use Rattle.record.specs.Choice.{choose, and}
-use Rattle.scan.specs.Run.{or, spaceOrTab, digit, leading, every, count, first, blank, blanks, on, indentation}
+use Rattle.record.specs.Options.{optionOn}
+use Rattle.scan.specs.Run.{or, spaceOrTab, digit, leading, every, count, first, blank, blanks, indentation}
 use Rattle.scan.specs.Line.{lineOf, checkedLine, reading, flag}
 use Rattle.lines.specs.declared.container.Kind.{Kind}
 use Rattle.lines.specs.declared.container.Kind.the-variants.{Bullet, Ordered}
@@ -101,7 +102,7 @@ startAt interrupting indent l = startFrom interrupting indent (markerOf interrup
 -- on a line. Document 01: "None without option 16."
 unfoldable pub startIn : List ℕ → ℕ → Bool → Start
 startIn l options interrupting =
-    choose (on options 16) (startAt interrupting (indentation options l) (drop (indentation options l) l)) NotItem
+    choose (optionOn options 16) (startAt interrupting (indentation options l) (drop (indentation options l) l)) NotItem
 
 unfoldable pub startOf : List ℕ → ℕ → Bool → Start
 startOf s options interrupting = reading (checkedLine s options) Refused (startIn (lineOf s) options interrupting)

@@ -1,6 +1,5 @@
 pub mod Spaces
 pub mod Item
 pub mod Going
-pub mod Promise
 pub mod Laws
 pub mod Cases

@@ -7,11 +7,12 @@ use mathlib.Core.Option.{some}
 use Prim.Native.Nat.{ℕ, _+_, _-_, _*_, _≤_, _<_}
 use native.Mathlib.Omega.{arith}
 use lib.ListN.{getD}
+use Rattle.record.specs.Options.{optionOn}
 use Rattle.record.specs.Bytes.{u32At}
 use Rattle.record.specs.Event.{documentOf, eventAt}
 use Rattle.record.specs.declared.event.Event.{Event}
 use Rattle.record.proofs.Parts.{document-byte}
-use Rattle.runs.specs.Runs.{optionOn, isMarker, byteAt, byteBefore, innermostOf, runOf}
+use Rattle.runs.specs.Runs.{isMarker, byteAt, byteBefore, innermostOf, runOf}
 use Rattle.runs.specs.Flanking.{canOpen, canClose}
 use Rattle.runs.specs.Rule.{crate}
 use Rattle.runs.specs.Chains.{containerNumber, markerNumber, chainNumber}

@@ -6,7 +6,8 @@ use mathlib.Core.Bool.{true, false}
 use mathlib.Core.List.{[], _∷_}
 use mathlib.Core.Option.{Option, none, some}
 use Rattle.record.specs.Choice.{choose, and}
-use Rattle.runs.specs.Runs.{optionOn, isMarker, allAre, byteAt, allowed}
+use Rattle.record.specs.Options.{optionOn}
+use Rattle.runs.specs.Runs.{isMarker, allAre, byteAt, allowed}
 use Rattle.runs.specs.Plain.{Standing}
 use Rattle.runs.specs.Chains.{markerNumber, chainNumber}
 use Rattle.loading.specs.Between.{between}

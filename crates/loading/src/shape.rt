@@ -9,9 +9,10 @@ use record::limits::OPTION_STRIKETHROUGH;
 ghost use mathlib.Core.Path.{_≡_};
 ghost use Prim.Native.Nat.{_+_, _-_, _≤_, _<_};
 ghost use lib.ListN.{length};
+ghost use Rattle.record.specs.Options.{optionOn};
 ghost use Rattle.record.specs.Event.{documentOf, eventAt, eventsAt};
 ghost use Rattle.record.specs.Bytes.{u32At};
-ghost use Rattle.runs.specs.Runs.{optionOn, isMarker, isByte, byteAt, allAre, allowed as allowedBy, shaped};
+ghost use Rattle.runs.specs.Runs.{isMarker, isByte, byteAt, allAre, allowed as allowedBy, shaped};
 ghost use Rattle.loading.specs.Between.{between};
 
 // Whether the option of this value is among those that are summed.

@@ -5,11 +5,12 @@ use Prim.Native.String.{String}
 use mathlib.Core.Path.{_≡_, refl}
 use mathlib.Core.List.{List, [], _∷_}
 use Rattle.record.specs.Choice.{choose, and}
+use Rattle.record.specs.Options.{optionOn}
 use Rattle.record.specs.Stack.{fitsOpen, after}
 use Rattle.record.specs.Sound.{placed, soundFrom}
 use Rattle.runs.specs.Texts.{bytes}
 use Rattle.runs.specs.Cases.{stretchOf, nameOf, splitFrom, split}
-use Rattle.runs.specs.Runs.{optionOn, byteAt, byteBefore, entersRun, runsFrom, runsOf, isMarker, allowed, leftAtOnce, allAre, shaped, offenderFrom, offender}
+use Rattle.runs.specs.Runs.{byteAt, byteBefore, entersRun, runsFrom, runsOf, isMarker, allowed, leftAtOnce, allAre, shaped, offenderFrom, offender}
 use Rattle.runs.specs.Plain.{Group, group}
 use Rattle.runs.specs.Pieces.{Piece, groupName, closings, openings, closed, opened, remains}
 use Rattle.output.specs.Accepted.{Accepted}

@@ -1,6 +1,7 @@
 pub mod Splice
 pub mod Sections
 pub mod Bools
+pub mod Chosen
 pub mod Counts
 pub mod Scan
 pub mod Formed

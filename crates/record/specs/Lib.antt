@@ -1,4 +1,5 @@
 pub mod Choice
+pub mod Options
 pub mod Bytes
 pub mod Event
 pub mod Stack

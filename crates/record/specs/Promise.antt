@@ -1,5 +1,5 @@
--- What public calls promise, and what follows from a promise alone: that any two results it allows are equal, and that nothing a buffer held
--- before is in what is answered or written. `read` has its promise here; every call that writes a section has the other, once for all.
+-- What public calls promise. `read` has its promise here; every call that writes a section has the other, once for all, and what follows from
+-- that one alone: that any two results it allows are equal, and that nothing a buffer held before is in what is answered or written.
 -- Assumes nothing.
 use Prim.Native.Nat.{ℕ}
 use mathlib.Core.Path.{_≡_, sym, ap, _∙_}
@@ -7,8 +7,7 @@ use mathlib.Core.List.{List}
 use lib.ListN.{length, take, drop, replicate}
 use lib.Seq.{take-append-seam, drop-append-seam}
 use Rattle.record.specs.Check.{admitted}
-use Rattle.record.specs.Outcome.{Outcome, refused, bytesWritten, onto}
-use Rattle.record.specs.declared.check.Refusal.{Refusal}
+use Rattle.record.specs.Outcome.{Outcome, bytesWritten, onto}
 use Rattle.record.specs.declared.check.Reading.{Reading}
 use Rattle.record.specs.declared.check.Reading.the-variants.{Good, Refused}
 
@@ -27,17 +26,6 @@ numbersOf (Refused r) = record { number = r .number; place = r .place; document 
 pub record Read (s : List ℕ) (options : ℕ) (work : List ℕ) (r : Reading) (work′ : List ℕ) : Type 0 where
   pub answer : r ≡ admitted s options (length work)
   pub wiped : work′ ≡ replicate (length work) 0
-
--- any two results that the promise allows are equal
-pub determined : {s : List ℕ} {options : ℕ} {work : List ℕ} {r₁ r₂ : Reading} {w₁ w₂ : List ℕ} →
-    Read s options work r₁ w₁ → Read s options work r₂ w₂ → (r₁ ≡ r₂) × (w₁ ≡ w₂)
-determined p q = (p .answer ∙ sym (q .answer), p .wiped ∙ sym (q .wiped))
-
--- two calls on one record with the same options and as much work memory, whatever it held, answer alike and leave the same
-pub isolated : {s : List ℕ} {options : ℕ} {work₁ work₂ : List ℕ} {r₁ r₂ : Reading} {w₁ w₂ : List ℕ} →
-    length work₁ ≡ length work₂ → Read s options work₁ r₁ w₁ → Read s options work₂ r₂ w₂ → (r₁ ≡ r₂) × (w₁ ≡ w₂)
-isolated {s} {options} e p q =
-    (p .answer ∙ ap (λ (n : ℕ). admitted s options n) e ∙ sym (q .answer), p .wiped ∙ ap (λ (n : ℕ). replicate n 0) e ∙ sym (q .wiped))
 
 -- a call that writes answers r, and out′ and work′ are what its output and work memory then hold. What it comes to is a definition of the two
 -- lengths, `comes` (the record, the options and other arguments are in it), and `answers` is its answer type's reading of that
@@ -77,9 +65,3 @@ module _ {A : Type 0} {comes : ℕ → ℕ → Outcome} {answers : Outcome → A
   unfolding onto
   writes-keep-rest bs e =
       ap (λ (l : List ℕ). drop (length bs) l) (p .output ∙ ap (λ (l : List ℕ). onto l out₁) (sym e)) ∙ drop-append-seam bs (drop (length bs) out₁)
-
--- "A refusal returns its number and place, all else zero, and the output is unchanged."
-pub refusal-keeps-output : {A : Type 0} {comes : ℕ → ℕ → Outcome} {answers : Outcome → A} {out work : List ℕ} {r : A} {o w : List ℕ} (f : Refusal) →
-    comes (length out) (length work) ≡ refused f → Writes comes answers out work r o w → o ≡ out
-unfolding onto
-refusal-keeps-output {out = out} f e p = p .output ∙ ap (λ (c : Outcome). onto (bytesWritten c) out) e

@@ -10,12 +10,13 @@ use mathlib.Core.Option.{Option, none, some}
 use lib.Dec.{eqb}
 use lib.ListN.{length}
 use Rattle.record.specs.Choice.{choose, and}
+use Rattle.record.specs.Options.{optionOn}
 use Rattle.record.specs.Event.{enter, exit, flat, sectionBytes}
 use Rattle.record.specs.Stack.{after}
 use Rattle.record.specs.declared.event.Event.{Event}
 use Rattle.classes.specs.Class.{classOf, standardClass, amended, whitespace, punctuation}
 use Rattle.runs.specs.Texts.{bytes}
-use Rattle.runs.specs.Runs.{Run, optionOn, byteAt, byteBefore, entersRun, runsFrom, runsOf, isMarker, allowed, leftAtOnce, allAre, shaped, offenderFrom, offender}
+use Rattle.runs.specs.Runs.{Run, byteAt, byteBefore, entersRun, runsFrom, runsOf, isMarker, allowed, leftAtOnce, allAre, shaped, offenderFrom, offender}
 use Rattle.runs.specs.Flanking.{classBeside, leftFlanking, rightFlanking, besideMarker, flanksLeft, flanksRight, canOpen, canClose}
 use Rattle.runs.specs.Rule.{Profile, threes, tildes, ruleOver, crateRule, standardRule, crate, standard}
 use Rattle.runs.specs.Plain.{Group, opener, closer, sameContainer, candidate, takes, back, look, forth, amount, alter, matched, rounds, total, plain}

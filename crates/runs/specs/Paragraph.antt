@@ -8,12 +8,12 @@ use mathlib.Core.Option.{Option, none, some}
 use native.Mathlib.Omega.{arith}
 use lib.Dec.{eqb, ltb}
 use Rattle.record.specs.Choice.{choose}
+use Rattle.record.specs.Options.{optionOn}
 use borrow.Author.Tests.{eqb-true, eqb-false}
 use Rattle.classes.specs.Class.{classOf, standardClass, amended, whitespace, punctuation}
 use Rattle.classes.specs.declared.Class.{Class}
 use Rattle.classes.specs.declared.Class.the-variants.{Other, Whitespace, Punctuation}
 use Rattle.runs.specs.Flanking.{isWhitespace, isPunctuation, classBeside, besideMarker, leftFlanking, rightFlanking, flanksLeft, flanksRight, canOpen, canClose}
-use Rattle.runs.specs.Runs.{optionOn}
 use Rattle.runs.specs.Rule.{Side, threes, tildes, ruleOver, crateRule}
 
 abbrev pub isOther : Class → Bool

@@ -7,8 +7,9 @@ use mathlib.Core.Bool.{Bool}
 use mathlib.Core.List.{List, [], _∷_, _++_, map}
 use lib.Dec.{eqb, ltb}
 use Rattle.record.specs.Choice.{choose}
+use Rattle.record.specs.Options.{optionOn}
 use Rattle.record.specs.declared.event.Event.{Event}
-use Rattle.runs.specs.Runs.{Run, optionOn, runsOf}
+use Rattle.runs.specs.Runs.{Run, runsOf}
 use Rattle.runs.specs.Flanking.{canOpen, canClose}
 use Rattle.runs.specs.Rule.{Profile}
 use Rattle.runs.specs.Plain.{Standing, Group, Outcome, plain}

@@ -4,7 +4,7 @@
 use Prim.Native.Nat.{ℕ, _+_, _%_}
 use mathlib.Core.Bool.{Bool, true, false, not, _&&_, _||_}
 use lib.Dec.{eqb, ltb}
-use Rattle.runs.specs.Runs.{optionOn}
+use Rattle.record.specs.Options.{optionOn}
 
 -- one side of a match: the size of the whole run, the markers that it has left, and whether it can both open and close
 pub record Side : Type 0 where

@@ -2,19 +2,16 @@
 -- A number that may be missing is an Option: a neighbour at the document's edge, the container of a run that stands in none, the offender of
 -- a record that has none.
 -- Assumes nothing.
-use Prim.Native.Nat.{ℕ, zero, suc, _+_, _-_, _/_, _%_}
+use Prim.Native.Nat.{ℕ, zero, suc, _+_, _-_}
 use mathlib.Core.Bool.{Bool, true, false, not, _||_}
 use mathlib.Core.List.{List, [], _∷_}
 use mathlib.Core.Option.{Option, none, some}
 use lib.ListN.{length, getD}
 use lib.Dec.{eqb, ltb}
 use Rattle.record.specs.Choice.{choose, and}
+use Rattle.record.specs.Options.{optionOn}
 use Rattle.record.specs.Stack.{after}
 use Rattle.record.specs.declared.event.Event.{Event}
-
--- "Options, summed": whether the option of this value is among them
-unfoldable pub optionOn : ℕ → ℕ → Bool
-optionOn options value = eqb (options / value % 2) 1
 
 -- a run: the number of its enter event, the place of its first byte, how many bytes it has and which byte they are, the bytes that stand
 -- beside it, and the number of the innermost enter that is open there

@@ -9,7 +9,8 @@ use lib.ListN.{length, take, drop, length-take, length-drop}
 use lib.Seq.{take-length, take-all}
 use borrow.Author.Tests.{le-leb, lt-leb, eq-eqb, ne-eqb}
 use Rattle.record.specs.Choice.{choose}
-use Rattle.scan.specs.Run.{spaceOrTab, blank, blanks, blanksUpTo, on, indentation}
+use Rattle.record.specs.Options.{optionOn}
+use Rattle.scan.specs.Run.{spaceOrTab, blank, blanks, blanksUpTo, indentation}
 use Rattle.scan.proofs.Leading.{leading-short, every-all, every-not}
 
 -- what is left of a slice from a place on
@@ -48,12 +49,12 @@ module _ (l : List ℕ) (n : ℕ) (e : n ≡ blanksUpTo (length l) l) where
   blank-not h = every-not spaceOrTab l (λ q. h (counts-all ∙ q))
 
 -- the options
-pub is-on : (options value : ℕ) → options / value % 2 ≡ 1 → on options value ≡ true
-unfolding on
+pub is-on : (options value : ℕ) → options / value % 2 ≡ 1 → optionOn options value ≡ true
+unfolding optionOn
 is-on options value e = eq-eqb _ _ e
 
-pub is-off : (options value : ℕ) → (options / value % 2 ≡ 1 → ⊥) → on options value ≡ false
-unfolding on
+pub is-off : (options value : ℕ) → (options / value % 2 ≡ 1 → ⊥) → optionOn options value ≡ false
+unfolding optionOn
 is-off options value n = ne-eqb _ _ n
 
 module _ (options : ℕ) (l : List ℕ) (n : ℕ) where
@@ -72,7 +73,7 @@ either false a b n h k = k
 
 pub indent-length : (options : ℕ) (l : List ℕ) → indentation options l ≤ length l
 unfolding indentation
-indent-length options l = either (on options 32) _ _ _ (upTo-length 3 l) (blanks-length l)
+indent-length options l = either (optionOn options 32) _ _ _ (upTo-length 3 l) (blanks-length l)
 
 pub indent-fits : (options : ℕ) (l : List ℕ) (n : ℕ) → n ≡ indentation options l → n ≤ length l
 indent-fits options l n e = omega (arith, indent-length options l)

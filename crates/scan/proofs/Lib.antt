@@ -2,5 +2,4 @@ pub mod Leading
 pub mod ByteKinds
 pub mod Checks
 pub mod Blanks
-pub mod Chosen
 pub mod ExactlyChecked

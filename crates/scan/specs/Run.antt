@@ -1,11 +1,12 @@
 -- Kinds of bytes, runs of them, and blank lines: the words in which the line readers are defined. CommonMark 0.31 §2.1 and §2.2.
 -- Assumes nothing.
-use Prim.Native.Nat.{ℕ, suc, _/_, _%_}
+use Prim.Native.Nat.{ℕ, suc}
 use mathlib.Core.Bool.{Bool, true, false, not}
 use mathlib.Core.List.{List, [], _∷_}
 use lib.ListN.{getD, take}
 use lib.Dec.{leb, eqb}
 use Rattle.record.specs.Choice.{choose, and}
+use Rattle.record.specs.Options.{optionOn}
 
 unfoldable pub or : Bool → Bool → Bool
 or true b = true
@@ -58,10 +59,6 @@ blanksUpTo max l = leading spaceOrTab (take max l)
 unfoldable pub blanks : List ℕ → ℕ
 blanks l = leading spaceOrTab l
 
--- Document 01: "Options, summed": whether the option of a value (a power of two) is among them
-unfoldable pub on : ℕ → ℕ → Bool
-on options value = eqb (options / value % 2) 1
-
 -- "Indentation is at most 3, or free without option 32."
 unfoldable pub indentation : ℕ → List ℕ → ℕ
-indentation options l = choose (on options 32) (blanksUpTo 3 l) (blanks l)
+indentation options l = choose (optionOn options 32) (blanksUpTo 3 l) (blanks l)

@@ -1,7 +1,7 @@
 -- `loading::shape::option_on` meets its contract: the same quotient, remainder and test.
 -- Assumes nothing.
-use Rattle.runs.specs.Runs.{optionOn}
 use borrow.Author.Needs.{needs}
+use Rattle.record.specs.Options.{optionOn}
 use Rattle.loading.proofs.shape.option_on.Statement.{statement}
 use Rattle.loading.proofs.shape.option_on.Tie as tie
 
