@@ -1,7 +1,7 @@
-# Everything by one word. The toolchain (rt) proves and compiles the library; the rest is gcc, cargo and the scripts that are named here.
+# Everything by one word. The toolchain (rt) proves and compiles the library; the rest is gcc, cargo and the scripts named here.
 #
 #     make            the archive: target/staticlib/libledgerlark.a
-#     make check      the tests in C and Rust
+#     make check      the tests in C, C++ and Rust, and those of the program
 #     make install    archive, header and pkg-config file, to DESTDIR and PREFIX
 #     make bench      the measurements
 #     make oracle     the runs against the Rust crate
@@ -35,6 +35,7 @@ all: $(ARCHIVE)
 
 check: $(ARCHIVE)
 	LARK_ARCHIVE=$(abspath $(ARCHIVE)) tests/run
+	tests/lark
 
 install: $(ARCHIVE)
 	install -d '$(DESTDIR)$(LIBDIR)/pkgconfig' '$(DESTDIR)$(INCLUDEDIR)'
@@ -51,4 +52,4 @@ oracle: $(ARCHIVE)
 	LARK_ARCHIVE=$(abspath $(ARCHIVE)) oracle/run
 
 clean:
-	rm -rf target bindings/rust/target
+	rm -rf target bindings/rust/target oracle/target bench/driver/target

@@ -1,7 +1,7 @@
 //! Writes the module lines that take the crate's source files from where they lie, so that none of its text stands in this repository.
 //!
-//! `CRATE_SRC` names a directory that holds `markdown-1.0.0` and `unicode-id-0.3.7`, each with its `src`. Cargo's registry has that
-//! layout, and so has the copy that is looked for without it: `shared/vendor` beside the repository.
+//! `CRATE_SRC` names a directory that holds `markdown-1.0.0` and `unicode-id-0.3.7`, each with its `src`, as cargo's registry does;
+//! `oracle/crate-source` finds one. Without it `vendor` in the repository is taken.
 
 use std::path::{Path, PathBuf};
 use std::{env, fs};
@@ -36,7 +36,7 @@ fn main() {
     println!("cargo:rerun-if-env-changed=CRATE_SRC");
     println!("cargo:rerun-if-changed=build.rs");
     let here = PathBuf::from(env::var_os("CARGO_MANIFEST_DIR").unwrap());
-    let source = env::var_os("CRATE_SRC").map_or_else(|| here.join("../../../shared/vendor"), PathBuf::from);
+    let source = env::var_os("CRATE_SRC").map_or_else(|| here.join("../../vendor"), PathBuf::from);
     let source = source.canonicalize().unwrap_or(source);
     let mut lines = String::new();
     for (module, file) in MODULES {

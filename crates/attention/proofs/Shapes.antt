@@ -9,10 +9,11 @@ use lib.ListN.{length, getD}
 use lib.Dec.{eqb, ltb}
 use borrow.Author.Tests.{eq-eqb, ne-eqb, eqb-true, lt-ltb, ltb-true, ltb-false, not-true}
 use Rattle.record.specs.Choice.{choose, and}
+use Rattle.record.specs.Options.{optionOn}
 use Rattle.record.specs.Event.{event, exit}
 use Rattle.record.specs.declared.event.Event.{Event}
 use Rattle.record.proofs.Bools.{and-left, and-right, and-both, clash}
-use Rattle.runs.specs.Runs.{optionOn, isMarker, allowed, leftAtOnce, firstPlace, allAre, isByte, byteAt, shaped}
+use Rattle.runs.specs.Runs.{isMarker, allowed, leftAtOnce, firstPlace, allAre, isByte, byteAt, shaped}
 use Rattle.attention.specs.Shape.{Marker, star, line, tilde, Shape}
 
 -- a scan over bytes that are all one says so of each, and the other way round

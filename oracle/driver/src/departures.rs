@@ -1,10 +1,10 @@
-//! The rows of docs/DIFFERENCES.md, run: what the crate and the library make of each one's smallest input, held against what the row says.
+//! The rows of docs/DIFFERENCES.md, run: what the crate and the library make of each one's inputs, held against what the row says.
 
 use crate::answer::{Answer, Call, Question};
 use crate::compare::{call_of, crate_line, parts_of, resolved, resolver_of};
 use crate::library::{self, Lent, OUTPUT, WORK};
 use crate::records;
-use crate_side::{write_record, Resolver, Settings};
+use crate_side::{write_record, Event, Resolver, Settings};
 
 /// What is looked at in an answer.
 #[derive(Clone, Copy)]
@@ -24,7 +24,7 @@ fn look(answer: &Answer, at: Look) -> String {
         Look::Groups => format!("groups {}", numbers[3]),
         Look::Refusal => "accepted".into(),
         Look::Size => format!("size {}", numbers[4]),
-        Look::Found => (if numbers[2] == 1 { "an item" } else { "no item" }).into(),
+        Look::Found => (if numbers[2] == 1 { "found" } else { "not found" }).into(),
         Look::Text => {
             let places: Vec<String> =
                 crate_side::read_section(&answer.section).iter().filter(|event| event.name == 13).map(|event| event.place.to_string()).collect();
@@ -50,6 +50,13 @@ fn watched(which: Resolver, document: &str, settings: Settings) -> Question {
     Question { call: call_of(which), input: write_record(document.as_bytes(), before), options: 59, arguments: [0; 3] }
 }
 
+/// A record of `pairs` empty pairs over no document, each within the one before or behind it.
+fn empty_pairs(pairs: usize, within: bool) -> Question {
+    let (enter, exit) = (Event { exit: false, name: 24, place: 0 }, Event { exit: true, name: 24, place: 0 });
+    let events = if within { [vec![enter; pairs], vec![exit; pairs]].concat() } else { [enter, exit].repeat(pairs) };
+    Question { call: Call::Headings, input: write_record(b"", &events), options: 59, arguments: [0; 3] }
+}
+
 fn crate_says(question: &Question) -> Answer {
     let settings = Settings::new(question.options);
     match question.call {
@@ -64,7 +71,8 @@ fn crate_says(question: &Question) -> Answer {
 /// Run every row and print it. Gives back how many are not as the row says.
 pub fn run() -> usize {
     let text = |text: &[u8], options: u32| records::split(text, options);
-    let rows: [(&str, Question, Look, &str, &str); 17] = [
+    let many = [vec![b'*'; 2000], vec![b'a'], vec![b'*'; 1999]].concat();
+    let rows: [(&str, Question, Look, &str, &str); 26] = [
         ("D1", text(b"*\r*", 59), Look::Groups, "groups 0", "refused with 4 at 5"),
         ("D2", text(b"*\xc2\xa0*", 59), Look::Groups, "groups 0", "groups 1"),
         ("D3", text(b"a*\0*", 59), Look::Groups, "groups 1", "groups 1"),
@@ -72,8 +80,11 @@ pub fn run() -> usize {
         ("D5", text(b"****a** b*c", 59), Look::Groups, "groups 1", "groups 1"),
         ("D6", text(b"*\x0b*", 59), Look::Groups, "groups 0", "groups 1"),
         ("D7", text(b"~a~", 59), Look::Groups, "groups 0", "groups 0"),
-        ("D8", line(Call::ListItem, b"\t-", [0; 3]), Look::Found, "no item", "an item"),
-        ("D9", line(Call::ListItem, b"01. a", [1, 0, 0]), Look::Found, "no item", "no item"),
+        ("D8", line(Call::ListItem, b"\t-", [0; 3]), Look::Found, "not found", "found"),
+        ("D8", line(Call::Heading, b"\t#", [0; 3]), Look::Found, "not found", "found"),
+        ("D8", line(Call::Continuation, b"\ta", [2, 0, 0]), Look::Found, "found", "not found"),
+        ("D8", line(Call::SpaceOrTab, b"\t", [2, 4, 0]), Look::Found, "found", "not found"),
+        ("D9", line(Call::ListItem, b"01. a", [1, 0, 0]), Look::Found, "not found", "not found"),
         ("D10", heading(b"# #a"), Look::Text, "text 3 to 4", "text 3 to 4"),
         ("D11", heading(b"# a # #"), Look::Text, "text 2 to 3", "text 2 to 3"),
         ("D12", watched(Resolver::Lists, "- <?\n-", Settings::new(59)), Look::Refusal, "accepted", "refused with 6 at 126"),
@@ -88,6 +99,12 @@ pub fn run() -> usize {
             "refused with 5 at 95",
         ),
         ("D17", heading(b"# # #"), Look::Text, "text none", "text none"),
+        ("D18", text(&[b'a'; 16_385], 59), Look::Refusal, "accepted", "refused with 3 at 0"),
+        ("D18", empty_pairs(1_025, false), Look::Refusal, "accepted", "refused with 3 at 4"),
+        ("D18", empty_pairs(65, true), Look::Refusal, "accepted", "refused with 5 at 520"),
+        ("D18", line(Call::SpaceOrTab, &[b' '; 16_385], [0, usize::MAX, 0]), Look::Found, "found", "refused with 3 at 16384"),
+        ("D18", text(&many, 59), Look::Refusal, "accepted", "refused with 7 at 0"),
+        ("D19", watched(Resolver::Attention, ">*.**", Settings::new(59)), Look::Groups, "groups 0", "groups 0"),
     ];
     println!("\n| row | crate | library |\n|---|---|---|");
     let mut wrong = 0;
