@@ -7,6 +7,9 @@
 //! [`resolve_headings`] and [`resolve_lists`] write the events that come out. The line readers [`space_or_tab`], [`list_item`],
 //! [`continuation`] and [`heading`] take one line.
 //!
+//! There is no tokenizer here: the events come from the caller, in part by the line readers. A result is a section, and [`record()`] makes a record of it
+//! for the next resolver; but a result may have more events than a record may, and deeper ones, attention's most of all, so attention comes last.
+//!
 //! What a call answers and writes depends on the record or line, the options, the arguments and the lengths of the buffers alone. It never
 //! depends on what a buffer held before. A [`Refusal`] leaves the output as it was. The work memory is zero after every call.
 //!
@@ -21,6 +24,7 @@
 mod events;
 #[allow(unsafe_code)]
 mod ffi;
+mod limits;
 mod lines;
 mod options;
 mod refusal;
@@ -28,12 +32,13 @@ mod resolve;
 mod work;
 
 pub use events::{record, Event, Events, Kind, Name};
+pub use limits::{MAX_DEPTH, MAX_DOCUMENT, MAX_EVENTS, MAX_LINE, MAX_RESULT};
 pub use lines::{continuation, heading, list_item, space_or_tab, Container, Continuation, Item, ListKind};
 pub use options::Options;
 pub use refusal::Refusal;
 pub use resolve::{
     read, resolve_attention, resolve_attention_to_vec, resolve_headings, resolve_headings_to_vec, resolve_lists, resolve_lists_to_vec,
-    section_length, Reading, Resolved, MAX_RESULT,
+    section_length, Reading, Resolved,
 };
 pub use work::Work;
 

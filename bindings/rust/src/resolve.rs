@@ -2,11 +2,9 @@
 
 use crate::events::{Event, Events};
 use crate::ffi;
+use crate::limits::MAX_RESULT;
 use crate::refusal::{refused, Refusal};
 use crate::{Options, Work};
-
-/// The most events that a result has. With more it is refused, number 7.
-pub const MAX_RESULT: usize = 8_000;
 
 /// How long a section of so many events is: its count and 8 bytes for each.
 pub const fn section_length(events: usize) -> usize {

@@ -1,6 +1,7 @@
 //! Options, events, records and refusals as values: nothing here asks the library.
 
 use ledgerlark::{record, section_length, Event, Events, Kind, ListKind, Name, Options, Refusal, Work};
+use ledgerlark::{MAX_DEPTH, MAX_DOCUMENT, MAX_EVENTS, MAX_LINE, MAX_RESULT};
 
 #[test]
 fn options() {
@@ -162,6 +163,25 @@ fn refusals_in_words() {
     assert_eq!(words(12, 3), "refused with number 12 at byte 3");
     let error: Box<dyn std::error::Error + Send + Sync> = Refusal { number: 8, place: 0 }.into();
     assert_eq!(error.to_string(), words(8, 0));
+}
+
+#[test]
+fn numbers_and_limits() {
+    let numbers = [
+        Refusal::WORK,
+        Refusal::OPTIONS,
+        Refusal::COUNT,
+        Refusal::RETURN,
+        Refusal::EVENT,
+        Refusal::SHAPE,
+        Refusal::RESULT,
+        Refusal::OUTPUT,
+    ];
+    assert_eq!(numbers, [1, 2, 3, 4, 5, 6, 7, 8]);
+    assert_eq!(
+        (MAX_DOCUMENT, MAX_LINE, MAX_EVENTS, MAX_DEPTH, MAX_RESULT),
+        (16_384, 16_384, 2_048, 64, 8_000)
+    );
 }
 
 #[test]

@@ -12,7 +12,7 @@ use Rattle.atx.specs.Heading.{isHeading, headingEvents}
 use Rattle.atx.specs.declared.Headed.{Headed}
 use Rattle.atx.specs.declared.Headed.the-variants.{Heading, NotHeading}
 
--- with an output of `outs` bytes: "result over 8,000 events", "output shorter than 4 + 8 × result"
+-- with an output of `outs` bytes: "result over 8,000 events" (amendment D18: the standard sets no limit), "output shorter than 4 + 8 × result"
 pub data WritingRow (s : List ℕ) (options outs n p : ℕ) : Type 0 where
   reading : Row s options n p → WritingRow s options outs n p
   row-7 : isHeading (lineOf s) options ≡ true → 8000 < length (headingEvents (lineOf s)) → n ≡ 7 → p ≡ 0 → WritingRow s options outs n p

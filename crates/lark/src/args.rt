@@ -6,12 +6,14 @@
 use crate::say::blame;
 use crate::say::wrong;
 
-// What a command takes: a text, a text that is a line, a file.
+// What a command takes: a text, a text that is a line, a file, a file whose events can be had as text.
 pub const TEXT: u8 = 0;
 
 pub const LINE: u8 = 1;
 
 pub const FILE: u8 = 2;
+
+pub const FILE_OF_EVENTS: u8 = 3;
 
 // What is wrong with the arguments.
 const NO_NUMBER: u8 = 1;
@@ -19,6 +21,8 @@ const NO_NUMBER: u8 = 1;
 const UNKNOWN: u8 = 2;
 
 const ONE_TOO_MANY: u8 = 3;
+
+const TOO_LARGE: u8 = 4;
 
 // The options without -o: all but the single tilde.
 const USUAL: u32 = 59;
@@ -40,13 +44,16 @@ pub struct Asked {
     pub culprit: usize,
 }
 
+// Stands for every number of more than six digits.
+const LARGE: u32 = 1000000;
+
 // A word that is to be a number.
 enum Number {
     Is(u32),
     Not,
 }
 
-// The number that a word of digits spells. One of more than six digits is cut off there: all over 63 are refused alike.
+// The number that a word of digits spells, or `LARGE`.
 fn spelled(word: &[u8]) -> Number {
     if word.len() == 0 {
         return Number::Not;
@@ -67,10 +74,10 @@ fn spelled(word: &[u8]) -> Number {
     Number::Is(value)
 }
 
-// A number with one more digit behind it, or as it is where it has six already, so that it never overflows.
+// A number with one more digit behind it. Where it has six already it becomes `LARGE`, so that it never overflows.
 fn with_digit(value: u32, digit: u8) -> u32 {
     if value > 99999 {
-        return value;
+        return LARGE;
     }
     value * 10 + digit as u32
 }
@@ -88,6 +95,14 @@ fn put_number(asked: Asked, value: u32) -> Asked {
     asked
 }
 
+// Whether a number cannot be taken. Options that large are refused as all over 63 are; a size would be said wrongly.
+fn is_too_large(awaits: u8, value: u32) -> bool {
+    if awaits != b'c' {
+        return false;
+    }
+    value == LARGE
+}
+
 // Argument i as the number behind an option.
 fn take_number(asked: Asked, i: usize) -> Asked {
     let mut asked = asked;
@@ -95,6 +110,11 @@ fn take_number(asked: Asked, i: usize) -> Asked {
     let n = os::arg(i, &mut word);
     match spelled(&word[..n]) {
         Number::Is(value) => {
+            if is_too_large(asked.awaits, value) {
+                asked.wrong = TOO_LARGE;
+                asked.culprit = i;
+                return asked;
+            }
             return put_number(asked, value);
         }
         Number::Not => {
@@ -130,7 +150,7 @@ fn letter(word: &[u8]) -> u8 {
 
 // Whether a word that is no option of the command's is to be one: a dash and more. Of a longer word `first` is all that is known.
 fn is_unknown(first: u8, n: usize, takes: u8) -> bool {
-    if takes != FILE {
+    if takes < FILE {
         return false;
     }
     if first != b'-' {
@@ -180,7 +200,7 @@ fn take_option(asked: Asked, i: usize, takes: u8, option: u8, unknown: bool) -> 
         return asked;
     }
     if option == b't' {
-        if takes == FILE {
+        if takes == FILE_OF_EVENTS {
             asked.as_text = true;
             return asked;
         }
@@ -247,6 +267,7 @@ fn say_wrong(what: u8, culprit: usize) -> u8 {
     match what {
         NO_NUMBER => blame(b"not a number", culprit),
         UNKNOWN => blame(b"no such option", culprit),
+        TOO_LARGE => blame(b"too large", culprit),
         _ => blame(b"one argument too many", culprit),
     }
 }

@@ -19,6 +19,7 @@ mod words; // bytes compared and copied
 
 use args::Asked;
 use args::FILE;
+use args::FILE_OF_EVENTS;
 use args::LINE;
 use args::TEXT;
 use args::are_good;
@@ -59,10 +60,18 @@ fn call_of(command: &[u8]) -> OnRecord {
     OnRecord::Unknown
 }
 
+// What a command on a record takes: only what a resolver answers can be had as text.
+fn taken_by(command: &[u8]) -> u8 {
+    if same(command, b"read") {
+        return FILE;
+    }
+    FILE_OF_EVENTS
+}
+
 // The commands on a record.
 fn run_on_record(command: &[u8], next: usize) -> u8 {
     if let OnRecord::Is(call) = call_of(command) {
-        return resolve::run(call, arguments(next, FILE));
+        return resolve::run(call, arguments(next, taken_by(command)));
     }
     if next == 0 {
         return WRONG;

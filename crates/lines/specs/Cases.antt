@@ -45,12 +45,9 @@ on-spaces : (spaces (32 ∷ 9 ∷ 32 ∷ 97 ∷ []) 0 1 2 ≡ 0 ∷ 0 ∷ 1 ∷ 
 unfolding spaces spacesOf spacesIn checkedLine reading lineOf endOf noFeed blanksUpTo leading spaceOrTab or choose firstReturn
 on-spaces = (refl, refl, refl, refl, refl, refl, refl)
 
--- `123456789. a`; `-    a`; `-     a`; ten digits; `    - a` with and without 32; `2. a` interrupting; `1) a` interrupting; `- - -`; `+ + +`;
+-- ten digits; `    - a` with and without 32; `2. a` interrupting; `1) a` interrupting; `- - -`; `+ + +`;
 -- a blank start, and one that interrupts; without option 16
-on-starts : (start (49 ∷ 50 ∷ 51 ∷ 52 ∷ 53 ∷ 54 ∷ 55 ∷ 56 ∷ 57 ∷ 46 ∷ 32 ∷ 97 ∷ []) 59 false ≡ 0 ∷ 0 ∷ 1 ∷ 11 ∷ 11 ∷ 0 ∷ 46 ∷ [])
-    × (start (45 ∷ 32 ∷ 32 ∷ 32 ∷ 32 ∷ 97 ∷ []) 59 false ≡ 0 ∷ 0 ∷ 1 ∷ 5 ∷ 5 ∷ 0 ∷ 45 ∷ [])
-    × (start (45 ∷ 32 ∷ 32 ∷ 32 ∷ 32 ∷ 32 ∷ 97 ∷ []) 59 false ≡ 0 ∷ 0 ∷ 1 ∷ 2 ∷ 2 ∷ 0 ∷ 45 ∷ [])
-    × (start (49 ∷ 50 ∷ 51 ∷ 52 ∷ 53 ∷ 54 ∷ 55 ∷ 56 ∷ 57 ∷ 48 ∷ 46 ∷ 32 ∷ 97 ∷ []) 59 false ≡ 0 ∷ 0 ∷ 0 ∷ 0 ∷ 0 ∷ 0 ∷ 0 ∷ [])
+on-starts : (start (49 ∷ 50 ∷ 51 ∷ 52 ∷ 53 ∷ 54 ∷ 55 ∷ 56 ∷ 57 ∷ 48 ∷ 46 ∷ 32 ∷ 97 ∷ []) 59 false ≡ 0 ∷ 0 ∷ 0 ∷ 0 ∷ 0 ∷ 0 ∷ 0 ∷ [])
     × (start (32 ∷ 32 ∷ 32 ∷ 32 ∷ 45 ∷ 32 ∷ 97 ∷ []) 59 false ≡ 0 ∷ 0 ∷ 0 ∷ 0 ∷ 0 ∷ 0 ∷ 0 ∷ [])
     × (start (32 ∷ 32 ∷ 32 ∷ 32 ∷ 45 ∷ 32 ∷ 97 ∷ []) 16 false ≡ 0 ∷ 0 ∷ 1 ∷ 6 ∷ 6 ∷ 0 ∷ 45 ∷ [])
     × (start (50 ∷ 46 ∷ 32 ∷ 97 ∷ []) 59 true ≡ 0 ∷ 0 ∷ 0 ∷ 0 ∷ 0 ∷ 0 ∷ 0 ∷ [])
@@ -61,7 +58,7 @@ on-starts : (start (49 ∷ 50 ∷ 51 ∷ 52 ∷ 53 ∷ 54 ∷ 55 ∷ 56 ∷ 57 �
     × (start (45 ∷ []) 59 true ≡ 0 ∷ 0 ∷ 0 ∷ 0 ∷ 0 ∷ 0 ∷ 0 ∷ [])
     × (start (45 ∷ 32 ∷ 97 ∷ []) 47 false ≡ 0 ∷ 0 ∷ 0 ∷ 0 ∷ 0 ∷ 0 ∷ 0 ∷ [])
 unfolding start startOf startIn startAt startFrom startAfter filledStart padding markerOf orderedOf mayStart startsWithOne orderedMark bulletMark thematicBreak marksOnly markOrBlank isMark breakMark blank blanks blanksUpTo indentation optionOn every count leading digit spaceOrTab or and choose checkedLine reading lineOf endOf noFeed firstReturn
-on-starts = (refl, refl, refl, refl, refl, refl, refl, refl, refl, refl, refl, refl, refl)
+on-starts = (refl, refl, refl, refl, refl, refl, refl, refl, refl, refl)
 
 -- a blank line with the flag set and clear; a filled line that goes on, has too few, has none; size 0
 on-goings : (going (32 ∷ 10 ∷ []) 0 2 true ≡ 0 ∷ 0 ∷ 0 ∷ 0 ∷ 1 ∷ [])

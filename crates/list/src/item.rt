@@ -2,7 +2,7 @@
 //
 //     [+14 -14] +16 [+18 -18] +17 -17 [+14 -14] -16
 //
-// At most seven events are looked at, however many the item holds.
+// At most ten events are looked at, however many the item holds.
 
 use record::bytes::u32_at;
 use record::limits::ENTER;

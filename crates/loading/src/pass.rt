@@ -32,7 +32,7 @@ fn outside() -> Inside
     }
 }
 
-// Puts the runs of the record into the slots of work memory, each with its chain emptied, or names the first that is no run.
+// Puts the runs of the record into the slots of work memory, or names the first that is no run. Heads of chains are not touched.
 pub fn load(s: &[u8], d: usize, e: usize, options: u32, w: &mut [u8]) -> Loaded
     requires { ⌜ Loadable (now s) d e (now w) ⌝ }
     ensures { λ r. ⌜ Loads (now (s .entry)) d e options (now (w .entry)) r (now (w .exit)) ⌝ }

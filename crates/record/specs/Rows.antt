@@ -71,7 +71,7 @@ pub data Unsound (s : List ℕ) (p : ℕ) : Type 0 where
   an-event : (k : ℕ) → k < eventCount s → Broken s (documentCount s) k → p ≡ placeOf (documentCount s) k → Unsound s p
   left-open : none (openNames s (documentCount s) (eventCount s)) ≡ false → p ≡ length s → Unsound s p
 
--- the rows of the table that a check of the record can give
+-- the rows of the table that a check of the record can give. Amendment D18: the limits in 3 and 5, since the standard sets none
 pub data Row (s : List ℕ) (options works n p : ℕ) : Type 0 where
   row-1 : works < 65536 → n ≡ 1 → p ≡ 0 → Row s options works n p
   row-2 : 63 < options → n ≡ 2 → p ≡ 0 → Row s options works n p

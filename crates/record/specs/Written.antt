@@ -16,7 +16,7 @@ pub record Judges (Offends : ℕ → Type 0) (made : Resolution) : Type 0 where
   pub none : (es : List Event) → made ≡ gives es → (j : ℕ) → Offends j → ⊥
 
 -- the rows that a resolver can give; `Offends` says which enter events break its shape rule, `made` is what it makes of the record, and `outs`
--- the output's length
+-- the output's length. Amendment D18: row 7, since the standard sets no limit
 pub data WrittenRow (s : List ℕ) (options works : ℕ) (Offends : ℕ → Type 0) (made : Resolution) (outs n p : ℕ) : Type 0 where
   by-check : Row s options works n p → WrittenRow s options works Offends made outs n p
   row-6 : (k : ℕ) → Offends k → n ≡ 6 → p ≡ placeOf (documentCount s) k → WrittenRow s options works Offends made outs n p

@@ -74,7 +74,7 @@ shown profile options s =
     let whole = outcome profile options doc es in
     shows (groupEvents (output profile options doc es)) (leftovers (whole .groups) 0 (runsOf doc es)) (whole .tried)
 
--- a row of document 01's table: the text and what it shows
+-- a case: the text and what it shows. Document 01's twelve stand in crates/claims, where all definitions are seen alike
 pub record Row : Type 0 where
   pub text : String
   pub expected : Shown
@@ -82,32 +82,7 @@ pub record Row : Type 0 where
 abbrev pub row : String → List Event → List ℕ → ℕ → Row
 row s gs ls t = record { text = s; expected = shows gs ls t }
 
--- "Table, proved (12), options 59": those of its rows that are of attention. `**a*` leftover at 0, emphasis 1; `*a**` leftover at 3;
--- `***a***` strong inside emphasis; `a**b*c` none; `a***b***c` two groups; `a_b_c` none; `~~~a~~~` none; `*a _b* c_` one group.
-unfoldable pub rows : List Row
-rows =
-    row "**a*" (enter 2 1 ∷ exit 2 4 ∷ []) (0 ∷ []) 1
-    ∷ row "*a**" (enter 2 0 ∷ exit 2 3 ∷ []) (3 ∷ []) 1
-    ∷ row "***a***" (enter 2 0 ∷ enter 5 1 ∷ exit 5 6 ∷ exit 2 7 ∷ []) [] 2
-    ∷ row "a**b*c" [] (1 ∷ 4 ∷ []) 1
-    ∷ row "a***b***c" (enter 2 1 ∷ enter 5 2 ∷ exit 5 7 ∷ exit 2 8 ∷ []) [] 2
-    ∷ row "a_b_c" [] (1 ∷ 3 ∷ []) 0
-    ∷ row "~~~a~~~" [] (0 ∷ 4 ∷ []) 1
-    ∷ row "*a _b* c_" (enter 2 0 ∷ exit 2 6 ∷ []) (3 ∷ 8 ∷ []) 1
-    ∷ []
-
--- every row of the table shows what it says
-pub table : map (λ (r : Row). shown crate 59 (r .text)) rows ≡ map (λ (r : Row). r .expected) rows
-unfolding rows shown bytes split splitFrom stretchOf nameOf groupEvents leftovers choose and after classOf standardClass amended whitespace punctuation optionOn byteAt byteBefore entersRun runsFrom runsOf isMarker classBeside leftFlanking rightFlanking besideMarker flanksLeft flanksRight canOpen canClose threes tildes ruleOver opener closer sameContainer candidate takes back look forth amount alter matched rounds total plain standing outcome groupName closings openings closed opened remains closingEvents openingEvents leftoverEvents runEvents replaced output
-table = refl
-
--- and the events that come out are as many as the formula says
-pub sizes : map (λ (r : Row). resultSize crate 59 (bytes (r .text)) (split (bytes (r .text)))) rows
-    ≡ map (λ (r : Row). length (output crate 59 (bytes (r .text)) (split (bytes (r .text))))) rows
-unfolding rows emptied resultSize bytes split splitFrom stretchOf nameOf groupEvents leftovers choose and after classOf standardClass amended whitespace punctuation optionOn byteAt byteBefore entersRun runsFrom runsOf isMarker classBeside leftFlanking rightFlanking besideMarker flanksLeft flanksRight canOpen canClose threes tildes ruleOver opener closer sameContainer candidate takes back look forth amount alter matched rounds total plain standing outcome groupName closings openings closed opened remains closingEvents openingEvents leftoverEvents runEvents replaced output
-sizes = refl
-
--- the same under a profile and options of its own
+-- and the profile and options under which it does
 pub record Trial : Type 0 where
   pub profile : Profile
   pub options : ℕ
@@ -117,7 +92,7 @@ abbrev pub trial : Profile → ℕ → Row → Trial
 trial profile options r = record { profile = profile; options = options; case = r }
 
 -- "Departures already found". `a*_b_*`: crate two groups, standard one. `****a** b*c`: crate one group, standard two. `~a~` only with 4.
--- Then one where `~` has no clause on neighbouring markers, and one of 22 runs.
+-- Then one where `~` has no clause on neighbouring markers, one whose closer is tried again, and one of 22 runs.
 unfoldable pub trials : List Trial
 trials =
     trial crate 59 (row "a*_b_*" (enter 2 1 ∷ enter 2 2 ∷ exit 2 5 ∷ exit 2 6 ∷ []) [] 2)
@@ -129,12 +104,19 @@ trials =
     ∷ trial crate 59 (row "~a~" [] (0 ∷ 2 ∷ []) 1)
     ∷ trial crate 63 (row "~a~" (enter 8 0 ∷ exit 8 3 ∷ []) [] 1)
     ∷ trial crate 59 (row "a~~*b*~~" (enter 2 3 ∷ exit 2 6 ∷ []) (1 ∷ 6 ∷ []) 1)
+    ∷ trial crate 59 (row "***a***" (enter 2 0 ∷ enter 5 1 ∷ exit 5 6 ∷ exit 2 7 ∷ []) [] 2)
     ∷ trial crate 59 (row "*a **b _c* d__ *e ~~f _g* h~~ i* _j **k__ l*m** _n* **o__ p*q**" (enter 2 0 ∷ enter 2 3 ∷ enter 2 4 ∷ exit 2 10 ∷ enter 2 15 ∷ exit 2 25 ∷ exit 2 32 ∷ enter 2 33 ∷ exit 2 40 ∷ exit 2 44 ∷ enter 2 48 ∷ exit 2 56 ∷ []) (7 ∷ 12 ∷ 18 ∷ 22 ∷ 27 ∷ 36 ∷ 40 ∷ 45 ∷ 50 ∷ 52 ∷ 56 ∷ 59 ∷ 61 ∷ []) 7)
     ∷ []
 
 pub departures : map (λ (t : Trial). shown (t .profile) (t .options) (t .case .text)) trials ≡ map (λ (t : Trial). t .case .expected) trials
 unfolding trials shown bytes split splitFrom stretchOf nameOf groupEvents leftovers choose and after classOf standardClass amended whitespace punctuation optionOn byteAt byteBefore entersRun runsFrom runsOf isMarker classBeside leftFlanking rightFlanking besideMarker flanksLeft flanksRight canOpen canClose threes tildes ruleOver opener closer sameContainer candidate takes back look forth amount alter matched rounds total plain standing outcome groupName closings openings closed opened remains closingEvents openingEvents leftoverEvents runEvents replaced output
 departures = refl
+
+-- and the events that come out are as many as the formula says
+pub sizes : map (λ (t : Trial). resultSize (t .profile) (t .options) (bytes (t .case .text)) (split (bytes (t .case .text)))) trials
+    ≡ map (λ (t : Trial). length (output (t .profile) (t .options) (bytes (t .case .text)) (split (bytes (t .case .text))))) trials
+unfolding trials emptied resultSize bytes split splitFrom stretchOf nameOf groupEvents leftovers choose and after classOf standardClass amended whitespace punctuation optionOn byteAt byteBefore entersRun runsFrom runsOf isMarker classBeside leftFlanking rightFlanking besideMarker flanksLeft flanksRight canOpen canClose threes tildes ruleOver opener closer sameContainer candidate takes back look forth amount alter matched rounds total plain standing outcome groupName closings openings closed opened remains closingEvents openingEvents leftoverEvents runEvents replaced output
+sizes = refl
 
 -- "Whole case (+ enter, - exit): `*a*` with events +1@0, -1@1, +0@1, -0@2, +1@2, -1@3 gives 10 events", byte by byte: those events, and the
 -- section that is written
@@ -168,7 +150,7 @@ pub record Shape : Type 0 where
 abbrev pub shape : String → ℕ → List Event → Option ℕ → Shape
 shape s options es o = record { text = s; options = options; events = es; offends = o }
 
--- "name 1 is entered, then at once left, at a later place; all bytes between are one marker; the byte after is not that marker (the byte
+-- "name 1 is entered, then at once left, at a later place; all bytes between are one marker ..; the byte after is not that marker (the byte
 -- before may be); its option is on (1 for `*` and `_`, 2 for `~`)": each part broken, and the earliest named
 unfoldable pub shapes : List Shape
 shapes =

@@ -1,5 +1,6 @@
 -- Which runs can open and which can close: CommonMark 0.31 §6.2, and apart from it the crate's clause on neighbouring markers, an amendment
--- that a profile switches on. Taking `besideMarker` out of the two functions that mention it gives the standard.
+-- that a profile switches on. Taking `besideMarker` out of the two functions that mention it gives the standard's rule, over these classes and
+-- these neighbours.
 -- Assumes nothing.
 use Prim.Native.Nat.{ℕ}
 use mathlib.Core.Bool.{Bool, true, false, not, _&&_, _||_}
@@ -21,7 +22,8 @@ isPunctuation Whitespace = false
 isPunctuation Punctuation = true
 
 -- the class of what stands beside a run: "the beginning and the end of the line count as Unicode whitespace". In document 01 they are those
--- of the document; a line's own are its line feeds, which are whitespace too.
+-- of the document; a line's own are its line feeds, which are whitespace too. Amendment D19: where a line begins behind the mark of a block
+-- quote, that mark is what stands before a run there.
 unfoldable pub classBeside : Option ℕ → Class
 classBeside none = Whitespace
 classBeside (some b) = classOf b

@@ -21,7 +21,7 @@ isOther Other = true
 isOther Whitespace = false
 isOther Punctuation = false
 
--- "Open (000): after is other; or after is punctuation and before isn't other; or the marker isn't `~` and the next byte is `*`, `_`, or
+-- "Open: after is other; or after is punctuation and before isn't other; or the marker isn't `~` and the next byte is `*`, `_`, or
 -- (option 2) `~`."
 unfoldable pub firstOpen : Bool → ℕ → Option ℕ → Option ℕ → Bool
 firstOpen strike marker before after =

@@ -9,7 +9,8 @@ use Rattle.record.specs.Rows.{Least}
 use Rattle.record.specs.declared.check.Refusal.{Refusal}
 use Rattle.scan.specs.Line.{refusal}
 
--- the rows of every line reader: "options over 63"; "a line over 16,384 bytes", at 16,384; "a carriage return in the .. line", at its offset
+-- the rows of every line reader: "options over 63"; "a line over 16,384 bytes", at 16,384; "a carriage return in the .. line", at its offset.
+-- Amendment D18: the standard sets no limit to a line
 pub data Row (s : List ℕ) (options n p : ℕ) : Type 0 where
   row-2 : 63 < options → n ≡ 2 → p ≡ 0 → Row s options n p
   row-3 : 16384 < length s → n ≡ 3 → p ≡ 16384 → Row s options n p

@@ -51,7 +51,7 @@ unfoldable pub blank : List ℕ → Bool
 blank l = every spaceOrTab l
 
 -- Document 01: "the spaces and tabs that stand there, counted in bytes, up to a maximum".
--- Amendment D8, to §2.2, where a tab counts as the columns up to the next tab stop: here it counts as one.
+-- Amendments D8 and D14, to §2.2, where a tab counts as the columns up to the next tab stop: here it counts as one.
 unfoldable pub blanksUpTo : ℕ → List ℕ → ℕ
 blanksUpTo max l = leading spaceOrTab (take max l)
 

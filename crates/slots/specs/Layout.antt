@@ -1,4 +1,4 @@
--- Where a resolver of attention keeps what in lent work memory. Document 01: "fixed slots with chain numbers", "slots and a height".
+-- Where a resolver of attention keeps what in lent work memory: fixed slots with chain numbers, and the open runs as a stack with a height.
 --
 --     from     to       what                        one of them
 --          0   16,384   a slot to each of 1,024     16 bytes: whole size (2), markers left (2), marker (1), can open (1), can close (1),

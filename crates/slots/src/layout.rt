@@ -6,12 +6,6 @@ ghost use mathlib.Core.Path.{_≡_};
 ghost use Prim.Native.Nat.{_<_};
 ghost use Rattle.slots.specs.Layout.{Room, wholeOf, leftOf, markerOf, opensOf, closesOf, chainOf, linkOf, firstGroupOf, latestGroupOf, headOf, openAt, groupOpener, groupCloser, groupTaken, groupEarlier, withWhole, withLeft, withMarker, withOpens, withCloses, withChain, withLink, withFirstGroup, withLatestGroup, withHead, withOpenAt, withGroup};
 
-pub const MAX_RUNS: usize = 1024;
-
-pub const MAX_CHAINS: usize = 6147;
-
-pub const MAX_GROUPS: usize = 1000;
-
 // The size of the whole run.
 pub fn whole(w: &[u8], i: usize) -> usize
     requires { ⌜ (i < 1024) × Room (now w) ⌝ }
