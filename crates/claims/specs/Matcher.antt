@@ -4,11 +4,15 @@
 -- container. Each marker byte of a run lies in exactly one piece of a group or one leftover piece of data."
 --
 -- The plain rule (`plain`, and `closerFrom` for one closer) stands over the list of all earlier runs and knows of no chain. The chained matcher is a
--- definition too: `onward` (crates/chains/specs/Walk.antt) finds the next match, reading run by run onward only that run's own slot and, at a closer,
--- its chain from the head; `chained` (crates/matcher/specs/Along.antt) goes on by it closer by closer. Three contracts say that this is what is done:
--- `next_match` (crates/chains/src/walk.rt) is equal to `onward`, and `handle_closer` and `find_groups` (crates/matcher/src/closers.rt) to `closerBy` and
--- `chained`, each in answer and memory. That only chains are looked at is in the first: its premises say nothing of slots off the chain. That the other
--- two find their groups by it is seen in their bodies: on memory that is as they require, a search over all runs would come to the same. What their promises, `Handles` and `Answers`, say is drawn out here.
+-- definition too: `onward` (crates/chains/specs/Walk.antt) finds the next match, reading run by run onward only that run's own slot and, at a
+-- closer, its chain from the head; `chained` (crates/matcher/specs/Along.antt) goes on by it closer by closer. Three contracts say that this is
+-- what is done: `next_match` (crates/chains/src/walk.rt) is equal to `onward`, and `handle_closer` and `find_groups` (crates/matcher/src/closers.rt)
+-- to `closerBy` and `chained`, each in answer and memory. That only chains are looked at is in the first: its premises say nothing of slots off
+-- the chain. That the other two find their groups by it is seen in their bodies: on memory that is as they require, a search over all runs would
+-- come to the same. What their promises, `Handles` and `Answers`, say is drawn out here.
+--
+-- First the call: what it reports and writes, and that nothing crosses. Then the matcher, from the memory that a record's runs are loaded into,
+-- closer by closer: its groups, and its chains.
 -- Assumes nothing.
 use Prim.Native.Nat.{ℕ, _+_, _<_, _≤_}
 use native.Mathlib.Omega.{arith}
@@ -174,24 +178,6 @@ pub accepted-groups : (s : List ℕ) (options n made tried : ℕ) (w w′ : List
 unfolding outcome
 accepted-groups s options n made tried w w′ f a = groups-are-the-plain-rule's (crate .rule options) w n made tried w′ a .1 (begin crate options (docOf s) (allEvents s)) f
 
--- where a matcher stands that began on the memory w₀ with the runs rs₀, and has gone on by steps that keep the promise of `handle_closer`: its
--- memory, the height of its open runs, the run to go on from, the candidates tried; and the groups and runs as the plain rule has them by then
-pub data Stands (rule : Rule) (n : ℕ) (w₀ : List ℕ) (rs₀ : List Standing) : List ℕ → ℕ → ℕ → ℕ → List Group → List Standing → Type 0 where
-  at-the-first : Stands rule n w₀ rs₀ w₀ 0 0 0 [] rs₀
-  after-a-closer : {w w′ : List ℕ} {height from tried next height′ groups′ tried′ : ℕ} {gs : List Group} {rs : List Standing} →
-      Stands rule n w₀ rs₀ w height from tried gs rs → Handles rule w height n from (length gs) tried (Closed next height′ groups′ tried′) w′ →
-      Stands rule n w₀ rs₀ w′ height′ next tried′ (closerFrom rule rs from gs tried .groups) (closerFrom rule rs from gs tried .runs)
-
-ready-there : {rule : Rule} {n : ℕ} {w₀ : List ℕ} {rs₀ : List Standing} {w : List ℕ} {height from tried : ℕ} {gs : List Group} {rs : List Standing} →
-    Fresh w₀ rs₀ n → Stands rule n w₀ rs₀ w height from tried gs rs → Ready w height rs gs n from
-ready-there f at-the-first = fresh-ready _ _ _ f
-ready-there f (after-a-closer st h) = let x = h .of _ _ (ready-there f st) refl in rw (x .at) (x .ready)
-
--- after each closer that takes an opener, from the first to the last, the chains hold exactly the runs up to it that can still open
-pub chains-after-each : (rule : Rule) (n : ℕ) (w₀ : List ℕ) (rs₀ : List Standing) (w : List ℕ) (height from tried : ℕ) (gs : List Group) (rs : List Standing) →
-    Fresh w₀ rs₀ n → Stands rule n w₀ rs₀ w height from tried gs rs → Listed w height rs from
-chains-after-each rule n w₀ rs₀ w height from tried gs rs f st = ready-there f st .listed
-
 -- after each closer the chains hold exactly the runs up to it that can still open, as the plain rule has them on finishing that closer. A closer
 -- that takes an opener is a step of its own: this is what the step promises
 pub chains-after-a-match : (rule : Rule) (w : List ℕ) (height n from groups tried next height′ groups′ tried′ : ℕ) (w′ : List ℕ) →
@@ -211,6 +197,31 @@ chains-after-passing rule w height rs gs n from passed t u w′ height′ r h e 
     let went = onward-went passed rule w height rs gs n from t r h in
     let at-end : Ready w′ height′ rs gs n (from + passed) = rw e at (went .ready) in
     at-end .listed
+
+-- where a matcher stands that began on the memory w₀ with the runs rs₀, and has gone on by steps that keep the promise of `handle_closer`: its
+-- memory, the height of its open runs, the run to go on from, the candidates tried; and the groups and runs as the plain rule has them by then
+pub data Stands (rule : Rule) (n : ℕ) (w₀ : List ℕ) (rs₀ : List Standing) : List ℕ → ℕ → ℕ → ℕ → List Group → List Standing → Type 0 where
+  at-the-first : Stands rule n w₀ rs₀ w₀ 0 0 0 [] rs₀
+  after-a-closer : {w w′ : List ℕ} {height from tried next height′ groups′ tried′ : ℕ} {gs : List Group} {rs : List Standing} →
+      Stands rule n w₀ rs₀ w height from tried gs rs → Handles rule w height n from (length gs) tried (Closed next height′ groups′ tried′) w′ →
+      Stands rule n w₀ rs₀ w′ height′ next tried′ (closerFrom rule rs from gs tried .groups) (closerFrom rule rs from gs tried .runs)
+
+ready-there : {rule : Rule} {n : ℕ} {w₀ : List ℕ} {rs₀ : List Standing} {w : List ℕ} {height from tried : ℕ} {gs : List Group} {rs : List Standing} →
+    Fresh w₀ rs₀ n → Stands rule n w₀ rs₀ w height from tried gs rs → Ready w height rs gs n from
+ready-there f at-the-first = fresh-ready _ _ _ f
+ready-there f (after-a-closer st h) = let x = h .of _ _ (ready-there f st) refl in rw (x .at) (x .ready)
+
+-- so after each closer that takes an opener, from the first to the last, the chains hold exactly the runs up to it that can still open
+pub chains-after-each : (rule : Rule) (n : ℕ) (w₀ : List ℕ) (rs₀ : List Standing) (w : List ℕ) (height from tried : ℕ) (gs : List Group) (rs : List Standing) →
+    Fresh w₀ rs₀ n → Stands rule n w₀ rs₀ w height from tried gs rs → Listed w height rs from
+chains-after-each rule n w₀ rs₀ w height from tried gs rs f st = ready-there f st .listed
+
+-- and so they do after each closer that is passed on the way from there to the next match
+pub chains-on-the-way : (rule : Rule) (n : ℕ) (w₀ : List ℕ) (rs₀ : List Standing) (w : List ℕ) (height from tried : ℕ) (gs : List Group) (rs : List Standing)
+    (passed t u : ℕ) (w′ : List ℕ) (height′ : ℕ) → Fresh w₀ rs₀ n → Stands rule n w₀ rs₀ w height from tried gs rs → from + passed ≤ n →
+    onward passed rule w height from t ≡ (Done u, (w′, height′)) → Listed w′ height′ rs (from + passed)
+chains-on-the-way rule n w₀ rs₀ w height from tried gs rs passed t u w′ height′ f st h e =
+    chains-after-passing rule w height rs gs n from passed t u w′ height′ (ready-there f st) h e
 
 -- where chains and runs agree, what `onward` finds along the chains, and how many it tries, is what the plain rule finds among all earlier runs
 pub chains-find-the-same : (rule : Rule) (w : List ℕ) (height : ℕ) (rs : List Standing) (gs : List Group) (n from m t : ℕ) →
