@@ -1,6 +1,8 @@
--- The index of the claim. The calls on a record, the calls on a line; the matcher; the twelve cases of document 01.
+-- The index of the claim. The calls on a record, the calls on a line; what is true of accepted headings and lists; the matcher; the twelve cases of
+-- document 01.
 pub mod Told
 pub mod Records
 pub mod Lines
+pub mod Accepted
 pub mod Matcher
 pub mod Cases

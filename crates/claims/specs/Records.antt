@@ -12,6 +12,7 @@ use lib.Dec.{leb}
 use borrow.Author.Tests.{leb-true, leb-false}
 use Rattle.record.specs.Check.{admitted, refuse}
 use Rattle.record.specs.Event.{documentOf, eventsOf, sectionBytes}
+use Rattle.record.specs.Sound.{sound}
 use Rattle.record.specs.Rows.{Least, Row, row-1, row-2, row-3, row-4, row-5, documentCount, eventCount}
 use Rattle.record.specs.Written.{WrittenRow, by-check, row-6, row-7, row-8, ExactlyWritten}
 use Rattle.record.specs.Outcome.{Outcome, accepted, refused, refusing, Resolution, gives, outcome, onto, bytesWritten}
@@ -20,6 +21,7 @@ use Rattle.record.specs.declared.check.Reading.{Reading}
 use Rattle.record.specs.declared.check.Reading.the-variants.{Good, Refused}
 use Rattle.record.specs.declared.event.Event.{Event}
 use Rattle.record.proofs.Exactly.{exactly}
+use Rattle.record.proofs.Good.{admission}
 use Rattle.record.proofs.Sections.{length-section}
 use Rattle.record.proofs.Output.{onto-none}
 use Rattle.runs.specs.Rule.{crate}
@@ -102,6 +104,11 @@ read-exactly {s} {options} {work} {r} a =
         let h = row-number (exactly s options (length work) .refused (x .number) (x .place) q .holds) in
         let k : r .number ≡ x .number = ap (λ (y : LarkReading). y .number) (a .answer ∙ ap readingOf q) in
         absurd (omega arith)
+
+-- where no row holds the record's events are sound
+pub no-row-sound : (s : List ℕ) (options works : ℕ) → ((n p : ℕ) → Row s options works n p → ⊥) → sound 64 (documentCount s) (allEvents s) ≡ true
+no-row-sound s options works none =
+    admission s options works (documentCount s) (eventCount s) (exactly s options works .accepted none) .good .sound-events
 
 -- the claim of the call that reads, of one record and one option number
 pub record ReadClaim (s : List ℕ) (options : ℕ) : Type 0 where
