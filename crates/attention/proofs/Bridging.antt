@@ -14,7 +14,7 @@ use Rattle.record.specs.Choice.{choose}
 use Rattle.record.specs.declared.event.Event.{Event}
 use Rattle.runs.specs.Runs.{Run, runsOf}
 use Rattle.runs.specs.Rule.{crate}
-use Rattle.runs.specs.Plain.{Standing, at, Group, group}
+use Rattle.runs.specs.Plain.{Standing, at, Group, group, groupAt as nthGroup}
 use Rattle.runs.specs.Pieces.{standing, outcome, closed, opened}
 use Rattle.runs.specs.Output.{noRun}
 use Rattle.slots.specs.Layout.{Room, wholeOf, leftOf, markerOf, firstGroupOf, latestGroupOf, groupOpener, groupCloser, groupTaken, groupEarlier}
@@ -23,7 +23,7 @@ use Rattle.groups.proofs.Matches.{at-begin}
 use Rattle.groups.proofs.Accounts.{outcome-account}
 use Rattle.groups.proofs.Theorems.{closers-in-order}
 use Rattle.matcher.specs.Chains.{Reads}
-use Rattle.matcher.specs.Groups.{groupAt as nthGroup, firstClosed, lastOpened, Grouped}
+use Rattle.matcher.specs.Groups.{firstClosed, lastOpened, Grouped}
 use Rattle.matcher.specs.Promise.{GroupsOf}
 use Rattle.writing.specs.Kept.{groupAt, groupsFrom, groupsIn, firstClosing, latestOpening, Kept, Slotted}
 

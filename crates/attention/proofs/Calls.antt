@@ -23,7 +23,7 @@ use Rattle.record.proofs.Good.{admission}
 use Rattle.record.proofs.Parts.{length-document}
 use Rattle.record.proofs.Sections.{length-eventsAt}
 use Rattle.runs.specs.Runs.{offender, runsOf}
-use Rattle.runs.specs.Rule.{Rule, crate}
+use Rattle.runs.specs.Rule.{Rule, ruleFor, crate}
 use Rattle.runs.specs.Plain.{Standing, plain}
 use Rattle.groups.specs.Matches.{begin}
 use Rattle.runs.specs.Pieces.{outcome as matching}
@@ -35,7 +35,6 @@ use Rattle.loading.specs.Promise.{Loadable, Ready, Loads}
 use Rattle.loading.proofs.Asked.{loadable}
 use Rattle.loading.specs.declared.pass.Loaded.{Loaded}
 use Rattle.loading.specs.declared.pass.Loaded.the-variants.{Runs, Offends}
-use Rattle.chains.specs.Walk.{ruleFor}
 use Rattle.matcher.specs.Promise.{GroupsOf, Answers, Answered as Matching, Loaded as Begun}
 use Rattle.matcher.specs.declared.closers.Found.{Found}
 use Rattle.matcher.specs.declared.closers.Found.the-variants.{Groups, TooMany}

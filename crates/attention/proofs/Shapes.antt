@@ -13,7 +13,7 @@ use Rattle.record.specs.Options.{optionOn}
 use Rattle.record.specs.Event.{event, exit}
 use Rattle.record.specs.declared.event.Event.{Event}
 use Rattle.record.proofs.Bools.{and-left, and-right, and-both, clash}
-use Rattle.runs.specs.Runs.{isMarker, allowed, leftAtOnce, firstPlace, allAre, isByte, byteAt, shaped}
+use Rattle.runs.specs.Runs.{isMarker, allowed, leftAtOnce, firstPlace, allAre, isByte, byteAt, runBetween, shaped}
 use Rattle.attention.specs.Shape.{Marker, star, line, tilde, Shape}
 
 -- a scan over bytes that are all one says so of each, and the other way round
@@ -69,7 +69,7 @@ exits-run x k n = let e : event (x .kind) (x .name) (x .place) ≡ exit 1 (x .pl
 
 module _ (doc : List ℕ) (options : ℕ) (e : Event) where
   pub shape-of : (es : List Event) → shaped doc options e es ≡ true → Shape doc options (e .place) es
-  unfolding shaped leftAtOnce
+  unfolding shaped runBetween leftAtOnce
   shape-of [] q = absurd (clash (and-left _ _ q) refl)
   shape-of (x ∷ es) q =
       let m = getD doc (e .place) 0 in
@@ -93,7 +93,7 @@ module _ (doc : List ℕ) (options : ℕ) (e : Event) where
   tested : (to : ℕ) (rest : List Event) (marker : ℕ) → e .place < to → Marker options marker →
       ((i : ℕ) → e .place ≤ i → i < to → getD doc i 0 ≡ marker) → (to < length doc → getD doc to 0 ≡ marker → ⊥) →
       shaped doc options e (exit 1 to ∷ rest) ≡ true
-  unfolding shaped leftAtOnce and
+  unfolding shaped runBetween leftAtOnce and
   tested to rest marker later known f g =
       let same : getD doc (e .place) 0 ≡ marker = f (e .place) (omega arith) later in
       let t = marker-tested known in

@@ -8,11 +8,11 @@ use lib.ListN.{replicate}
 use Rattle.record.specs.Choice.{choose, and}
 use Rattle.runs.specs.declared.Next.{Next}
 use Rattle.runs.specs.declared.Next.the-variants.{Match, Done}
-use Rattle.runs.specs.Rule.{threes, tildes, ruleOver}
+use Rattle.runs.specs.Rule.{threes, tildes, ruleOver, ruleFor}
 use Rattle.runs.specs.Plain.{amount}
 use Rattle.slots.specs.Words.{get16, put16}
 use Rattle.slots.specs.Layout.{withWhole, withLeft, withMarker, withOpens, withCloses, withChain}
-use Rattle.chains.specs.Walk.{closing, opening, bothAt, takesAt, ruleFor, down, seek, passed, raised, onward}
+use Rattle.chains.specs.Walk.{closing, opening, bothAt, takesAt, down, seek, passed, raised, onward}
 use Rattle.chains.specs.Step.{unchained, popped, cleared, leaves, lowered, joined, matchedAt}
 
 -- a run's slot: its number, size, marker, whether it opens and closes, its chain

@@ -9,8 +9,8 @@ use lib.Dec.{eqb, ltb}
 use borrow.Author.Tests.{lt-ltb, le-ltb}
 use Rattle.record.specs.Choice.{choose, and}
 use Rattle.slots.specs.Layout.{leftOf, opensOf, closesOf, chainOf, headOf, markerOf, withLink, withHead, withOpenAt}
-use Rattle.runs.specs.Rule.{threes, tildes, ruleOver}
-use Rattle.chains.specs.Walk.{closing, opening, bothAt, takesAt, ruleFor, first, passed, raised}
+use Rattle.runs.specs.Rule.{threes, tildes, ruleOver, ruleFor}
+use Rattle.chains.specs.Walk.{closing, opening, bothAt, takesAt, first, passed, raised}
 
 -- without markers left a run neither opens nor closes, with some its flag decides
 module _ (w : List ℕ) (i : ℕ) where

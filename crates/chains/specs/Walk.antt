@@ -11,7 +11,7 @@ use lib.Dec.{eqb, ltb}
 use Rattle.record.specs.Choice.{choose, and}
 use Rattle.runs.specs.declared.Next.{Next}
 use Rattle.runs.specs.declared.Next.the-variants.{Match, Done}
-use Rattle.runs.specs.Rule.{Side, Rule, ruleOver}
+use Rattle.runs.specs.Rule.{Side, Rule}
 use Rattle.runs.specs.Plain.{Look, hit, miss, settle}
 use Rattle.slots.specs.Layout.{Room, wholeOf, leftOf, markerOf, opensOf, closesOf, chainOf, linkOf, headOf, withLink, withHead, withOpenAt}
 
@@ -32,10 +32,6 @@ sideAt w i = record { whole = wholeOf w i; left = leftOf w i; both = bothAt w i 
 -- whether the closer i takes the run o, by the rule
 unfoldable pub takesAt : Rule → List ℕ → ℕ → ℕ → Bool
 takesAt rule w o i = rule (markerOf w i) (sideAt w o) (sideAt w i)
-
--- the rule of this resolver, by option 4: the crate's
-abbrev pub ruleFor : Bool → Rule
-ruleFor single = ruleOver (λ s. s .left) single
 
 -- the head of the run i's chain
 abbrev pub first : List ℕ → ℕ → ℕ

@@ -5,8 +5,9 @@ use runs::eligible;
 ghost use mathlib.Core.Path.{_≡_};
 ghost use mathlib.Core.Bool.{_||_};
 ghost use Prim.Native.Nat.{_+_, _-_, _<_, _≤_};
+ghost use Rattle.runs.specs.Rule.{ruleFor};
 ghost use Rattle.slots.specs.Layout.{Room, chainOf};
-ghost use Rattle.chains.specs.Walk.{closing as closingAt, opening as openingAt, bothAt, takesAt, ruleFor, first as firstOf, passed, raised, onward, Sound};
+ghost use Rattle.chains.specs.Walk.{closing as closingAt, opening as openingAt, bothAt, takesAt, first as firstOf, passed, raised, onward, Sound};
 
 // What a walk finds, and how many runs are open then.
 pub struct Walked {

@@ -16,7 +16,7 @@ use Rattle.record.specs.Outcome.{Resolution, offends, gives}
 use Rattle.record.specs.declared.event.Event.{Event}
 use Rattle.classes.specs.Class.{classOf, standardClass, amended, whitespace, punctuation}
 use Rattle.runs.specs.Texts.{bytes}
-use Rattle.runs.specs.Runs.{byteAt, byteBefore, entersRun, runsFrom, runsOf, isMarker, allowed, leftAtOnce, allAre, shaped, offenderFrom, offender}
+use Rattle.runs.specs.Runs.{byteAt, byteBefore, entersRun, runsFrom, runsOf, isMarker, allowed, leftAtOnce, allAre, runBetween, shaped, offenderFrom, offender}
 use Rattle.runs.specs.Flanking.{classBeside, leftFlanking, rightFlanking, besideMarker, flanksLeft, flanksRight, canOpen, canClose}
 use Rattle.runs.specs.Rule.{threes, tildes, ruleOver}
 use Rattle.runs.specs.Plain.{opener, closer, sameContainer, candidate, takes, back, look, forth, amount, alter, matched, rounds, total, plain}
@@ -94,5 +94,5 @@ table =
     ∷ []
 
 pub twelve-cases : map (λ (c : Case). reply (c .asked) (c .text)) table ≡ map (λ (c : Case). c .answer) table
-unfolding table reply groupsAndData headingTexts attention offender offenderFrom shaped leftAtOnce allAre allowed bytes split splitFrom stretchOf nameOf choose and after classOf standardClass amended whitespace punctuation optionOn byteAt byteBefore entersRun runsFrom runsOf isMarker classBeside leftFlanking rightFlanking besideMarker flanksLeft flanksRight canOpen canClose threes tildes ruleOver opener closer sameContainer candidate takes back look forth amount alter matched rounds total plain standing outcome groupName closings openings closed opened remains closingEvents openingEvents leftoverEvents runEvents replaced output startOf startIn startAt startFrom startAfter filledStart padding markerOf orderedOf mayStart startsWithOne orderedMark bulletMark thematicBreak marksOnly markOrBlank isMark breakMark blank blanks blanksUpTo indentation every count leading digit hash filled spaceOrTab or checkedLine reading lineOf endOf noFeed firstReturn brokenOff opening isHeading pieceOf pieces splitHeading eventsFrom headingEvents isOf beforeFirst throughLast innerOf leaf leaves startsWith headed shapedHeading withText resolvedFrom offending earliest headings
+unfolding table reply groupsAndData headingTexts attention offender offenderFrom shaped runBetween leftAtOnce allAre allowed bytes split splitFrom stretchOf nameOf choose and after classOf standardClass amended whitespace punctuation optionOn byteAt byteBefore entersRun runsFrom runsOf isMarker classBeside leftFlanking rightFlanking besideMarker flanksLeft flanksRight canOpen canClose threes tildes ruleOver opener closer sameContainer candidate takes back look forth amount alter matched rounds total plain standing outcome groupName closings openings closed opened remains closingEvents openingEvents leftoverEvents runEvents replaced output startOf startIn startAt startFrom startAfter filledStart padding markerOf orderedOf mayStart startsWithOne orderedMark bulletMark thematicBreak marksOnly markOrBlank isMark breakMark blank blanks blanksUpTo indentation every count leading digit hash filled spaceOrTab or checkedLine reading lineOf endOf noFeed firstReturn brokenOff opening isHeading pieceOf pieces splitHeading eventsFrom headingEvents isOf beforeFirst throughLast innerOf leaf leaves startsWith headed shapedHeading withText resolvedFrom offending earliest headings
 twelve-cases = refl

@@ -15,9 +15,8 @@ use Rattle.record.specs.declared.event.Event.{Event}
 use Rattle.record.proofs.Bools.{and-left, clash}
 use Rattle.runs.specs.Runs.{Run, entersRun, innermostOf, runsOf}
 use Rattle.runs.specs.Rule.{Profile}
-use Rattle.runs.specs.Plain.{Standing, Group, at}
+use Rattle.runs.specs.Plain.{Standing, Group, at, groupAt}
 use Rattle.runs.specs.Pieces.{standing, outcome, closed, opened}
-use Rattle.groups.specs.Groups as groups
 use Rattle.groups.specs.Places.{runAt, Stands}
 use Rattle.groups.specs.Spans.{openerOf, closerOf, spanFrom, textFrom, textTo, spanTo}
 use Rattle.groups.specs.Containers.{Pair, Clear, inside, before, behind, around, NeverCrosses, OneContainer}
@@ -34,8 +33,8 @@ unfolding standing
 one-container profile options doc es i h =
     let gs = outcome profile options doc es .groups in
     let l = in-runs profile options doc es i h in
-    let o = ap (λ (r : Standing). r .container) (at-begin profile options (runsOf doc es) (groups.nth gs i .opener) (omega arith)) in
-    let c = ap (λ (r : Standing). r .container) (at-begin profile options (runsOf doc es) (groups.nth gs i .closer) (l .1)) in
+    let o = ap (λ (r : Standing). r .container) (at-begin profile options (runsOf doc es) (groupAt gs i .opener) (omega arith)) in
+    let c = ap (λ (r : Standing). r .container) (at-begin profile options (runsOf doc es) (groupAt gs i .closer) (l .1)) in
     sym o ∙ (outcome-joined profile options doc es i h .one-container ∙ c)
 
 -- of event numbers: n and m are enters at which the same is open
@@ -103,24 +102,24 @@ clear deep d es rs gs i a b s fits wo wc p (within x y) =
     (omega (arith, starts-behind deep d es s (closerOf rs gs i) wc b y))
 clear deep d es rs gs i a b s fits wo wc p (first x) =
     before x
-    (omega (arith, starts-behind deep d es s (openerOf rs gs i) wo b x, opened-most gs (suc i) (groups.nth gs i .opener), fits (groups.nth gs i .opener)))
+    (omega (arith, starts-behind deep d es s (openerOf rs gs i) wo b x, opened-most gs (suc i) (groupAt gs i .opener), fits (groupAt gs i .opener)))
 clear deep d es rs gs i a b s fits wo wc p (last x) =
     let e = enter-before es a b p in
     behind x
     (omega (
       arith,
       ends-before deep d es s (closerOf rs gs i) wc a x (omega (arith, p .within)),
-      closed-most gs (suc i) (groups.nth gs i .closer),
-      fits (groups.nth gs i .closer),
+      closed-most gs (suc i) (groupAt gs i .closer),
+      fits (groupAt gs i .closer),
     ))
 clear deep d es rs gs i a b s fits wo wc p (about x y) =
     around x y
-    (omega (arith, starts-behind deep d es s (openerOf rs gs i) wo a x, opened-most gs (suc i) (groups.nth gs i .opener), fits (groups.nth gs i .opener)))
+    (omega (arith, starts-behind deep d es s (openerOf rs gs i) wo a x, opened-most gs (suc i) (groupAt gs i .opener), fits (groupAt gs i .opener)))
     (omega (
       arith,
       ends-before deep d es s (closerOf rs gs i) wc b y (p .within),
-      closed-most gs (suc i) (groups.nth gs i .closer),
-      fits (groups.nth gs i .closer),
+      closed-most gs (suc i) (groupAt gs i .closer),
+      fits (groupAt gs i .closer),
     ))
 
 -- what a run's enter is not: the exit of a pair, or the enter of a pair that is no run
@@ -140,12 +139,12 @@ pub never-crosses : (profile : Profile) (options : ℕ) (doc : List ℕ) (es : L
 never-crosses profile options doc es deep d s i a b h p r =
     let gs = outcome profile options doc es .groups in
     let l = in-runs profile options doc es i h in
-    let wo : Stands es (openerOf (runsOf doc es) gs i) = run-stands doc es (groups.nth gs i .opener) (omega arith) in
-    let wc : Stands es (closerOf (runsOf doc es) gs i) = run-stands doc es (groups.nth gs i .closer) (l .1) in
+    let wo : Stands es (openerOf (runsOf doc es) gs i) = run-stands doc es (groupAt gs i .opener) (omega arith) in
+    let wc : Stands es (closerOf (runsOf doc es) gs i) = run-stands doc es (groupAt gs i .closer) (l .1) in
     let n = openerOf (runsOf doc es) gs i .number in
     let m = closerOf (runsOf doc es) gs i .number in
     let lm : m ≤ length es = omega (arith, wc .within) in
-    let nm : n < m = numbers-rise doc es (groups.nth gs i .opener) (groups.nth gs i .closer) (l .0) (l .1) in
+    let nm : n < m = numbers-rise doc es (groupAt gs i .opener) (groupAt gs i .closer) (l .0) (l .1) in
     let q : innermostOf (openAt es n) ≡ innermostOf (openAt es m) = sym (wo .container) ∙ (one-container profile options doc es i h ∙ wc .container) in
     clear deep d es (runsOf doc es) gs i a b s (spent-within profile options doc es) wo wc p
     (sides es n m a b p lm nm (open-one es n m (omega arith) lm q)

@@ -14,10 +14,10 @@ use Rattle.record.specs.Sound.{sound}
 use Rattle.record.specs.declared.event.Event.{Event}
 use Rattle.runs.specs.Runs.{Run, runsOf}
 use Rattle.runs.specs.Rule.{Rule, Profile}
-use Rattle.runs.specs.Plain.{Standing, Group}
+use Rattle.runs.specs.Plain.{Standing, Group, groupAt}
 use Rattle.runs.specs.Pieces.{closed, opened, standing, outcome}
 use Rattle.groups.specs.Matches.{Matches, begin}
-use Rattle.groups.specs.Groups.{nth, Joined}
+use Rattle.groups.specs.Groups.{Joined}
 use Rattle.groups.specs.Places.{runAt}
 use Rattle.groups.specs.Spans.{spanFrom, textFrom, textTo, spanTo, Ordered, earlier, nested, Apart, before, behind, inside, around, NeverCross}
 use Rattle.groups.proofs.Laws.{below, closed-first, opened-first, closed-most, opened-most}
@@ -29,14 +29,14 @@ use Rattle.groups.proofs.Places.{ends-before}
 -- of run numbers
 pub ordered : {rule : Rule} {rs₀ : List Standing} {gs : List Group} {rs : List Standing} {c : ℕ} → Matches rule rs₀ gs rs c → (i j : ℕ) →
     i < j → j < length gs → Ordered gs i j
-ordered {gs = gs} m i j h l = go (below (nth gs i .opener) (nth gs j .opener)) (below (nth gs j .opener) (nth gs i .closer))
+ordered {gs = gs} m i j h l = go (below (groupAt gs i .opener) (groupAt gs j .opener)) (below (groupAt gs j .opener) (groupAt gs i .closer))
   where
-    go : (nth gs i .opener < nth gs j .opener) ⊎ (nth gs j .opener ≤ nth gs i .opener) →
-        (nth gs j .opener < nth gs i .closer) ⊎ (nth gs i .closer ≤ nth gs j .opener) → Ordered gs i j
+    go : (groupAt gs i .opener < groupAt gs j .opener) ⊎ (groupAt gs j .opener ≤ groupAt gs i .opener) →
+        (groupAt gs j .opener < groupAt gs i .closer) ⊎ (groupAt gs i .closer ≤ groupAt gs j .opener) → Ordered gs i j
     go (inl x) (inl y) =
         let w = made m j l in
         let e = early gs i j h l in
-        absurd (clash (w .found .opens) (shut (w .before) i (nth gs j .opener) (e .1) (rw (e .0) x) (rw (e .0) y)))
+        absurd (clash (w .found .opens) (shut (w .before) i (groupAt gs j .opener) (e .1) (rw (e .0) x) (rw (e .0) y)))
     go (inl x) (inr y) = earlier y
     go (inr x) (inl y) = nested x (rising m i j h l)
     go (inr x) (inr y) = nested x (rising m i j h l)
@@ -45,7 +45,7 @@ ordered {gs = gs} m i j h l = go (below (nth gs i .opener) (nth gs j .opener)) (
 module _ (rs : List Run) (gs : List Group)
     (fits : (q : ℕ) → closed gs q + opened gs q ≤ runAt rs q .size)
     (rise : (p q : ℕ) → p < q → q < length rs → runAt rs p .start + runAt rs p .size ≤ runAt rs q .start)
-    (in-list : (i : ℕ) → i < length gs → (nth gs i .opener < nth gs i .closer) × (nth gs i .closer < length rs)) where
+    (in-list : (i : ℕ) → i < length gs → (groupAt gs i .opener < groupAt gs i .closer) × (groupAt gs i .closer < length rs)) where
   -- the closing pieces of a run stand before the opening pieces of it or of a later run
   apart : (a b p q : ℕ) → p ≤ q → q < length rs →
       runAt rs p .start + closed (take a gs) p ≤ runAt rs q .start + runAt rs q .size - opened (take b gs) q
@@ -104,16 +104,16 @@ module _ (rs : List Run) (gs : List Group)
   unfolding textFrom textTo
   text-in-order i h =
       let x = in-list i h in
-      omega (arith, rise (nth gs i .opener) (nth gs i .closer) (x .0) (x .1))
+      omega (arith, rise (groupAt gs i .opener) (groupAt gs i .closer) (x .0) (x .1))
 
 -- what the groups of a record join
 pub outcome-joined : (profile : Profile) (options : ℕ) (doc : List ℕ) (es : List Event) (i : ℕ) → i < length (outcome profile options doc es .groups) →
-    Joined (begin profile options doc es) (nth (outcome profile options doc es .groups) i)
+    Joined (begin profile options doc es) (groupAt (outcome profile options doc es .groups) i)
 outcome-joined profile options doc es i h = joined (made (outcome-matched profile options doc es .matches) i h)
 
 pub in-runs : (profile : Profile) (options : ℕ) (doc : List ℕ) (es : List Event) (i : ℕ) → i < length (outcome profile options doc es .groups) →
-    (nth (outcome profile options doc es .groups) i .opener < nth (outcome profile options doc es .groups) i .closer)
-    × (nth (outcome profile options doc es .groups) i .closer < length (runsOf doc es))
+    (groupAt (outcome profile options doc es .groups) i .opener < groupAt (outcome profile options doc es .groups) i .closer)
+    × (groupAt (outcome profile options doc es .groups) i .closer < length (runsOf doc es))
 in-runs profile options doc es i h =
     let w = outcome-joined profile options doc es i h in
     let l : length (begin profile options doc es) ≡ length (runsOf doc es) = length-map (runsOf doc es) (standing profile options) in

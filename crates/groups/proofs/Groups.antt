@@ -14,9 +14,9 @@ use borrow.Author.Tests.{leb-true, leb-false}
 use Rattle.record.specs.Choice.{choose, and}
 use Rattle.record.proofs.Bools.{and-left, and-right, and-split, clash}
 use Rattle.runs.specs.Rule.{Rule}
-use Rattle.runs.specs.Plain.{Standing, Group, at, amount, takenBy, matched, group}
+use Rattle.runs.specs.Plain.{Standing, Group, at, amount, takenBy, matched, group, groupAt}
 use Rattle.groups.specs.Matches.{Matches, start, then}
-use Rattle.groups.specs.Groups.{nth, Made, Amount, both, single, Joined, Rising}
+use Rattle.groups.specs.Groups.{Made, Amount, both, single, Joined, Rising}
 use Rattle.groups.proofs.Laws.{below, between-shut, open-was}
 use Rattle.groups.proofs.Accounts.{matches-account}
 
@@ -28,10 +28,10 @@ add gs g i h = go (below i (length gs))
     go (inl l) = inl l
     go (inr l) = inr (omega (arith, length-append gs (g ∷ [])))
 
-old : (gs : List Group) (g : Group) (i : ℕ) → i < length gs → nth (gs ++ (g ∷ [])) i ≡ nth gs i
+old : (gs : List Group) (g : Group) (i : ℕ) → i < length gs → groupAt (gs ++ (g ∷ [])) i ≡ groupAt gs i
 old gs g i h = List·getD-append gs (g ∷ []) (group 0 0 0) i h
 
-new : (gs : List Group) (g : Group) (i : ℕ) → i ≡ length gs → nth (gs ++ (g ∷ [])) i ≡ g
+new : (gs : List Group) (g : Group) (i : ℕ) → i ≡ length gs → groupAt (gs ++ (g ∷ [])) i ≡ g
 new gs g i e = getD-at gs g [] (group 0 0 0) i (sym e)
 
 -- how each group was made
@@ -53,17 +53,17 @@ made {rule} {rs₀} (then {gs} {rs} {from} o c m f) i h = go (λ l. made m i l) 
 
 -- no group was closed after the last closer
 pub closed-by : {rule : Rule} {rs₀ : List Standing} {gs : List Group} {rs : List Standing} {c : ℕ} → Matches rule rs₀ gs rs c → (i : ℕ) → i < length gs →
-    nth gs i .closer ≤ c
+    groupAt gs i .closer ≤ c
 closed-by start i h = absurd (omega arith)
 closed-by (then {gs} {rs} {from} o c m f) i h = go (λ l. closed-by m i l) (add gs (group o c (takenBy rs o c)) i h)
   where
-    go : (i < length gs → nth gs i .closer ≤ from) → (i < length gs) ⊎ (i ≡ length gs) → nth (gs ++ (group o c (takenBy rs o c) ∷ [])) i .closer ≤ c
+    go : (i < length gs → groupAt gs i .closer ≤ from) → (i < length gs) ⊎ (i ≡ length gs) → groupAt (gs ++ (group o c (takenBy rs o c) ∷ [])) i .closer ≤ c
     go ih (inl l) = rw (old gs (group o c (takenBy rs o c)) i l) (omega (arith, ih l, f .onward))
     go ih (inr l) = rw (new gs (group o c (takenBy rs o c)) i l) (omega arith)
 
 -- the runs between a group's two do not open any more
 pub shut : {rule : Rule} {rs₀ : List Standing} {gs : List Group} {rs : List Standing} {c : ℕ} → Matches rule rs₀ gs rs c → (i q : ℕ) → i < length gs →
-    nth gs i .opener < q → q < nth gs i .closer → at rs q .opens ≡ false
+    groupAt gs i .opener < q → q < groupAt gs i .closer → at rs q .opens ≡ false
 shut start i q h x y = absurd (omega arith)
 shut {rule} {rs₀} (then {gs} {rs} {from} o c m f) i q h x y = go (λ l u v. shut m i q l u v) (add gs (group o c (takenBy rs o c)) i h)
   where
@@ -71,7 +71,7 @@ shut {rule} {rs₀} (then {gs} {rs} {from} o c m f) i q h x y = go (λ l u v. sh
     closes-open true e k = absurd (clash (open-was rs o c q e) k)
     closes-open false e k = e
 
-    go : (i < length gs → nth gs i .opener < q → q < nth gs i .closer → at rs q .opens ≡ false) → (i < length gs) ⊎ (i ≡ length gs) →
+    go : (i < length gs → groupAt gs i .opener < q → q < groupAt gs i .closer → at rs q .opens ≡ false) → (i < length gs) ⊎ (i ≡ length gs) →
         at (matched rs o c) q .opens ≡ false
     go ih (inl l) =
         let e = old gs (group o c (takenBy rs o c)) i l in
@@ -83,7 +83,7 @@ shut {rule} {rs₀} (then {gs} {rs} {from} o c m f) i q h x y = go (λ l u v. sh
         between-shut rs o c q x′ y′ (omega (arith, f .within))
 
 -- a group among the first j
-pub early : (gs : List Group) (i j : ℕ) → i < j → j < length gs → (nth (take j gs) i ≡ nth gs i) × (i < length (take j gs))
+pub early : (gs : List Group) (i j : ℕ) → i < j → j < length gs → (groupAt (take j gs) i ≡ groupAt gs i) × (i < length (take j gs))
 early gs i j h l = (getD-take j gs i (group 0 0 0) h, omega (arith, length-take-le j gs (omega arith)))
 
 -- "Closers are taken in order"
@@ -91,7 +91,7 @@ pub rising : {rule : Rule} {rs₀ : List Standing} {gs : List Group} {rs : List 
 rising {gs = gs} m i j h l =
     let w = made m j l in
     let e = early gs i j h l in
-    let k : nth gs i .closer ≤ w .from = rw (e .0) at (closed-by (w .before) i (e .1)) in
+    let k : groupAt gs i .closer ≤ w .from = rw (e .0) at (closed-by (w .before) i (e .1)) in
     omega (arith, w .found .onward)
 
 -- "A match takes 2 from each if both have at least 2, else 1"
@@ -109,7 +109,7 @@ amounts a b h k = go (and (leb 2 a) (leb 2 b)) refl
 
 -- what each group took, of what its two had left
 pub took : {rule : Rule} {rs₀ : List Standing} {gs : List Group} {i : ℕ} (w : Made rule rs₀ gs i) →
-    Amount (at (w .runs) (nth gs i .opener) .left) (at (w .runs) (nth gs i .closer) .left) (nth gs i .taken)
+    Amount (at (w .runs) (groupAt gs i .opener) .left) (at (w .runs) (groupAt gs i .closer) .left) (groupAt gs i .taken)
 took w = rw (w .taken) (amounts _ _ (w .found .opener-left) (w .found .closer-left))
 
 one-two : {a b k : ℕ} → Amount a b k → (k ≡ 1) ⊎ (k ≡ 2)
@@ -117,7 +117,7 @@ one-two (both x y) = inr refl
 one-two (single x y z) = inl refl
 
 -- what each group joins
-pub joined : {rule : Rule} {rs₀ : List Standing} {gs : List Group} {i : ℕ} → Made rule rs₀ gs i → Joined rs₀ (nth gs i)
+pub joined : {rule : Rule} {rs₀ : List Standing} {gs : List Group} {i : ℕ} → Made rule rs₀ gs i → Joined rs₀ (groupAt gs i)
 joined {rule} {rs₀} {gs} {i} w =
     let a = matches-account (w .before) in
     let f = w .found in

@@ -12,9 +12,8 @@ use lib.Seq.{take-suc, take-take}
 use borrow.Author.Tests.{ltb-true, ltb-false, leb-true, eq-eqb, ne-eqb, eqb-true, eqb-false, lt-ltb}
 use Rattle.record.specs.Choice.{choose, and}
 use Rattle.record.proofs.Bools.{and-left, and-right}
-use Rattle.runs.specs.Plain.{Standing, Group, group, nowhere, at, amount, alter, change, matched, takenBy}
+use Rattle.runs.specs.Plain.{Standing, Group, group, groupAt, nowhere, at, amount, alter, change, matched, takenBy}
 use Rattle.runs.specs.Pieces.{closed, opened}
-use Rattle.groups.specs.Groups.{nth}
 
 -- whether a number is below another
 pub below : (a b : ℕ) → (a < b) ⊎ (b ≤ a)
@@ -170,8 +169,8 @@ closed-most gs a q =
     omega (arith, closed-append (take a gs) (drop a gs) q)
 
 -- a group more
-pub opened-suc : (gs : List Group) (i : ℕ) → i < length gs → opened (take (suc i) gs) (nth gs i .opener) ≡ opened (take i gs) (nth gs i .opener) + nth gs i .taken
-opened-suc gs i h = rw (take-suc gs i (group 0 0 0) h, opened-append, opened-own (nth gs i) (nth gs i .opener) refl)
+pub opened-suc : (gs : List Group) (i : ℕ) → i < length gs → opened (take (suc i) gs) (groupAt gs i .opener) ≡ opened (take i gs) (groupAt gs i .opener) + groupAt gs i .taken
+opened-suc gs i h = rw (take-suc gs i (group 0 0 0) h, opened-append, opened-own (groupAt gs i) (groupAt gs i .opener) refl)
 
-pub closed-suc : (gs : List Group) (i : ℕ) → i < length gs → closed (take (suc i) gs) (nth gs i .closer) ≡ closed (take i gs) (nth gs i .closer) + nth gs i .taken
-closed-suc gs i h = rw (take-suc gs i (group 0 0 0) h, closed-append, closed-own (nth gs i) (nth gs i .closer) refl)
+pub closed-suc : (gs : List Group) (i : ℕ) → i < length gs → closed (take (suc i) gs) (groupAt gs i .closer) ≡ closed (take i gs) (groupAt gs i .closer) + groupAt gs i .taken
+closed-suc gs i h = rw (take-suc gs i (group 0 0 0) h, closed-append, closed-own (groupAt gs i) (groupAt gs i .closer) refl)

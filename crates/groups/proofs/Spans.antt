@@ -15,9 +15,8 @@ use Rattle.record.specs.Sound.{sound}
 use Rattle.record.specs.declared.event.Event.{Event}
 use Rattle.runs.specs.Runs.{runsOf}
 use Rattle.runs.specs.Rule.{Profile}
-use Rattle.runs.specs.Plain.{Group, group}
+use Rattle.runs.specs.Plain.{Group, group, groupAt}
 use Rattle.runs.specs.Pieces.{Piece, piece, closings, openings, closed, opened, outcome}
-use Rattle.groups.specs.Groups.{nth}
 use Rattle.groups.specs.Spans.{openerOf, closerOf, spanFrom, textFrom, textTo, spanTo, Among, Held}
 use Rattle.groups.proofs.Laws.{opened-most, opened-suc, closed-suc}
 use Rattle.groups.proofs.Accounts.{spent-within}
@@ -49,30 +48,30 @@ openings-append (g ∷ gs) hs q marker at = go (openings-append gs hs q marker) 
     go ih false e = rw (e, ih at)
 
 -- the closing piece of the group i
-closing-among : (gs : List Group) (i q marker at : ℕ) → i < length gs → nth gs i .closer ≡ q →
-    Among (piece marker (nth gs i .taken) (at + closed (take i gs) q) (at + closed (take i gs) q + nth gs i .taken)) (closings gs q marker at)
+closing-among : (gs : List Group) (i q marker at : ℕ) → i < length gs → groupAt gs i .closer ≡ q →
+    Among (piece marker (groupAt gs i .taken) (at + closed (take i gs) q) (at + closed (take i gs) q + groupAt gs i .taken)) (closings gs q marker at)
 unfolding closings choose
 closing-among gs i q marker at h e =
     record {
       before = closings (take i gs) q marker at;
-      behind = closings (drop (suc i) gs) q marker (at + closed (take i gs) q + nth gs i .taken);
+      behind = closings (drop (suc i) gs) q marker (at + closed (take i gs) q + groupAt gs i .taken);
       split =
           ap (λ (l : List Group). closings l q marker at) (split-at gs i (group 0 0 0) h)
-          ∙ (closings-append (take i gs) (nth gs i ∷ drop (suc i) gs) q marker at
+          ∙ (closings-append (take i gs) (groupAt gs i ∷ drop (suc i) gs) q marker at
           ∙ rw (eq-eqb _ _ e));
     }
 
 -- and the opening piece
-opening-among : (gs : List Group) (i q marker at : ℕ) → i < length gs → nth gs i .opener ≡ q →
-    Among (piece marker (nth gs i .taken) (at - opened (take i gs) q - nth gs i .taken) (at - opened (take i gs) q)) (openings gs q marker at)
+opening-among : (gs : List Group) (i q marker at : ℕ) → i < length gs → groupAt gs i .opener ≡ q →
+    Among (piece marker (groupAt gs i .taken) (at - opened (take i gs) q - groupAt gs i .taken) (at - opened (take i gs) q)) (openings gs q marker at)
 unfolding openings choose
 opening-among gs i q marker at h e =
     record {
-      before = openings (drop (suc i) gs) q marker (at - opened (take i gs) q - nth gs i .taken);
+      before = openings (drop (suc i) gs) q marker (at - opened (take i gs) q - groupAt gs i .taken);
       behind = openings (take i gs) q marker at;
       split =
           ap (λ (l : List Group). openings l q marker at) (split-at gs i (group 0 0 0) h)
-          ∙ (openings-append (take i gs) (nth gs i ∷ drop (suc i) gs) q marker at
+          ∙ (openings-append (take i gs) (groupAt gs i ∷ drop (suc i) gs) q marker at
           ∙ rw (eq-eqb _ _ e, append-assoc));
     }
 
@@ -88,11 +87,11 @@ held profile options doc es deep d s i h =
     let gs = outcome profile options doc es .groups in
     let o = opened-suc gs i h in
     let c = closed-suc gs i h in
-    let most = opened-most gs (suc i) (nth gs i .opener) in
-    let fits = spent-within profile options doc es (nth gs i .opener) in
+    let most = opened-most gs (suc i) (groupAt gs i .opener) in
+    let fits = spent-within profile options doc es (groupAt gs i .opener) in
     record {
-      opening = between (openerOf rs gs i .marker) (nth gs i .taken) (omega arith) refl (opening-among gs i (nth gs i .opener) (openerOf rs gs i .marker) (openerOf rs gs i .start + openerOf rs gs i .size) h refl);
-      closing = between (closerOf rs gs i .marker) (nth gs i .taken) refl (omega arith) (closing-among gs i (nth gs i .closer) (closerOf rs gs i .marker) (closerOf rs gs i .start) h refl);
+      opening = between (openerOf rs gs i .marker) (groupAt gs i .taken) (omega arith) refl (opening-among gs i (groupAt gs i .opener) (openerOf rs gs i .marker) (openerOf rs gs i .start + openerOf rs gs i .size) h refl);
+      closing = between (closerOf rs gs i .marker) (groupAt gs i .taken) refl (omega arith) (closing-among gs i (groupAt gs i .closer) (closerOf rs gs i .marker) (closerOf rs gs i .start) h refl);
       opening-size = omega arith;
       closing-size = omega arith;
       in-order = text-in-order rs gs (spent-within profile options doc es) (ends-before deep d doc es s) (in-runs profile options doc es) i h;

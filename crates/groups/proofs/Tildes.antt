@@ -14,9 +14,9 @@ use lib.Seq.{length-take-le}
 use borrow.Author.Tests.{eq-eqb, ne-eqb, eqb-true, ltb-false}
 use Rattle.record.specs.Choice.{choose}
 use Rattle.runs.specs.Rule.{Side, threes, tildes, ruleOver}
-use Rattle.runs.specs.Plain.{Standing, Group, at, takes, sideOf}
+use Rattle.runs.specs.Plain.{Standing, Group, at, groupAt, takes, sideOf}
 use Rattle.runs.specs.Pieces.{closed, opened}
-use Rattle.groups.specs.Groups.{nth, Made, Amount, both, single}
+use Rattle.groups.specs.Groups.{Made, Amount, both, single}
 use Rattle.groups.specs.Tildes.{Strikes}
 use Rattle.groups.proofs.Laws.{opened-first, closed-first, opened-suc, closed-suc}
 use Rattle.groups.proofs.Accounts.{matches-account}
@@ -70,33 +70,33 @@ record Alike (one : Bool) (rs : List Standing) (g : Group) : Type 0 where
   one-allowed : g .taken ≡ 1 → one ≡ true
 
 alike : (sizeOf : Side → ℕ) (one : Bool) {rs₀ : List Standing} {gs : List Group} {i : ℕ} (w : Made (ruleOver sizeOf one) rs₀ gs i) →
-    at rs₀ (nth gs i .closer) .marker ≡ 126 → Alike one (w .runs) (nth gs i)
+    at rs₀ (groupAt gs i .closer) .marker ≡ 126 → Alike one (w .runs) (groupAt gs i)
 alike sizeOf one {rs₀} {gs} {i} w m =
     let a = matches-account (w .before) in
-    let p = passed one _ _ (let-through sizeOf one _ _ (a .marker (nth gs i .closer) ∙ m) (w .found .taken)) in
+    let p = passed one _ _ (let-through sizeOf one _ _ (a .marker (groupAt gs i .closer) ∙ m) (w .found .taken)) in
     let k = emptied (p .0) (p .1) (took w) in
     record { closer-all = sym k; opener-all = p .0 ∙ sym k; at-most-two = omega arith; one-allowed = λ h. p .2 (sym k ∙ h) }
 
 -- a run that no group has
-closed-none : (gs : List Group) (q : ℕ) → ((k : ℕ) → k < length gs → nth gs k .closer ≡ q → ⊥) → closed gs q ≡ 0
+closed-none : (gs : List Group) (q : ℕ) → ((k : ℕ) → k < length gs → groupAt gs k .closer ≡ q → ⊥) → closed gs q ≡ 0
 unfolding closed choose
 closed-none [] q n = refl
 closed-none (g ∷ gs) q n = rw (ne-eqb (g .closer) q (n 0 (omega arith))) (closed-none gs q (λ k h. n (suc k) (omega arith)))
 
-opened-none : (gs : List Group) (q : ℕ) → ((k : ℕ) → k < length gs → nth gs k .opener ≡ q → ⊥) → opened gs q ≡ 0
+opened-none : (gs : List Group) (q : ℕ) → ((k : ℕ) → k < length gs → groupAt gs k .opener ≡ q → ⊥) → opened gs q ≡ 0
 unfolding opened choose
 opened-none [] q n = refl
 opened-none (g ∷ gs) q n = rw (ne-eqb (g .opener) q (n 0 (omega arith))) (opened-none gs q (λ k h. n (suc k) (omega arith)))
 
 module _ (sizeOf : Side → ℕ) (one : Bool) (rs₀ : List Standing) (gs : List Group) (all : (k : ℕ) → k < length gs → Made (ruleOver sizeOf one) rs₀ gs k) where
   -- a run of tildes that a group has is used up
-  closer-used : (k i q : ℕ) → k < i → (h : i < length gs) → at rs₀ q .marker ≡ 126 → nth gs k .closer ≡ q → at (all i h .runs) q .left ≡ 0
+  closer-used : (k i q : ℕ) → k < i → (h : i < length gs) → at rs₀ q .marker ≡ 126 → groupAt gs k .closer ≡ q → at (all i h .runs) q .left ≡ 0
   closer-used k i q l h m e =
       let wk = all k (omega arith) in
-      let x : at rs₀ (nth gs k .closer) .marker ≡ 126 = rw e m in
+      let x : at rs₀ (groupAt gs k .closer) .marker ≡ 126 = rw e m in
       let y = alike sizeOf one wk x in
-      let z : at (wk .runs) q .left ≡ nth gs k .taken = rw e at (y .closer-all) in
-      let c : closed (take (suc k) gs) q ≡ closed (take k gs) q + nth gs k .taken = rw e at (closed-suc gs k (omega arith)) in
+      let z : at (wk .runs) q .left ≡ groupAt gs k .taken = rw e at (y .closer-all) in
+      let c : closed (take (suc k) gs) q ≡ closed (take k gs) q + groupAt gs k .taken = rw e at (closed-suc gs k (omega arith)) in
       omega (
         arith,
         matches-account (wk .before) .spent q,
@@ -105,13 +105,13 @@ module _ (sizeOf : Side → ℕ) (one : Bool) (rs₀ : List Standing) (gs : List
         opened-first gs k i q (omega arith),
       )
 
-  opener-used : (k i q : ℕ) → k < i → (h : i < length gs) → at rs₀ q .marker ≡ 126 → nth gs k .opener ≡ q → at (all i h .runs) q .left ≡ 0
+  opener-used : (k i q : ℕ) → k < i → (h : i < length gs) → at rs₀ q .marker ≡ 126 → groupAt gs k .opener ≡ q → at (all i h .runs) q .left ≡ 0
   opener-used k i q l h m e =
       let wk = all k (omega arith) in
-      let x : at rs₀ (nth gs k .opener) .marker ≡ 126 = rw e m in
+      let x : at rs₀ (groupAt gs k .opener) .marker ≡ 126 = rw e m in
       let y = alike sizeOf one wk (sym (joined wk .one-marker) ∙ x) in
-      let z : at (wk .runs) q .left ≡ nth gs k .taken = rw e at (y .opener-all) in
-      let c : opened (take (suc k) gs) q ≡ opened (take k gs) q + nth gs k .taken = rw e at (opened-suc gs k (omega arith)) in
+      let z : at (wk .runs) q .left ≡ groupAt gs k .taken = rw e at (y .opener-all) in
+      let c : opened (take (suc k) gs) q ≡ opened (take k gs) q + groupAt gs k .taken = rw e at (opened-suc gs k (omega arith)) in
       omega (
         arith,
         matches-account (wk .before) .spent q,
@@ -134,14 +134,14 @@ module _ (sizeOf : Side → ℕ) (one : Bool) (rs₀ : List Standing) (gs : List
       omega (arith, matches-account (all i h .before) .spent q)
 
   -- every group of tildes is as the tilde rule says
-  pub strikes : (i : ℕ) → i < length gs → at rs₀ (nth gs i .closer) .marker ≡ 126 → Strikes one rs₀ (nth gs i)
+  pub strikes : (i : ℕ) → i < length gs → at rs₀ (groupAt gs i .closer) .marker ≡ 126 → Strikes one rs₀ (groupAt gs i)
   strikes i h m =
       let w = all i h in
       let y = alike sizeOf one w m in
-      let x : at rs₀ (nth gs i .opener) .marker ≡ 126 = joined w .one-marker ∙ m in
+      let x : at rs₀ (groupAt gs i .opener) .marker ≡ 126 = joined w .one-marker ∙ m in
       record {
-        opener-all = whole i (nth gs i .opener) h x (w .found .opener-left) ∙ y .opener-all;
-        closer-all = whole i (nth gs i .closer) h m (w .found .closer-left) ∙ y .closer-all;
+        opener-all = whole i (groupAt gs i .opener) h x (w .found .opener-left) ∙ y .opener-all;
+        closer-all = whole i (groupAt gs i .closer) h m (w .found .closer-left) ∙ y .closer-all;
         at-most-two = y .at-most-two;
         one-allowed = y .one-allowed;
       }

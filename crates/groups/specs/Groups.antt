@@ -7,22 +7,18 @@ use mathlib.Core.Path.{_≡_}
 use mathlib.Core.Bool.{true}
 use mathlib.Core.List.{List}
 use mathlib.Core.Logic.{_⊎_}
-use lib.ListN.{length, getD, take}
+use lib.ListN.{length, take}
 use Rattle.runs.specs.Rule.{Rule}
-use Rattle.runs.specs.Plain.{Standing, Group, at, group, takenBy}
+use Rattle.runs.specs.Plain.{Standing, Group, at, groupAt, takenBy}
 use Rattle.groups.specs.Matches.{Found, Matches}
-
--- the group of number i, in match order
-abbrev pub nth : List Group → ℕ → Group
-nth gs i = getD gs i (group 0 0 0)
 
 -- how the group i was made: the groups before it left the runs so, and there its closer took its opener, by the rule
 pub record Made (rule : Rule) (rs₀ : List Standing) (gs : List Group) (i : ℕ) : Type 0 where
   pub runs : List Standing
   pub from : ℕ
   pub before : Matches rule rs₀ (take i gs) runs from
-  pub found : Found rule runs from (nth gs i .opener) (nth gs i .closer)
-  pub taken : nth gs i .taken ≡ takenBy runs (nth gs i .opener) (nth gs i .closer)
+  pub found : Found rule runs from (groupAt gs i .opener) (groupAt gs i .closer)
+  pub taken : groupAt gs i .taken ≡ takenBy runs (groupAt gs i .opener) (groupAt gs i .closer)
 
 -- 2 of each if both have at least 2, else 1 of each; and both had so much
 pub data Amount (a b : ℕ) : ℕ → Type 0 where
@@ -41,4 +37,4 @@ pub record Joined (rs₀ : List Standing) (g : Group) : Type 0 where
 
 -- "Closers are taken in order": in match order they do not fall
 abbrev pub Rising : List Group → Type 0
-Rising gs = (i j : ℕ) → i < j → j < length gs → nth gs i .closer ≤ nth gs j .closer
+Rising gs = (i j : ℕ) → i < j → j < length gs → groupAt gs i .closer ≤ groupAt gs j .closer

@@ -8,31 +8,30 @@ use mathlib.Core.Path.{_≡_}
 use mathlib.Core.List.{List, _∷_, _++_}
 use lib.ListN.{length, take}
 use Rattle.runs.specs.Runs.{Run}
-use Rattle.runs.specs.Plain.{Group}
+use Rattle.runs.specs.Plain.{Group, groupAt}
 use Rattle.runs.specs.Pieces.{Piece, piece, closed, opened, closingPieces, openingPieces}
-use Rattle.groups.specs.Groups.{nth}
 use Rattle.groups.specs.Places.{runAt}
 
 -- the runs of the group i
 abbrev pub openerOf : List Run → List Group → ℕ → Run
-openerOf rs gs i = runAt rs (nth gs i .opener)
+openerOf rs gs i = runAt rs (groupAt gs i .opener)
 
 abbrev pub closerOf : List Run → List Group → ℕ → Run
-closerOf rs gs i = runAt rs (nth gs i .closer)
+closerOf rs gs i = runAt rs (groupAt gs i .closer)
 
 -- its opening piece stands before those that its opener gave to earlier groups
 unfoldable pub spanFrom : List Run → List Group → ℕ → ℕ
-spanFrom rs gs i = openerOf rs gs i .start + openerOf rs gs i .size - opened (take (suc i) gs) (nth gs i .opener)
+spanFrom rs gs i = openerOf rs gs i .start + openerOf rs gs i .size - opened (take (suc i) gs) (groupAt gs i .opener)
 
 unfoldable pub textFrom : List Run → List Group → ℕ → ℕ
-textFrom rs gs i = openerOf rs gs i .start + openerOf rs gs i .size - opened (take i gs) (nth gs i .opener)
+textFrom rs gs i = openerOf rs gs i .start + openerOf rs gs i .size - opened (take i gs) (groupAt gs i .opener)
 
 -- its closing piece stands after those that its closer gave to earlier groups
 unfoldable pub textTo : List Run → List Group → ℕ → ℕ
-textTo rs gs i = closerOf rs gs i .start + closed (take i gs) (nth gs i .closer)
+textTo rs gs i = closerOf rs gs i .start + closed (take i gs) (groupAt gs i .closer)
 
 unfoldable pub spanTo : List Run → List Group → ℕ → ℕ
-spanTo rs gs i = closerOf rs gs i .start + closed (take (suc i) gs) (nth gs i .closer)
+spanTo rs gs i = closerOf rs gs i .start + closed (take (suc i) gs) (groupAt gs i .closer)
 
 -- a piece is one of these
 pub record Among (p : Piece) (ps : List Piece) : Type 0 where
@@ -42,10 +41,10 @@ pub record Among (p : Piece) (ps : List Piece) : Type 0 where
 
 -- the group i has these two pieces, with some text, or none, between them
 pub record Held (rs : List Run) (gs : List Group) (i : ℕ) : Type 0 where
-  pub opening : Among (piece (openerOf rs gs i .marker) (nth gs i .taken) (spanFrom rs gs i) (textFrom rs gs i)) (openingPieces gs (nth gs i .opener) (openerOf rs gs i))
-  pub closing : Among (piece (closerOf rs gs i .marker) (nth gs i .taken) (textTo rs gs i) (spanTo rs gs i)) (closingPieces gs (nth gs i .closer) (closerOf rs gs i))
-  pub opening-size : spanFrom rs gs i + nth gs i .taken ≡ textFrom rs gs i
-  pub closing-size : textTo rs gs i + nth gs i .taken ≡ spanTo rs gs i
+  pub opening : Among (piece (openerOf rs gs i .marker) (groupAt gs i .taken) (spanFrom rs gs i) (textFrom rs gs i)) (openingPieces gs (groupAt gs i .opener) (openerOf rs gs i))
+  pub closing : Among (piece (closerOf rs gs i .marker) (groupAt gs i .taken) (textTo rs gs i) (spanTo rs gs i)) (closingPieces gs (groupAt gs i .closer) (closerOf rs gs i))
+  pub opening-size : spanFrom rs gs i + groupAt gs i .taken ≡ textFrom rs gs i
+  pub closing-size : textTo rs gs i + groupAt gs i .taken ≡ spanTo rs gs i
   pub in-order : textFrom rs gs i ≤ textTo rs gs i
 
 -- two groups do not cross: the span of one lies before the other's, or within the other's text
@@ -61,5 +60,5 @@ NeverCross rs gs = (i j : ℕ) → (i ≡ j → ⊥) → i < length gs → j < l
 
 -- the same of run numbers, of two groups of which i was matched first: it lies before the other, or the other goes around it
 pub data Ordered (gs : List Group) (i j : ℕ) : Type 0 where
-  earlier : nth gs i .closer ≤ nth gs j .opener → Ordered gs i j
-  nested : nth gs j .opener ≤ nth gs i .opener → nth gs i .closer ≤ nth gs j .closer → Ordered gs i j
+  earlier : groupAt gs i .closer ≤ groupAt gs j .opener → Ordered gs i j
+  nested : groupAt gs j .opener ≤ groupAt gs i .opener → groupAt gs i .closer ≤ groupAt gs j .closer → Ordered gs i j

@@ -11,12 +11,12 @@ use Rattle.record.specs.Sound.{sound}
 use Rattle.record.specs.declared.event.Event.{Event}
 use Rattle.runs.specs.Runs.{runsOf}
 use Rattle.runs.specs.Rule.{Side, Rule, Profile, ruleOver, crate, standard}
-use Rattle.runs.specs.Plain.{Standing, Group, at, plain}
+use Rattle.runs.specs.Plain.{Standing, Group, at, groupAt, plain}
 use Rattle.runs.specs.Pieces.{outcome, closed, opened}
 use Rattle.runs.specs.Output.{output}
 use Rattle.groups.specs.Matches.{begin}
 use Rattle.groups.specs.Accounts.{Accounts}
-use Rattle.groups.specs.Groups.{nth, Made, Amount, Joined, Rising}
+use Rattle.groups.specs.Groups.{Made, Amount, Joined, Rising}
 use Rattle.groups.specs.Tildes.{Strikes}
 use Rattle.groups.specs.Places.{runAt}
 use Rattle.groups.specs.Spans.{Held, NeverCross}
@@ -50,13 +50,13 @@ EachMade =
 abbrev pub EachTook : Type 0
 EachTook =
     (rule : Rule) (rs₀ : List Standing) (gs : List Group) (i : ℕ) (w : Made rule rs₀ gs i) →
-    Amount (at (w .runs) (nth gs i .opener) .left) (at (w .runs) (nth gs i .closer) .left) (nth gs i .taken)
+    Amount (at (w .runs) (groupAt gs i .opener) .left) (at (w .runs) (groupAt gs i .closer) .left) (groupAt gs i .taken)
 
 -- opener before closer, one marker and one container on both sides, 1 or 2 taken
 abbrev pub EachJoined : Type 0
 EachJoined =
     Always (λ profile options doc es.
-    (i : ℕ) → i < length (groupsOf profile options doc es) → Joined (begin profile options doc es) (nth (groupsOf profile options doc es) i))
+    (i : ℕ) → i < length (groupsOf profile options doc es) → Joined (begin profile options doc es) (groupAt (groupsOf profile options doc es) i))
 
 -- closers in match order do not fall
 abbrev pub ClosersInOrder : Type 0
@@ -76,8 +76,8 @@ standard-has-tildes = refl
 abbrev pub TildesAsTheRuleSays : Type 0
 TildesAsTheRuleSays =
     (amended : Bool) (sizeOf : Side → ℕ) (options : ℕ) (doc : List ℕ) (es : List Event) (i : ℕ) → i < length (groupsOf (withTildes amended sizeOf) options doc es) →
-    at (begin (withTildes amended sizeOf) options doc es) (nth (groupsOf (withTildes amended sizeOf) options doc es) i .closer) .marker ≡ 126 →
-    Strikes (optionOn options 4) (begin (withTildes amended sizeOf) options doc es) (nth (groupsOf (withTildes amended sizeOf) options doc es) i)
+    at (begin (withTildes amended sizeOf) options doc es) (groupAt (groupsOf (withTildes amended sizeOf) options doc es) i .closer) .marker ≡ 126 →
+    Strikes (optionOn options 4) (begin (withTildes amended sizeOf) options doc es) (groupAt (groupsOf (withTildes amended sizeOf) options doc es) i)
 
 -- in a sound record each group has its two pieces, and two groups never cross
 abbrev pub EachHeld : Type 0

@@ -11,7 +11,7 @@ use lib.Dec.{leb}
 use borrow.Author.Tests.{leb-true, eqb-false}
 use Rattle.record.specs.Choice.{choose, and}
 use Rattle.record.specs.declared.check.Refusal.{Refusal}
-use Rattle.record.proofs.Bools.{and-right}
+use Rattle.record.proofs.Bools.{and-right, clash}
 use Rattle.record.proofs.Chosen.{chosen}
 use Rattle.scan.specs.Run.{blank, blanks, blanksUpTo, indentation}
 use Rattle.scan.specs.Line.{lineOf, checkedLine, reading}
@@ -70,9 +70,6 @@ same-start m n a b q = cc
 same-container : (m n : ℕ) (a b : Container) → Item m a ≡ Item n b → a ≡ b
 same-container m n a b q = cc
 
-clash : (b : Bool) → b ≡ true → b ≡ false → ⊥
-clash b p q = let z : _≡_ {A = ℕ} 0 1 = cc in omega arith
-
 -- the padding of a filled start: one to four, and no more than is there
 padding-is : (n : ℕ) → padding n ≡ choose (leb n 4) n 1
 unfolding padding
@@ -111,7 +108,7 @@ module _ (l : List ℕ) (options : ℕ) (z : Bool) (kind : Kind) (width : ℕ) (
         marker = (t .some, t .narrow);
         padded = (omega arith, omega arith);
         blank-start = λ b. (refl, e);
-        filled-start = λ b. absurd (clash (held .blank) flagged b);
+        filled-start = λ b. absurd (clash flagged b);
         no-break = t .no-break;
       }
 
@@ -131,7 +128,7 @@ module _ (l : List ℕ) (options : ℕ) (z : Bool) (kind : Kind) (width : ℕ) (
         size = size;
         marker = (t .some, t .narrow);
         padded = (p .0, p .1);
-        blank-start = λ b. absurd (clash (held .blank) b flagged);
+        blank-start = λ b. absurd (clash b flagged);
         filled-start = λ b. e ∙ sym size;
         no-break = t .no-break;
       }

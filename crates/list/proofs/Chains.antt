@@ -9,12 +9,12 @@ use borrow.Author.Tests.{eqb-true}
 use Rattle.record.specs.Choice.{choose, and}
 use Rattle.record.specs.Event.{event, enter, exit}
 use Rattle.record.specs.declared.event.Event.{Event}
-use Rattle.record.proofs.Bools.{and-left, and-right}
+use Rattle.record.proofs.Bools.{and-left, and-right, clash}
 use Rattle.list.specs.Tree.{Row, none, pair, written}
 use Rattle.list.specs.Item.{markOf}
 use Rattle.list.specs.Lists.{between, noItem, neighbour, joins, listName, listed}
 use Rattle.list.specs.Walk.{markIn, nearest, note, notes, noted, spliced}
-use Rattle.list.specs.Shape.{Shaped, with-pair, clash, passed-over}
+use Rattle.list.specs.Shape.{Shaped, with-pair, passed-over}
 use Rattle.list.proofs.Trees.{Stops, exited, mark-written, nearest-written}
 
 -- the events from here on, with what their notes add
@@ -126,7 +126,7 @@ module _ (document : List ℕ) (marks : List ℕ) (n from to : ℕ) (inside next
       walked-other document marks n false 0 from (written inside (exit n to ∷ written next es)) z
       ∙ ap (λ (x : List Event). enter n from ∷ x) (held marks
       ∙ ap (λ (x : List Event). listed document false inside x) (walked-other document marks n false 1 to (written next es) z
-      ∙ ap (λ (x : List Event). exit n to ∷ x) (later false (λ q y. clash false q refl))))
+      ∙ ap (λ (x : List Event). exit n to ∷ x) (later false (λ q y. clash q refl))))
       ∙ rw z
   other-walked true z w =
       let waits : choose (and (between n) (noItem inside)) (neighbour document next) 0 ≡ 0 → ⊥ = rw z at (w refl) in
@@ -146,7 +146,7 @@ unfolding written listed neighbour
 listed-walked document true marks none h s w = absurd (w refl refl)
 listed-walked document false marks none h s w = refl
 listed-walked document joined marks (pair n from to inside next) {es} h (with-pair m si sn) w = go (eqb n 15) refl
-    (λ ms. listed-walked document false ms inside exited si (λ q y. clash false q refl))
+    (λ ms. listed-walked document false ms inside exited si (λ q y. clash q refl))
     (λ j x. listed-walked document j marks next h sn x)
   where
     go : (z : Bool) → eqb n 15 ≡ z →

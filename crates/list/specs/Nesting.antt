@@ -15,12 +15,13 @@ use Rattle.record.specs.Event.{enter, exit}
 use Rattle.record.specs.Outcome.{gives}
 use Rattle.record.specs.Sound.{soundFrom, sound}
 use Rattle.record.specs.declared.event.Event.{Event}
+use Rattle.record.proofs.Bools.{clash}
 use Rattle.record.proofs.Soundness.{stands, sound-rest, sound-enter, sound-exit, after-enter, after-exit}
 use Rattle.list.specs.Tree.{Row, none, pair, written, treeOf}
 use Rattle.list.specs.Reading.{tree-written}
 use Rattle.list.specs.Item.{markOf}
 use Rattle.list.specs.Lists.{between, noItem, neighbour, joins, listName, listed, lists}
-use Rattle.list.specs.Shape.{Shaped, with-pair, all-shaped, clash, passed-over}
+use Rattle.list.specs.Shape.{Shaped, with-pair, all-shaped, passed-over}
 use Rattle.list.specs.Listing.{list-named, result-of}
 
 list-name-small : (mark : ℕ) → listName mark ≤ 24
@@ -139,7 +140,7 @@ module _ (document : List ℕ) (d n from to : ℕ) (inside next : Row) (held nam
   other-goes false z w =
       rw z (on-enter n from (λ h. omega arith)
       (within (n ∷ names) (exit n to ∷ written next es) (exit n to ∷ listed document false next out) (omega arith)
-      (on-exit n to (later false (λ q y. clash false q refl)))))
+      (on-exit n to (later false (λ q y. clash q refl)))))
   other-goes true z w =
       let waits : choose (and (between n) (noItem inside)) (neighbour document next) 0 ≡ 0 → ⊥ = rw z at (w refl) in
       let b : (and (between n) (noItem inside) ≡ true) × (neighbour document next ≡ 0 → ⊥) = passed-over (and (between n) (noItem inside)) (neighbour document next) waits in
@@ -156,7 +157,7 @@ unfolding written listed neighbour held-by choose
 row-goes document true none d held names es out s w few g = absurd (w refl refl)
 row-goes document false none d held names es out s w few g = g
 row-goes document joined (pair n from to inside next) d held names es out (with-pair m si sn) w few g = go (eqb n 15) refl
-    (λ ns fs ou f x. row-goes document false inside d (n ∷ held) ns fs ou si (λ q y. clash false q refl) f x)
+    (λ ns fs ou f x. row-goes document false inside d (n ∷ held) ns fs ou si (λ q y. clash q refl) f x)
     (λ j x. row-goes document j next d held names es out sn x few g)
   where
     go : (z : Bool) → eqb n 15 ≡ z →
@@ -177,6 +178,6 @@ nested d document es out s q =
     let r = result-of document es out q in
     let shaped = all-shaped document 0 false (treeOf es) [] (r .0) in
     let g : Goes d [] [] (written (treeOf es) []) (listed document false (treeOf es) []) =
-    row-goes document false (treeOf es) d [] [] [] [] (shaped .0) (λ x y. clash false x refl) (omega arith) (nothing-goes d) in
+    row-goes document false (treeOf es) d [] [] [] [] (shaped .0) (λ x y. clash x refl) (omega arith) (nothing-goes d) in
     let h = g .goes 0 (ap (λ (l : List Event). soundFrom 64 d 0 [] l) (tree-written 64 d es s) ∙ s) in
     rw (r .1) at h

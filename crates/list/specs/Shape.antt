@@ -12,6 +12,7 @@ use Rattle.record.specs.Choice.{choose, and}
 use Rattle.record.specs.Event.{exit}
 use Rattle.record.specs.Outcome.{offends}
 use Rattle.record.specs.declared.event.Event.{Event}
+use Rattle.record.proofs.Bools.{clash}
 use Rattle.list.specs.Tree.{Row, none, pair, written, treeOf}
 use Rattle.list.specs.Item.{markOf}
 use Rattle.list.specs.Lists.{isItem, offending, offenders, listed, settling, lists}
@@ -32,9 +33,6 @@ unfolding offending choose and
 unmarked document true n inside h m = rw (eq-eqb _ _ h)
 unmarked document false n inside h m = rw (eq-eqb _ _ h, eq-eqb _ _ m)
 
-pub clash : (b : Bool) → b ≡ true → b ≡ false → ⊥
-clash b p q = let z : _≡_ {A = ℕ} 0 1 = cc in omega arith
-
 -- a neighbour that is there is behind a pair that may stand between
 pub passed-over : (b : Bool) (k : ℕ) → (choose b k 0 ≡ 0 → ⊥) → (b ≡ true) × (k ≡ 0 → ⊥)
 unfolding choose
@@ -49,7 +47,7 @@ all-shaped document i behind (pair n from to inside next) ks q =
     let a = none-chosen (offending document behind n inside) i _ q in
     let b = all-shaped document (i + 1) false inside (offenders document (i + 1 + length (written inside []) + 1) (isItem n) next ks) (a .1) in
     let c = all-shaped document (i + 1 + length (written inside []) + 1) (isItem n) next ks (b .1) in
-    (with-pair (λ h m. clash _ (unmarked document behind n inside h m) (a .0)) (b .0) (c .0), c .1)
+    (with-pair (λ h m. clash (unmarked document behind n inside h m) (a .0)) (b .0) (c .0), c .1)
 
 -- numbers from k on, each above the one before
 pub data Rising : ℕ → List ℕ → Type 0 where

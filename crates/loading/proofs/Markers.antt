@@ -13,9 +13,8 @@ use Rattle.record.specs.Choice.{choose, and}
 use Rattle.record.specs.Bytes.{u32At}
 use Rattle.record.specs.Event.{documentOf, eventAt, eventsAt}
 use Rattle.record.proofs.Parts.{length-document, document-byte}
-use Rattle.runs.specs.Runs.{isMarker, isByte, byteAt, byteBefore, allAre, allowed, leftAtOnce, shaped}
+use Rattle.runs.specs.Runs.{isMarker, isByte, byteAt, byteBefore, allAre, allowed, leftAtOnce, runBetween, shaped}
 use Rattle.runs.proofs.Firsts.{orFeed}
-use Rattle.loading.specs.Between.{between, shaped-between}
 
 -- where the document's bytes stand
 module _ (s : List ℕ) (d : ℕ) (whole : 4 + d ≤ length s) where
@@ -78,8 +77,8 @@ all-document (suc n) marker s d at h =
 
 -- the bytes between two places of the document, each way
 module _ (s : List ℕ) (d options from to : ℕ) where
-  pub not-later : to ≤ from → false ≡ between (documentOf s d) options from to
-  unfolding between and
+  pub not-later : to ≤ from → false ≡ runBetween (documentOf s d) options from to
+  unfolding runBetween and
   not-later h = rw (le-ltb from to h)
 
   module _ (later : from < to) (inside : to ≤ d) (marker : ℕ) (m : marker ≡ getD s (4 + from) 0) where
@@ -91,22 +90,22 @@ module _ (s : List ℕ) (d options from to : ℕ) where
         let k : 4 + to - (4 + from) ≡ to - from = omega arith in
         all-document (to - from) marker s d from (omega arith) ∙ rw k
 
-    pub unmarked : isMarker marker ≡ false → false ≡ between (documentOf s d) options from to
-    unfolding between and
+    pub unmarked : isMarker marker ≡ false → false ≡ runBetween (documentOf s d) options from to
+    unfolding runBetween and
     unmarked e = rw (lt-ltb from to later, first-byte, e)
 
     module _ (known : isMarker marker ≡ true) where
-      pub mixed : allAre (4 + to - (4 + from)) marker s (4 + from) ≡ false → false ≡ between (documentOf s d) options from to
-      unfolding between and
+      pub mixed : allAre (4 + to - (4 + from)) marker s (4 + from) ≡ false → false ≡ runBetween (documentOf s d) options from to
+      unfolding runBetween and
       mixed f = rw (lt-ltb from to later, first-byte, known, scan-here, f)
 
       module _ (all : allAre (4 + to - (4 + from)) marker s (4 + from) ≡ true) where
-        pub goes-on : isByte marker (byteAt (documentOf s d) to) ≡ true → false ≡ between (documentOf s d) options from to
-        unfolding between and
+        pub goes-on : isByte marker (byteAt (documentOf s d) to) ≡ true → false ≡ runBetween (documentOf s d) options from to
+        unfolding runBetween and
         goes-on g = rw (lt-ltb from to later, first-byte, known, scan-here, all, g)
 
-        pub by-option : isByte marker (byteAt (documentOf s d) to) ≡ false → allowed options marker ≡ between (documentOf s d) options from to
-        unfolding between and
+        pub by-option : isByte marker (byteAt (documentOf s d) to) ≡ false → allowed options marker ≡ runBetween (documentOf s d) options from to
+        unfolding runBetween and
         by-option g = rw (lt-ltb from to later, first-byte, known, scan-here, all, g)
 
 -- the run that an event enters, where another follows it
@@ -123,12 +122,12 @@ module _ (s : List ℕ) (d options at : ℕ) where
       rw (eq-eqb _ _ k, n, ne-eqb _ _ e)
 
   pub at-once-left : getD s (at + 8) 0 ≡ 1 → getD s (at + 9) 0 ≡ 1 → (from to : ℕ) → from ≡ u32At s (at + 4) → to ≡ u32At s (at + 12) →
-      between (documentOf s d) options from to ≡ shaped (documentOf s d) options (eventAt s at) (eventsAt 1 s (at + 8))
-  unfolding eventsAt leftAtOnce and
+      runBetween (documentOf s d) options from to ≡ shaped (documentOf s d) options (eventAt s at) (eventsAt 1 s (at + 8))
+  unfolding eventsAt shaped leftAtOnce and
   at-once-left k e from to f t =
       let n : at + 8 + 1 ≡ at + 9 = omega arith in
       let p : u32At s (at + 8 + 4) ≡ u32At s (at + 12) = places in
-      rw (shaped-between, f, t, eq-eqb _ _ k, n, eq-eqb _ _ e, p)
+      rw (f, t, eq-eqb _ _ k, n, eq-eqb _ _ e, p)
     where
       places : u32At s (at + 8 + 4) ≡ u32At s (at + 12)
       places =

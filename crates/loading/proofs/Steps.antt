@@ -18,8 +18,7 @@ use Rattle.record.specs.declared.event.Event.{Event}
 use Rattle.record.proofs.Bools.{and-left, and-right, clash}
 use Rattle.record.proofs.Parts.{events-cons, events-none}
 use Rattle.record.proofs.Soundness.{Stands, stands, sound-rest, after-enter}
-use Rattle.runs.specs.Runs.{Run, isMarker, entersRun, runOf, runsFrom, runsOf, leftAtOnce, shaped, offenderFrom, offender}
-use Rattle.loading.specs.Between.{between, shaped-between}
+use Rattle.runs.specs.Runs.{Run, isMarker, entersRun, runOf, runsFrom, runsOf, leftAtOnce, runBetween, shaped, offenderFrom, offender}
 
 -- an event enters a run, or it does not
 pub enters : (e : Event) → e .kind ≡ 0 → e .name ≡ 1 → entersRun e ≡ true
@@ -160,15 +159,14 @@ pub record Shape (s : List ℕ) (d at : ℕ) : Type 0 where
   pub marked : isMarker (getD (documentOf s d) (u32At s (at + 4)) 0) ≡ true
 
 pub shape-tells : (s : List ℕ) (d options at : ℕ) → shaped (documentOf s d) options (eventAt s at) (eventsAt 1 s (at + 8)) ≡ true → Shape s d at
-unfolding leftAtOnce eventsAt between
+unfolding shaped leftAtOnce eventsAt runBetween
 shape-tells s d options at q =
-    let t = sym (shaped-between (documentOf s d) options (eventAt s at) (eventsAt 1 s (at + 8))) ∙ q in
-    let b = and-right _ _ t in
+    let b = and-right _ _ q in
     let n : at + 8 + 4 ≡ at + 12 = omega arith in
     let k : u32At s (at + 8 + 4) ≡ u32At s (at + 12) = ap (λ (m : ℕ). u32At s m) n in
     let l : u32At s (at + 4) < u32At s (at + 8 + 4) = ltb-true _ _ (and-left _ _ b) in
     record {
-      next-exits = eqb-true _ _ (and-left _ _ (and-left _ _ t));
+      next-exits = eqb-true _ _ (and-left _ _ (and-left _ _ q));
       later = omega arith;
       marked = and-left _ _ (and-right _ _ b);
     }

@@ -7,10 +7,9 @@ use mathlib.Core.List.{[], _∷_}
 use mathlib.Core.Option.{Option, none, some}
 use Rattle.record.specs.Choice.{choose, and}
 use Rattle.record.specs.Options.{optionOn}
-use Rattle.runs.specs.Runs.{isMarker, allAre, byteAt, allowed}
+use Rattle.runs.specs.Runs.{isMarker, allAre, byteAt, allowed, runBetween}
 use Rattle.runs.specs.Plain.{Standing}
 use Rattle.runs.specs.Chains.{markerNumber, chainNumber}
-use Rattle.loading.specs.Between.{between}
 
 abbrev run : ℕ → Option ℕ → Standing
 run marker container = record { marker = marker; container = container; whole = 1; left = 1; opens = true; closes = true }
@@ -30,18 +29,18 @@ unfolding chainNumber markerNumber choose
 not-outside = refl
 
 -- `**` whole is a run of `**a`; its first byte alone is not, since the byte after is the marker; nor is `*a`; nor is `~` without option 2
-whole-run : between (42 ∷ 42 ∷ 97 ∷ []) 1 0 2 ≡ true
-unfolding between isMarker allAre byteAt allowed optionOn choose and
+whole-run : runBetween (42 ∷ 42 ∷ 97 ∷ []) 1 0 2 ≡ true
+unfolding runBetween isMarker allAre byteAt allowed optionOn choose and
 whole-run = refl
 
-part-of-run : between (42 ∷ 42 ∷ 97 ∷ []) 1 0 1 ≡ false
-unfolding between isMarker allAre byteAt allowed optionOn choose and
+part-of-run : runBetween (42 ∷ 42 ∷ 97 ∷ []) 1 0 1 ≡ false
+unfolding runBetween isMarker allAre byteAt allowed optionOn choose and
 part-of-run = refl
 
-past-run : between (42 ∷ 42 ∷ 97 ∷ []) 1 1 3 ≡ false
-unfolding between isMarker allAre byteAt allowed optionOn choose and
+past-run : runBetween (42 ∷ 42 ∷ 97 ∷ []) 1 1 3 ≡ false
+unfolding runBetween isMarker allAre byteAt allowed optionOn choose and
 past-run = refl
 
-option-off : between (126 ∷ []) 1 0 1 ≡ false
-unfolding between isMarker allAre byteAt allowed optionOn choose and
+option-off : runBetween (126 ∷ []) 1 0 1 ≡ false
+unfolding runBetween isMarker allAre byteAt allowed optionOn choose and
 option-off = refl

@@ -1,4 +1,3 @@
-pub mod Between
 pub mod Held
 pub mod Filling
 pub mod Promise

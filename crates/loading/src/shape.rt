@@ -12,8 +12,7 @@ ghost use lib.ListN.{length};
 ghost use Rattle.record.specs.Options.{optionOn};
 ghost use Rattle.record.specs.Event.{documentOf, eventAt, eventsAt};
 ghost use Rattle.record.specs.Bytes.{u32At};
-ghost use Rattle.runs.specs.Runs.{isMarker, isByte, byteAt, allAre, allowed as allowedBy, shaped};
-ghost use Rattle.loading.specs.Between.{between};
+ghost use Rattle.runs.specs.Runs.{isMarker, isByte, byteAt, allAre, allowed as allowedBy, runBetween, shaped};
 
 // Whether the option of this value is among those that are summed.
 pub fn option_on(options: u32, value: u32) -> bool
@@ -75,7 +74,7 @@ fn stands_at(s: &[u8], d: usize, place: usize, marker: u8) -> bool
 // Whether the document's bytes from one place up to another are a run.
 fn run_between(s: &[u8], d: usize, options: u32, from: usize, to: usize) -> bool
     requires { ⌜ (to ≤ d) × (4 + d ≤ length (now s)) ⌝ }
-    ensures { λ r. ⌜ r ≡ between (documentOf (now (s .entry)) d) options from to ⌝ }
+    ensures { λ r. ⌜ r ≡ runBetween (documentOf (now (s .entry)) d) options from to ⌝ }
 {
     if from >= to {
         return false;

@@ -13,12 +13,12 @@ use lib.ListN.{length, getD, take, length-append, List·getD-append}
 use lib.Seq.{getD-append-add, take-append-le, take-length}
 use borrow.Author.Tests.{eq-eqb, ne-eqb, eqb-true, eqb-false}
 use Rattle.record.specs.Choice.{choose}
-use Rattle.runs.specs.Plain.{Group, group}
+use Rattle.runs.specs.Plain.{Group, group, groupAt}
 use Rattle.slots.specs.Words.{get16, put16}
 use Rattle.slots.specs.Layout.{groupOpener, groupCloser, groupTaken, groupEarlier, firstGroupOf, latestGroupOf, withGroup, withLatestGroup, withFirstGroup}
 use Rattle.slots.proofs.Laws.{Apart, Beside, length-put, get-put-same, word-after-word, byte-after-word}
 use Rattle.chains.specs.Step.{joined}
-use Rattle.matcher.specs.Groups.{groupAt, firstClosed, lastOpened, Grouped}
+use Rattle.matcher.specs.Groups.{firstClosed, lastOpened, Grouped}
 use Rattle.chains.proofs.Pops.{joined-first, joined-later}
 
 module _ (w : List ℕ) (g o c k : ℕ) where

@@ -20,9 +20,9 @@ use Rattle.record.specs.Choice.{choose}
 use Rattle.runs.specs.declared.Next.{Next}
 use Rattle.runs.specs.declared.Next.the-variants.{Match, Done}
 use Rattle.runs.specs.Rule.{Rule}
-use Rattle.runs.specs.Plain.{Standing, Group, group, Outcome, forth, takenBy, matched, ends, rounds, total, plain}
+use Rattle.runs.specs.Plain.{Standing, Group, group, groupAt, Outcome, forth, takenBy, matched, ends, rounds, total, plain}
 use Rattle.runs.specs.Pieces.{Piece, piece, closings}
-use Rattle.matcher.specs.Groups.{groupAt, firstClosed}
+use Rattle.matcher.specs.Groups.{firstClosed}
 use Rattle.matcher.proofs.Matched.{matched-length}
 use Rattle.matcher.proofs.Rounds.{Found, forth-found, andGroup}
 

@@ -4,14 +4,10 @@ use Prim.Native.Nat.{ℕ, zero, suc, _+_, _<_, _≤_}
 use mathlib.Core.Path.{_≡_}
 use mathlib.Core.List.{List, [], _∷_}
 use lib.Dec.{eqb}
-use lib.ListN.{length, getD, take}
+use lib.ListN.{length, take}
 use Rattle.record.specs.Choice.{choose}
-use Rattle.runs.specs.Plain.{Group, group}
+use Rattle.runs.specs.Plain.{Group, groupAt}
 use Rattle.slots.specs.Layout.{groupOpener, groupCloser, groupTaken, groupEarlier, firstGroupOf, latestGroupOf}
-
--- the group of number g among these
-abbrev pub groupAt : List Group → ℕ → Group
-groupAt gs g = getD gs g (group 0 0 0)
 
 -- the number plus 1 of the first of these groups that the run q closes, or 0; the first of them has number i
 unfoldable pub firstClosed : List Group → ℕ → ℕ → ℕ

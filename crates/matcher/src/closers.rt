@@ -3,7 +3,7 @@
 use chains::taking::take_match;
 use chains::walk::next_match;
 use runs::Next;
-ghost use Rattle.chains.specs.Walk.{ruleFor};
+ghost use Rattle.runs.specs.Rule.{ruleFor};
 ghost use Rattle.matcher.specs.Promise.{Begun, Handles, Loaded, Answers};
 
 // Where one closer leaves things: the run to go on from, how many runs are open, how many groups there are and how many candidates were tried;

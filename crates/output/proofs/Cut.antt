@@ -17,7 +17,7 @@ use Rattle.record.specs.Sound.{soundFrom}
 use Rattle.record.specs.declared.event.Event.{Event}
 use Rattle.record.proofs.Bools.{and-left, and-right, clash}
 use Rattle.record.proofs.Soundness.{stands, sound-rest, after-enter, after-exit}
-use Rattle.runs.specs.Runs.{entersRun, leftAtOnce, shaped, offenderFrom, offender}
+use Rattle.runs.specs.Runs.{entersRun, leftAtOnce, runBetween, shaped, offenderFrom, offender}
 use Rattle.output.specs.Accepted.{Accepted}
 
 -- over a document of d bytes, where the event before has the place `last` and the names h are open
@@ -72,7 +72,7 @@ run-shaped doc options e es i k n f =
 
 shaped-left : (doc : List ℕ) (options : ℕ) (e x : Event) (es : List Event) → shaped doc options e (x ∷ es) ≡ true →
     (x .kind ≡ 1) × (x .name ≡ 1) × (e .place < x .place)
-unfolding shaped leftAtOnce
+unfolding shaped runBetween leftAtOnce
 shaped-left doc options e x es s =
     let l = and-left _ _ s in
     (eqb-true _ _ (and-left _ _ l), eqb-true _ _ (and-right _ _ l), ltb-true _ _ (and-left _ _ (and-right _ _ s)))

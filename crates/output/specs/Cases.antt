@@ -10,7 +10,7 @@ use Rattle.record.specs.Stack.{fitsOpen, after}
 use Rattle.record.specs.Sound.{placed, soundFrom}
 use Rattle.runs.specs.Texts.{bytes}
 use Rattle.runs.specs.Cases.{stretchOf, nameOf, splitFrom, split}
-use Rattle.runs.specs.Runs.{byteAt, byteBefore, entersRun, runsFrom, runsOf, isMarker, allowed, leftAtOnce, allAre, shaped, offenderFrom, offender}
+use Rattle.runs.specs.Runs.{byteAt, byteBefore, entersRun, runsFrom, runsOf, isMarker, allowed, leftAtOnce, allAre, runBetween, shaped, offenderFrom, offender}
 use Rattle.runs.specs.Plain.{Group, group}
 use Rattle.runs.specs.Pieces.{Piece, groupName, closings, openings, closed, opened, remains}
 use Rattle.output.specs.Accepted.{Accepted}
@@ -41,5 +41,5 @@ both-jobs = refl
 
 -- there are accepted records
 pub accepted : Accepted 64 59 (bytes "*a*") (split (bytes "*a*"))
-unfolding bytes split splitFrom stretchOf nameOf choose and after byteAt entersRun isMarker optionOn allowed leftAtOnce allAre shaped offenderFrom offender placed fitsOpen soundFrom
+unfolding bytes split splitFrom stretchOf nameOf choose and after byteAt entersRun isMarker optionOn allowed leftAtOnce allAre runBetween shaped offenderFrom offender placed fitsOpen soundFrom
 accepted = record { events = refl; shapes = refl }

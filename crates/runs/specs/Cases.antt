@@ -16,7 +16,7 @@ use Rattle.record.specs.Stack.{after}
 use Rattle.record.specs.declared.event.Event.{Event}
 use Rattle.classes.specs.Class.{classOf, standardClass, amended, whitespace, punctuation}
 use Rattle.runs.specs.Texts.{bytes}
-use Rattle.runs.specs.Runs.{Run, byteAt, byteBefore, entersRun, runsFrom, runsOf, isMarker, allowed, leftAtOnce, allAre, shaped, offenderFrom, offender}
+use Rattle.runs.specs.Runs.{Run, byteAt, byteBefore, entersRun, runsFrom, runsOf, isMarker, allowed, leftAtOnce, allAre, runBetween, shaped, offenderFrom, offender}
 use Rattle.runs.specs.Flanking.{classBeside, leftFlanking, rightFlanking, besideMarker, flanksLeft, flanksRight, canOpen, canClose}
 use Rattle.runs.specs.Rule.{Profile, threes, tildes, ruleOver, crateRule, standardRule, crate, standard}
 use Rattle.runs.specs.Plain.{Group, opener, closer, sameContainer, candidate, takes, back, look, forth, amount, alter, matched, rounds, total, plain}
@@ -168,7 +168,7 @@ shapes =
     ∷ []
 
 pub offenders : map (λ (s : Shape). offender (bytes (s .text)) (s .options) (s .events)) shapes ≡ map (λ (s : Shape). s .offends) shapes
-unfolding shapes bytes choose and optionOn byteAt entersRun isMarker allowed leftAtOnce allAre shaped offenderFrom offender
+unfolding shapes bytes choose and optionOn byteAt entersRun isMarker allowed leftAtOnce allAre runBetween shaped offenderFrom offender
 offenders = refl
 
 -- the containers of the runs of `*[a*b]*`, where [ and ] stand for the enter, event 2, and the exit of a container

@@ -124,6 +124,10 @@ pub record Group : Type 0 where
 abbrev pub group : ℕ → ℕ → ℕ → Group
 group o c k = record { opener = o; closer = c; taken = k }
 
+-- the group of number g among these
+abbrev pub groupAt : List Group → ℕ → Group
+groupAt gs g = getD gs g (group 0 0 0)
+
 -- what all matches come to: the groups in match order, the candidates tried over all searches, and the runs as they stand in the end
 pub record Outcome : Type 0 where
   pub groups : List Group

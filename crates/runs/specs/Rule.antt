@@ -37,9 +37,12 @@ ruleOver sizeOf single marker opener closer =
 abbrev pub standardRule : ℕ → Rule
 standardRule options = ruleOver (λ s. s .whole) (optionOn options 4)
 
--- Amendment D5: the crate's lengths are those of what is left of the runs
+-- Amendment D5: the crate's lengths are those of what is left of the runs. By whether option 4 is on, and by the options
+abbrev pub ruleFor : Bool → Rule
+ruleFor single = ruleOver (λ s. s .left) single
+
 abbrev pub crateRule : ℕ → Rule
-crateRule options = ruleOver (λ s. s .left) (optionOn options 4)
+crateRule options = ruleFor (optionOn options 4)
 
 -- a profile: whether the clause on neighbouring markers holds, and the rule that the options give
 pub record Profile : Type 0 where

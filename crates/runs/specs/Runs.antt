@@ -93,17 +93,20 @@ abbrev pub isByte : ℕ → Option ℕ → Bool
 isByte marker none = false
 isByte marker (some b) = eqb b marker
 
--- "Shape: name 1 is entered, then at once left, at a later place; all bytes between are one marker `*`, `_` or `~`; the byte after is not
--- that marker (the byte before may be); its option is on": for the run that e enters, where es follow
-unfoldable pub shaped : List ℕ → ℕ → Event → List Event → Bool
-shaped doc options e es =
-    let marker = getD doc (e .place) 0 in
-    and (leftAtOnce es)
-    (and (ltb (e .place) (firstPlace es))
+-- "at a later place; all bytes between are one marker `*`, `_` or `~`; the byte after is not that marker (the byte before may be); its option
+-- is on": for a run that is entered at one place and left at another
+unfoldable pub runBetween : List ℕ → ℕ → ℕ → ℕ → Bool
+runBetween doc options from to =
+    let marker = getD doc from 0 in
+    and (ltb from to)
     (and (isMarker marker)
-    (and (allAre (firstPlace es - e .place) marker doc (e .place))
-    (and (not (isByte marker (byteAt doc (firstPlace es))))
-    (allowed options marker)))))
+    (and (allAre (to - from) marker doc from)
+    (and (not (isByte marker (byteAt doc to)))
+    (allowed options marker))))
+
+-- "Shape: name 1 is entered, then at once left", and so between the places: for the run that e enters, where es follow
+unfoldable pub shaped : List ℕ → ℕ → Event → List Event → Bool
+shaped doc options e es = and (leftAtOnce es) (runBetween doc options (e .place) (firstPlace es))
 
 -- number 6, "the resolver's own shape rule is broken", at the "enter event of the earliest offending run": its number, if there is one
 unfoldable pub offenderFrom : List ℕ → ℕ → List Event → ℕ → Option ℕ

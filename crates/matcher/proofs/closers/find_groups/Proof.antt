@@ -5,7 +5,7 @@ use Prim.Native.Nat.{_-_}
 use mathlib.Core.Path.{sym, _∙_}
 use native.Mathlib.Omega.{arith}
 use borrow.Author.Needs.{needs}
-use Rattle.chains.specs.Walk.{ruleFor}
+use Rattle.runs.specs.Rule.{ruleFor}
 use Rattle.matcher.proofs.Resolving.{Resolves, resolve-start, resolve-loaded, resolve-begun, resolve-full, resolve-on, resolve-again, resolve-end}
 use Rattle.matcher.proofs.Ways.{end-way, full-all, again-all}
 use Rattle.matcher.proofs.closers.find_groups.Statement.{statement}
