@@ -31,7 +31,7 @@ pub accepted-headings : (s : List ℕ) (options : ℕ) (out work : List ℕ) (r 
 accepted-headings s options out work r out′ work′ p z =
     let a = headings-claim s options .accepts out work r out′ work′ p z in
     let none = headings-claim s options .exactly out work r out′ work′ p .none-holds z in
-    let good = no-row-sound s options (length work) (λ n q x. none n q (by-check x)) in
+    let good = no-row-sound s options (length work) (λ n q x. none n q (by-check x)) .1 in
     record {
       accepted = a;
       nests = resolved-sound (allEvents s) (a .events) 64 (documentCount s) good (a .made-so);
@@ -49,7 +49,7 @@ pub accepted-lists : (s : List ℕ) (options : ℕ) (out work : List ℕ) (r : L
 accepted-lists s options out work r out′ work′ p z =
     let a = lists-claim s options .accepts out work r out′ work′ p z in
     let none = lists-claim s options .exactly out work r out′ work′ p .none-holds z in
-    let good = no-row-sound s options (length work) (λ n q x. none n q (by-check x)) in
+    let good = no-row-sound s options (length work) (λ n q x. none n q (by-check x)) .1 in
     record {
       accepted = a;
       nests = nested (documentCount s) (docOf s) (allEvents s) (a .events) good (a .made-so);

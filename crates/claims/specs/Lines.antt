@@ -17,7 +17,6 @@ use Rattle.record.specs.Event.{sectionBytes}
 use Rattle.record.specs.declared.event.Event.{Event}
 use Rattle.record.specs.Choice.{choose, and}
 use Rattle.record.specs.Outcome.{Outcome, accepted, refused, refusing, sized, onto}
-use Rattle.record.specs.Rows.{Least}
 use Rattle.record.specs.declared.check.Refusal.{Refusal}
 use Rattle.scan.specs.Line.{lineOf, refusal, checkedLine, reading}
 use Rattle.scan.specs.declared.line.Checked.{Checked}

@@ -16,21 +16,15 @@
 -- Assumes nothing.
 use Prim.Native.Nat.{ℕ, _+_, _<_, _≤_}
 use native.Mathlib.Omega.{arith}
-use mathlib.Core.Path.{_≡_, refl, sym, ap, _∙_}
-use mathlib.Core.Bool.{true}
+use mathlib.Core.Path.{_≡_, refl, ap, _∙_}
 use mathlib.Core.List.{List, []}
 use mathlib.Core.Option.{Option, none, some}
 use lib.ListN.{length}
-use Rattle.record.specs.Event.{documentOf, eventsOf, sectionBytes}
+use Rattle.record.specs.Event.{sectionBytes}
 use Rattle.record.specs.Rows.{documentCount, eventCount}
-use Rattle.record.specs.Check.{admitted}
-use Rattle.record.specs.Sound.{sound}
-use Rattle.record.specs.declared.check.Reading.{Reading}
-use Rattle.record.specs.declared.check.Reading.the-variants.{Good, Refused}
+use Rattle.record.specs.Written.{by-check}
 use Rattle.record.proofs.Exactly.{exactly}
-use Rattle.record.proofs.Good.{admission}
-use Rattle.record.proofs.Parts.{length-document}
-use Rattle.record.specs.Outcome.{Outcome, accepted, refused, Resolution, gives, outcome as outcomeOf, onto, bytesWritten}
+use Rattle.record.specs.Outcome.{gives, onto}
 use Rattle.record.specs.declared.event.Event.{Event}
 use Rattle.runs.specs.Runs.{runsOf, offender}
 use Rattle.runs.specs.Plain.{Standing, Group, forth, plain}
@@ -47,11 +41,9 @@ use Rattle.output.specs.Accepted.{Accepted}
 use Rattle.output.specs.Tiling.{allPieces, holding, Marker}
 use Rattle.output.proofs.MarkerBytes as pieces
 use Rattle.attention.specs.Attention.{unlessOffended, attention}
-use Rattle.attention.specs.Promise.{resolution, answerOf}
 use Rattle.attention.specs.Start.{Cleared}
-use Rattle.attention.proofs.Exactly.{exactly-resolved}
 use Rattle.attention.proofs.Beginning.{begins}
-use Rattle.ledgerlark.specs.Answers.{attentionOf, AttentionAs}
+use Rattle.ledgerlark.specs.Answers.{AttentionAs}
 use Rattle.ledgerlark.specs.declared.resolve.LarkResolved.{LarkResolved}
 use Rattle.slots.specs.Layout.{Room}
 use Rattle.loading.specs.Promise.{Loads}
@@ -65,7 +57,7 @@ use Rattle.matcher.specs.State.{Fresh, Ready}
 use Rattle.matcher.proofs.Chained.{onward-went}
 use Rattle.matcher.proofs.Resolving.{fresh-ready}
 use Rattle.chains.specs.Walk.{onward}
-use Rattle.claims.specs.Records.{docOf, allEvents, written-number}
+use Rattle.claims.specs.Records.{docOf, allEvents, no-row-sound, attention-claim}
 use Rattle.matcher.specs.declared.closers.Step.the-variants.{Closed}
 use Rattle.matcher.specs.declared.closers.Found.the-variants.{Groups}
 
@@ -90,46 +82,25 @@ pub record AsThePlainRule (s : List ℕ) (options : ℕ) (out : List ℕ) (r : L
   pub events : r .events ≡ length (output crate options (docOf s) (allEvents s))
   pub written : out′ ≡ onto (sectionBytes (output crate options (docOf s) (allEvents s))) out
 
-good-record : (s : List ℕ) (options works : ℕ) (o : Reading) (resolve : ℕ → ℕ → Resolution) (outs : ℕ) (es : List Event) →
-    admitted s options works ≡ o → outcomeOf o resolve outs ≡ accepted es → sound 64 (length (docOf s)) (allEvents s) ≡ true
-good-record s options works (Refused x) resolve outs es q e = let z : _≡_ {A = ℕ} 0 1 = cc in absurd (omega arith)
-good-record s options works (Good d k) resolve outs es q e =
-    let g = exactly s options works .good d k q in
-    let t = admission s options works d k q .good in
-    let long = t .whole in
-    let same : d ≡ documentCount s = g .0 in
-    let same′ : k ≡ eventCount s = g .1 in
-    let l : length (documentOf s d) ≡ d = length-document s d (omega arith) in
-    let h : sound 64 (length (documentOf s d)) (eventsOf s d k) ≡ true = rw l (t .sound-events) in
-    rw (same, same′) at h
-
 pub accepted-as-the-plain-rule : (s : List ℕ) (options : ℕ) (out work : List ℕ) (r : LarkResolved) (out′ work′ : List ℕ) →
     AttentionAs s options out work r out′ work′ → r .number ≡ 0 → AsThePlainRule s options out r out′
-unfolding resolution attention
-accepted-as-the-plain-rule s options out work r out′ work′ a z = go (resolution s options (length out) (length work)) refl
-  where
-    go : (o : Outcome) → resolution s options (length out) (length work) ≡ o → AsThePlainRule s options out r out′
-    go (accepted es) e =
-        let x = exactly-resolved s options (length work) (length out) .good es e in
-        let same = the-output (offender (docOf s) options (allEvents s)) (output crate options (docOf s) (allEvents s)) es (x .0) in
-        let q = a .answer ∙ ap (λ (o : Outcome). attentionOf (answerOf s options o)) e in
-        record {
-          record-good =
-              record {
-                events =
-                    good-record s options (length work) (admitted s options (length work)) (λ d k. attention options (documentOf s d) (eventsOf s d k))
-                    (length out) es refl e;
-                shapes = none-offended (offender (docOf s) options (allEvents s)) (output crate options (docOf s) (allEvents s)) es (x .0);
-              };
-          groups = ap (λ (y : LarkResolved). y .groups) q;
-          tried = ap (λ (y : LarkResolved). y .tried) q;
-          events = ap (λ (y : LarkResolved). y .events) q ∙ ap (λ (l : List Event). length l) same;
-          written = a .output ∙ ap (λ (o : Outcome). onto (bytesWritten o) out) e ∙ ap (λ (l : List Event). onto (sectionBytes l) out) same;
-        }
-    go (refused y) e =
-        let q : r .number ≡ y .number = ap (λ (y : LarkResolved). y .number) (a .answer ∙ ap (λ (o : Outcome). attentionOf (answerOf s options o)) e) in
-        let h = written-number (exactly-resolved s options (length work) (length out) .refused (y .number) (y .place) e .holds) in
-        absurd (omega arith)
+unfolding attention
+accepted-as-the-plain-rule s options out work r out′ work′ p z =
+    let a = attention-claim s options .accepts out work r out′ work′ p z in
+    let none = attention-claim s options .exactly out work r out′ work′ p .none-holds z in
+    let good = no-row-sound s options (length work) (λ n q x. none n q (by-check x)) in
+    let same = the-output (offender (docOf s) options (allEvents s)) (output crate options (docOf s) (allEvents s)) (a .events) (a .made-so) in
+    record {
+      record-good =
+          record {
+            events = rw (good .0) (good .1);
+            shapes = none-offended (offender (docOf s) options (allEvents s)) (output crate options (docOf s) (allEvents s)) (a .events) (a .made-so);
+          };
+      groups = ap (λ (y : LarkResolved). y .groups) (a .answer);
+      tried = ap (λ (y : LarkResolved). y .tried) (a .answer);
+      events = ap (λ (y : LarkResolved). y .events) (a .answer) ∙ ap (λ (l : List Event). length l) same;
+      written = a .written ∙ ap (λ (l : List Event). onto (sectionBytes l) out) same;
+    }
 
 -- of an accepted record: no two groups cross; no group crosses a container, that is any pair of the record that is no run, and both its runs stand in
 -- one; each group is where its pieces are; and each marker byte of a run lies in exactly one piece of a group or one leftover, which hold no

@@ -6,14 +6,14 @@ use Prim.Native.Nat.{ℕ, _+_, _*_, _<_, _≤_}
 use native.Mathlib.Omega.{arith}
 use mathlib.Core.Path.{_≡_, refl, sym, ap, _∙_}
 use mathlib.Core.Bool.{Bool, true, false}
-use mathlib.Core.List.{List, []}
+use mathlib.Core.List.{List}
 use lib.ListN.{length, take, drop, replicate}
 use lib.Dec.{leb}
 use borrow.Author.Tests.{leb-true, leb-false}
 use Rattle.record.specs.Check.{admitted, refuse}
 use Rattle.record.specs.Event.{documentOf, eventsOf, sectionBytes}
 use Rattle.record.specs.Sound.{sound}
-use Rattle.record.specs.Rows.{Least, Row, row-1, row-2, row-3, row-4, row-5, documentCount, eventCount}
+use Rattle.record.specs.Rows.{Row, row-1, row-2, row-3, row-4, row-5, documentCount, eventCount}
 use Rattle.record.specs.Written.{WrittenRow, by-check, row-6, row-7, row-8, ExactlyWritten}
 use Rattle.record.specs.Outcome.{Outcome, accepted, refused, refusing, Resolution, gives, outcome, onto, bytesWritten}
 use Rattle.record.specs.Promise.{Writes, writes-determined, writes-same-answer, writes-same-work, writes-same-bytes, writes-keep-rest}
@@ -22,6 +22,7 @@ use Rattle.record.specs.declared.check.Reading.the-variants.{Good, Refused}
 use Rattle.record.specs.declared.event.Event.{Event}
 use Rattle.record.proofs.Exactly.{exactly}
 use Rattle.record.proofs.Good.{admission}
+use Rattle.record.proofs.Parts.{length-document}
 use Rattle.record.proofs.Sections.{length-section}
 use Rattle.record.proofs.Output.{onto-none}
 use Rattle.runs.specs.Rule.{crate}
@@ -105,10 +106,13 @@ read-exactly {s} {options} {work} {r} a =
         let k : r .number ≡ x .number = ap (λ (y : LarkReading). y .number) (a .answer ∙ ap readingOf q) in
         absurd (omega arith)
 
--- where no row holds the record's events are sound
-pub no-row-sound : (s : List ℕ) (options works : ℕ) → ((n p : ℕ) → Row s options works n p → ⊥) → sound 64 (documentCount s) (allEvents s) ≡ true
+-- where no row holds the record's events are sound over its document
+pub no-row-sound : (s : List ℕ) (options works : ℕ) → ((n p : ℕ) → Row s options works n p → ⊥) →
+    (length (docOf s) ≡ documentCount s) × (sound 64 (documentCount s) (allEvents s) ≡ true)
 no-row-sound s options works none =
-    admission s options works (documentCount s) (eventCount s) (exactly s options works .accepted none) .good .sound-events
+    let good = admission s options works (documentCount s) (eventCount s) (exactly s options works .accepted none) .good in
+    let whole = good .whole in
+    (length-document s (documentCount s) (omega arith), good .sound-events)
 
 -- the claim of the call that reads, of one record and one option number
 pub record ReadClaim (s : List ℕ) (options : ℕ) : Type 0 where
