@@ -14,8 +14,9 @@ use Rattle.heading.specs.Outside.{outside}
 use Rattle.heading.proofs.Resound.{resolved-sound}
 use Rattle.heading.proofs.Kept.{outside-kept}
 use Rattle.list.specs.Lists.{lists}
-use Rattle.list.specs.Listing.{Listing, listing}
-use Rattle.list.specs.Nesting.{nested}
+use Rattle.list.specs.Listing.{Listing}
+use Rattle.list.proofs.Added.{listing}
+use Rattle.list.proofs.Nesting.{nested}
 use Rattle.ledgerlark.specs.Answers.{HeadingsAs, ListsAs}
 use Rattle.ledgerlark.specs.declared.resolve.LarkResolved.{LarkResolved}
 use Rattle.claims.specs.Records.{docOf, allEvents, no-row-sound, Accepts, headings-claim, lists-claim}

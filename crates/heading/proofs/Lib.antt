@@ -8,5 +8,4 @@ pub mod Settling
 pub mod Offence
 pub mod Resound
 pub mod Kept
-pub mod Called
 pub mod Exactly

@@ -1,6 +1,6 @@
 -- Number 6 as the table has it: a refusal names the earliest heading that breaks the shape rule, and where none does there is none.
---     earliest-offends, offends-earliest    the definition's offender is the earliest, and the earliest is the definition's
---     gives-unbroken                        a result only where no heading breaks the rule
+--     earliest-offends    the definition's offender is the earliest
+--     gives-unbroken      a result only where no heading breaks the rule
 -- Assumes nothing.
 use mathlib.Core.Path.{_≡_, refl, sym, ap, _∙_, subst}
 use mathlib.Core.Bool.{Bool, true, false, not}
@@ -306,33 +306,3 @@ gives-unbroken es rs deep d s q = go (either 0 es (gives (resolvedFrom 0 es)))
         let z : offends j ≡ gives rs = sym p ∙ q in
         let y : _≡_ {A = ℕ} 0 1 = cc in
         absurd (omega arith)
-
-order : (j k : ℕ) → (j < k) ⊎ (j ≡ k) ⊎ (k < j)
-order zero zero = inr (inl refl)
-order zero (suc k) = inl (omega arith)
-order (suc j) zero = inr (inr (omega arith))
-order (suc j) (suc k) = go (order j k)
-  where
-    go : (j < k) ⊎ (j ≡ k) ⊎ (k < j) → (suc j < suc k) ⊎ (suc j ≡ suc k) ⊎ (suc k < suc j)
-    go (inl l) = inl (omega arith)
-    go (inr (inl e)) = inr (inl (ap suc e))
-    go (inr (inr l)) = inr (inr (omega arith))
-
-same-earliest : (es : List Event) (j k : ℕ) → Earliest es j → Earliest es k → j ≡ k
-same-earliest es j k a b = by (order j k)
-  where
-    by : (j < k) ⊎ (j ≡ k) ⊎ (k < j) → j ≡ k
-    by (inl l) = absurd (b .first j l (a .broken))
-    by (inr (inl e)) = e
-    by (inr (inr l)) = absurd (a .first k l (b .broken))
-
--- and the earliest that breaks it is refused
-pub offends-earliest : (es : List Event) (deep d k : ℕ) → sound deep d es ≡ true → Earliest es k → headings es ≡ offends k
-unfolding headings
-offends-earliest es deep d k s b = go (either 0 es (gives (resolvedFrom 0 es)))
-  where
-    go : (earliest 0 es (gives (resolvedFrom 0 es)) ≡ gives (resolvedFrom 0 es))
-        ⊎ ((j : ℕ) × (earliest 0 es (gives (resolvedFrom 0 es)) ≡ offends j) × (0 ≤ j) × (j < 0 + length es)) →
-        earliest 0 es (gives (resolvedFrom 0 es)) ≡ offends k
-    go (inl p) = absurd (unbroken 0 es (resolvedFrom 0 es) deep d 0 [] s p k (b .broken))
-    go (inr (j, p, l, u)) = p ∙ ap (λ (m : ℕ). offends m) (same-earliest es j k (earliest-offends es deep d j s p) b)

@@ -4,4 +4,3 @@ pub mod Promise
 pub mod Cases
 pub mod Shape
 pub mod Outside
-pub mod Accepted

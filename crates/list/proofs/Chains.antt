@@ -14,7 +14,7 @@ use Rattle.list.specs.Tree.{Row, none, pair, written}
 use Rattle.list.specs.Item.{markOf}
 use Rattle.list.specs.Lists.{between, noItem, neighbour, joins, listName, listed}
 use Rattle.list.specs.Walk.{markIn, nearest, note, notes, noted, spliced}
-use Rattle.list.specs.Shape.{Shaped, with-pair, passed-over}
+use Rattle.list.proofs.Earliest.{Shaped, with-pair, passed-over}
 use Rattle.list.proofs.Trees.{Stops, exited, mark-written, nearest-written}
 
 -- the events from here on, with what their notes add

@@ -14,8 +14,8 @@ use Rattle.record.specs.declared.event.Event.{Event}
 use Rattle.record.proofs.ExactlyWritten.{exactly-written}
 use Rattle.list.specs.Tree.{treeOf}
 use Rattle.list.specs.Lists.{offenders, lists}
-use Rattle.list.specs.Listing.{result-of}
-use Rattle.list.specs.Shape.{Rising, no-more, then, Among, front, behind, earliest}
+use Rattle.list.proofs.Added.{result-of}
+use Rattle.list.proofs.Earliest.{Rising, no-more, then, Among, front, behind, earliest}
 use Rattle.list.specs.Offence.{Offends}
 use Rattle.list.proofs.Offending.{named-offends, offends-named}
 

@@ -1,3 +1,6 @@
+mod Earliest
+pub mod Added
+pub mod Nesting
 mod Onward
 mod Shapes
 mod Nearest

@@ -14,7 +14,7 @@ use Rattle.record.proofs.Bools.{and-left, and-right, and-both, clash}
 use Rattle.list.specs.Tree.{Row, none, pair, written}
 use Rattle.list.specs.Item.{markOf}
 use Rattle.list.specs.Lists.{isItem, offending, offenders}
-use Rattle.list.specs.Shape.{Among, front, behind as later}
+use Rattle.list.proofs.Earliest.{Among, front, behind as later}
 use Rattle.list.specs.Offence.{Begins, ItemAt, here, inside, further, OffendsIn}
 use Rattle.list.proofs.Beginnings.{begins-marked, marked-begins}
 

@@ -30,7 +30,7 @@ use Rattle.list.specs.declared.call.Answer.{Answer}
 use Rattle.list.specs.declared.call.Answer.the-variants.{Resolved, Refused}
 use Rattle.list.proofs.Onward.{onward-whole}
 use Rattle.list.proofs.Trees.{ended, offenders-written}
-use Rattle.list.specs.Shape.{all-shaped}
+use Rattle.list.proofs.Earliest.{all-shaped}
 use Rattle.list.proofs.Chains.{walked, listed-walked}
 
 -- what a finding says of the offending items and of the notes

@@ -2,10 +2,8 @@ pub mod Tree
 pub mod Reading
 pub mod Item
 pub mod Lists
-pub mod Shape
 pub mod Offence
 pub mod Listing
-pub mod Nesting
 pub mod Walk
 pub mod Noting
 pub mod Promise

@@ -21,8 +21,8 @@ use Rattle.list.specs.Tree.{Row, none, pair, written, treeOf}
 use Rattle.list.specs.Reading.{tree-written}
 use Rattle.list.specs.Item.{markOf}
 use Rattle.list.specs.Lists.{between, noItem, neighbour, joins, listName, listed, lists}
-use Rattle.list.specs.Shape.{Shaped, with-pair, all-shaped, passed-over}
-use Rattle.list.specs.Listing.{list-named, result-of}
+use Rattle.list.proofs.Earliest.{Shaped, with-pair, all-shaped, passed-over}
+use Rattle.list.proofs.Added.{list-named, result-of}
 
 list-name-small : (mark : ℕ) → listName mark ≤ 24
 list-name-small mark = go (list-named mark)
