@@ -1,5 +1,5 @@
 -- The index of the claim. The calls on a record, the calls on a line; what is true of accepted headings and lists; the matcher; the twelve cases of
--- document 01.
+-- document 01. Statements alone; proofs/ has a proof of each.
 pub mod Told
 pub mod Records
 pub mod Lines

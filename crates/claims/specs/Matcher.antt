@@ -12,21 +12,16 @@
 -- come to the same. What their promises, `Handles` and `Answers`, say is drawn out here.
 --
 -- First the call: what it reports and writes, and that nothing crosses. Then the matcher, from the memory that a record's runs are loaded into,
--- closer by closer: its groups, and its chains.
+-- closer by closer: its groups, and its chains. These are the statements; proofs/Matcher.antt proves each under the name in small letters.
 -- Assumes nothing.
 use Prim.Native.Nat.{ℕ, _+_, _<_, _≤_}
-use native.Mathlib.Omega.{arith}
-use mathlib.Core.Path.{_≡_, refl, ap, _∙_}
+use mathlib.Core.Path.{_≡_}
 use mathlib.Core.List.{List, []}
-use mathlib.Core.Option.{Option, none, some}
 use lib.ListN.{length}
 use Rattle.record.specs.Event.{sectionBytes}
 use Rattle.record.specs.Rows.{documentCount, eventCount}
-use Rattle.record.specs.Written.{by-check}
-use Rattle.record.proofs.Exactly.{exactly}
-use Rattle.record.specs.Outcome.{gives, onto}
-use Rattle.record.specs.declared.event.Event.{Event}
-use Rattle.runs.specs.Runs.{runsOf, offender}
+use Rattle.record.specs.Outcome.{onto}
+use Rattle.runs.specs.Runs.{runsOf}
 use Rattle.runs.specs.Plain.{Standing, Group, forth, plain}
 use Rattle.runs.specs.declared.Next.the-variants.{Done}
 use Rattle.runs.specs.Rule.{Rule, crate}
@@ -40,9 +35,7 @@ use Rattle.groups.proofs.Theorems as groups
 use Rattle.output.specs.Accepted.{Accepted}
 use Rattle.output.specs.Tiling.{allPieces, holding, Marker}
 use Rattle.output.proofs.MarkerBytes as pieces
-use Rattle.attention.specs.Attention.{unlessOffended, attention}
 use Rattle.attention.specs.Start.{Cleared}
-use Rattle.attention.proofs.Beginning.{begins}
 use Rattle.ledgerlark.specs.Answers.{AttentionAs}
 use Rattle.ledgerlark.specs.declared.resolve.LarkResolved.{LarkResolved}
 use Rattle.slots.specs.Layout.{Room}
@@ -54,20 +47,10 @@ use Rattle.matcher.specs.Chains.{Listed}
 use Rattle.matcher.specs.Along.{closerBy, chained}
 use Rattle.matcher.specs.Groups.{Grouped}
 use Rattle.matcher.specs.State.{Fresh, Ready}
-use Rattle.matcher.proofs.Chained.{onward-went}
-use Rattle.matcher.proofs.Resolving.{fresh-ready}
 use Rattle.chains.specs.Walk.{onward}
-use Rattle.claims.specs.Records.{docOf, allEvents, no-row-sound, attention-claim}
+use Rattle.claims.specs.Records.{docOf, allEvents}
 use Rattle.matcher.specs.declared.closers.Step.the-variants.{Closed}
 use Rattle.matcher.specs.declared.closers.Found.the-variants.{Groups}
-
-the-output : (o : Option ℕ) (all es : List Event) → unlessOffended o all ≡ gives es → es ≡ all
-the-output none all es q = cc
-the-output (some j) all es q = let z : _≡_ {A = ℕ} 0 1 = cc in absurd (omega arith)
-
-none-offended : (o : Option ℕ) (all es : List Event) → unlessOffended o all ≡ gives es → o ≡ none
-none-offended none all es q = refl
-none-offended (some j) all es q = let z : _≡_ {A = ℕ} 0 1 = cc in absurd (omega arith)
 
 -- the groups that the plain rule makes of a record
 abbrev pub plainGroups : List ℕ → ℕ → List Group
@@ -82,25 +65,10 @@ pub record AsThePlainRule (s : List ℕ) (options : ℕ) (out : List ℕ) (r : L
   pub events : r .events ≡ length (output crate options (docOf s) (allEvents s))
   pub written : out′ ≡ onto (sectionBytes (output crate options (docOf s) (allEvents s))) out
 
-pub accepted-as-the-plain-rule : (s : List ℕ) (options : ℕ) (out work : List ℕ) (r : LarkResolved) (out′ work′ : List ℕ) →
+abbrev pub AcceptedAsThePlainRule : Type 0
+AcceptedAsThePlainRule =
+    (s : List ℕ) (options : ℕ) (out work : List ℕ) (r : LarkResolved) (out′ work′ : List ℕ) →
     AttentionAs s options out work r out′ work′ → r .number ≡ 0 → AsThePlainRule s options out r out′
-unfolding attention
-accepted-as-the-plain-rule s options out work r out′ work′ p z =
-    let a = attention-claim s options .accepts out work r out′ work′ p z in
-    let none = attention-claim s options .exactly out work r out′ work′ p .none-holds z in
-    let good = no-row-sound s options (length work) (λ n q x. none n q (by-check x)) in
-    let same = the-output (offender (docOf s) options (allEvents s)) (output crate options (docOf s) (allEvents s)) (a .events) (a .made-so) in
-    record {
-      record-good =
-          record {
-            events = rw (good .0) (good .1);
-            shapes = none-offended (offender (docOf s) options (allEvents s)) (output crate options (docOf s) (allEvents s)) (a .events) (a .made-so);
-          };
-      groups = ap (λ (y : LarkResolved). y .groups) (a .answer);
-      tried = ap (λ (y : LarkResolved). y .tried) (a .answer);
-      events = ap (λ (y : LarkResolved). y .events) (a .answer) ∙ ap (λ (l : List Event). length l) same;
-      written = a .written ∙ ap (λ (l : List Event). onto (sectionBytes l) out) same;
-    }
 
 -- of an accepted record: no two groups cross; no group crosses a container, that is any pair of the record that is no run, and both its runs stand in
 -- one; each group is where its pieces are; and each marker byte of a run lies in exactly one piece of a group or one leftover, which hold no
@@ -115,59 +83,52 @@ pub record Nests (s : List ℕ) (options : ℕ) : Type 0 where
   pub only-markers : (at : ℕ) → 0 < holding at (allPieces (plainGroups s options) 0 (runsOf (docOf s) (allEvents s))) →
       Marker at (runsOf (docOf s) (allEvents s))
 
-pub accepted-nests : (s : List ℕ) (options : ℕ) (out work : List ℕ) (r : LarkResolved) (out′ work′ : List ℕ) →
+abbrev pub AcceptedNests : Type 0
+AcceptedNests =
+    (s : List ℕ) (options : ℕ) (out work : List ℕ) (r : LarkResolved) (out′ work′ : List ℕ) →
     AttentionAs s options out work r out′ work′ → r .number ≡ 0 → Nests s options
-accepted-nests s options out work r out′ work′ a z =
-    let good = accepted-as-the-plain-rule s options out work r out′ work′ a z .record-good in
-    record {
-      groups-never-cross = groups.groups-never-cross crate options (docOf s) (allEvents s) 64 (length (docOf s)) (good .events);
-      containers-never-crossed = groups.containers-never-crossed crate options (docOf s) (allEvents s) 64 (length (docOf s)) (good .events);
-      container-is-one = groups.container-is-one crate options (docOf s) (allEvents s);
-      each-held = groups.each-held crate options (docOf s) (allEvents s) 64 (length (docOf s)) (good .events);
-      each-marker-once = pieces.each-marker-once crate options (docOf s) (allEvents s) 64 good;
-      only-markers = pieces.only-markers crate options (docOf s) (allEvents s);
-    }
 
 -- the chained matcher forms the same groups in the same order, and tries exactly as many candidates: whatever runs the memory held before the first
 -- match, after it the memory holds the plain rule's groups of them in match order
-pub groups-are-the-plain-rule's : (rule : Rule) (w : List ℕ) (n made tried : ℕ) (w′ : List ℕ) → Answers rule w n (Groups made tried) w′ →
+abbrev pub GroupsAreThePlainRule's : Type 0
+GroupsAreThePlainRule's =
+    (rule : Rule) (w : List ℕ) (n made tried : ℕ) (w′ : List ℕ) → Answers rule w n (Groups made tried) w′ →
     ((Groups made tried, w′) ≡ chained rule w n)
     × ((rs : List Standing) → Fresh w rs n →
     (made ≡ length (plain rule rs .groups)) × (tried ≡ plain rule rs .tried) × Grouped w′ (plain rule rs .groups) n)
-groups-are-the-plain-rule's rule w n made tried w′ a = (a .along, λ rs f. let x = a .of rs f in (x .made, x .count, x .grouped))
 
 -- of a record: `Loads` is what the pass that loads the runs promises (crates/loading), `Cleared` what clearing the heads of the chains does
 -- (crates/attention). After both the memory is as before the first match, for the runs of this record: here the statements on chains begin
-pub accepted-begins : (s : List ℕ) (options n : ℕ) (w w₁ w₂ : List ℕ) → Room w → Loads s (documentCount s) (eventCount s) options w (Runs n) w₁ →
+abbrev pub AcceptedBegins : Type 0
+AcceptedBegins =
+    (s : List ℕ) (options n : ℕ) (w w₁ w₂ : List ℕ) → Room w → Loads s (documentCount s) (eventCount s) options w (Runs n) w₁ →
     Cleared w₁ 6147 w₂ → Fresh w₂ (begin crate options (docOf s) (allEvents s)) n
-accepted-begins s options n w w₁ w₂ room l c = let same = l .same-length in begins (omega arith) (l .runs n refl) c
 
 -- so the groups that the memory then holds are those that are reported and written
-pub accepted-groups : (s : List ℕ) (options n made tried : ℕ) (w w′ : List ℕ) → Fresh w (begin crate options (docOf s) (allEvents s)) n →
+abbrev pub AcceptedGroups : Type 0
+AcceptedGroups =
+    (s : List ℕ) (options n made tried : ℕ) (w w′ : List ℕ) → Fresh w (begin crate options (docOf s) (allEvents s)) n →
     Answers (crate .rule options) w n (Groups made tried) w′ →
     (made ≡ length (plainGroups s options)) × (tried ≡ outcome crate options (docOf s) (allEvents s) .tried) × Grouped w′ (plainGroups s options) n
-unfolding outcome
-accepted-groups s options n made tried w w′ f a = groups-are-the-plain-rule's (crate .rule options) w n made tried w′ a .1 (begin crate options (docOf s) (allEvents s)) f
 
 -- after each closer the chains hold exactly the runs up to it that can still open, as the plain rule has them on finishing that closer. A closer
 -- that takes an opener is a step of its own: this is what the step promises
-pub chains-after-a-match : (rule : Rule) (w : List ℕ) (height n from groups tried next height′ groups′ tried′ : ℕ) (w′ : List ℕ) →
+abbrev pub ChainsAfterAMatch : Type 0
+ChainsAfterAMatch =
+    (rule : Rule) (w : List ℕ) (height n from groups tried next height′ groups′ tried′ : ℕ) (w′ : List ℕ) →
     Handles rule w height n from groups tried (Closed next height′ groups′ tried′) w′ → (rs : List Standing) (gs : List Group) →
     Ready w height rs gs n from → length gs ≡ groups →
     ((Closed next height′ groups′ tried′, w′) ≡ closerBy rule w height from n groups tried)
     × (next ≡ closerFrom rule rs from gs tried .next)
     × Listed w′ height′ (closerFrom rule rs from gs tried .runs) (closerFrom rule rs from gs tried .next)
-chains-after-a-match rule w height n from groups tried next height′ groups′ tried′ w′ h rs gs r e = let x = h .of rs gs r e in (h .along, x .at, x .ready .listed)
 
 -- and a closer that takes none is passed: `onward`, which `next_match` is equal to, has after any number of passed runs chains that list exactly
 -- the runs up to the last of them
-pub chains-after-passing : (rule : Rule) (w : List ℕ) (height : ℕ) (rs : List Standing) (gs : List Group) (n from passed t u : ℕ) (w′ : List ℕ) (height′ : ℕ) →
+abbrev pub ChainsAfterPassing : Type 0
+ChainsAfterPassing =
+    (rule : Rule) (w : List ℕ) (height : ℕ) (rs : List Standing) (gs : List Group) (n from passed t u : ℕ) (w′ : List ℕ) (height′ : ℕ) →
     Ready w height rs gs n from → from + passed ≤ n → onward passed rule w height from t ≡ (Done u, (w′, height′)) →
     Listed w′ height′ rs (from + passed)
-chains-after-passing rule w height rs gs n from passed t u w′ height′ r h e =
-    let went = onward-went passed rule w height rs gs n from t r h in
-    let at-end : Ready w′ height′ rs gs n (from + passed) = rw e at (went .ready) in
-    at-end .listed
 
 -- where a matcher stands that began on the memory w₀ with the runs rs₀, and has gone on by steps that keep the promise of `handle_closer`: its
 -- memory, the height of its open runs, the run to go on from, the candidates tried; and the groups and runs as the plain rule has them by then
@@ -177,24 +138,21 @@ pub data Stands (rule : Rule) (n : ℕ) (w₀ : List ℕ) (rs₀ : List Standing
       Stands rule n w₀ rs₀ w height from tried gs rs → Handles rule w height n from (length gs) tried (Closed next height′ groups′ tried′) w′ →
       Stands rule n w₀ rs₀ w′ height′ next tried′ (closerFrom rule rs from gs tried .groups) (closerFrom rule rs from gs tried .runs)
 
-ready-there : {rule : Rule} {n : ℕ} {w₀ : List ℕ} {rs₀ : List Standing} {w : List ℕ} {height from tried : ℕ} {gs : List Group} {rs : List Standing} →
-    Fresh w₀ rs₀ n → Stands rule n w₀ rs₀ w height from tried gs rs → Ready w height rs gs n from
-ready-there f at-the-first = fresh-ready _ _ _ f
-ready-there f (after-a-closer st h) = let x = h .of _ _ (ready-there f st) refl in rw (x .at) (x .ready)
-
 -- so after each closer that takes an opener, from the first to the last, the chains hold exactly the runs up to it that can still open
-pub chains-after-each : (rule : Rule) (n : ℕ) (w₀ : List ℕ) (rs₀ : List Standing) (w : List ℕ) (height from tried : ℕ) (gs : List Group) (rs : List Standing) →
+abbrev pub ChainsAfterEach : Type 0
+ChainsAfterEach =
+    (rule : Rule) (n : ℕ) (w₀ : List ℕ) (rs₀ : List Standing) (w : List ℕ) (height from tried : ℕ) (gs : List Group) (rs : List Standing) →
     Fresh w₀ rs₀ n → Stands rule n w₀ rs₀ w height from tried gs rs → Listed w height rs from
-chains-after-each rule n w₀ rs₀ w height from tried gs rs f st = ready-there f st .listed
 
 -- and so they do after each closer that is passed on the way from there to the next match
-pub chains-on-the-way : (rule : Rule) (n : ℕ) (w₀ : List ℕ) (rs₀ : List Standing) (w : List ℕ) (height from tried : ℕ) (gs : List Group) (rs : List Standing)
+abbrev pub ChainsOnTheWay : Type 0
+ChainsOnTheWay =
+    (rule : Rule) (n : ℕ) (w₀ : List ℕ) (rs₀ : List Standing) (w : List ℕ) (height from tried : ℕ) (gs : List Group) (rs : List Standing)
     (passed t u : ℕ) (w′ : List ℕ) (height′ : ℕ) → Fresh w₀ rs₀ n → Stands rule n w₀ rs₀ w height from tried gs rs → from + passed ≤ n →
     onward passed rule w height from t ≡ (Done u, (w′, height′)) → Listed w′ height′ rs (from + passed)
-chains-on-the-way rule n w₀ rs₀ w height from tried gs rs passed t u w′ height′ f st h e =
-    chains-after-passing rule w height rs gs n from passed t u w′ height′ (ready-there f st) h e
 
 -- where chains and runs agree, what `onward` finds along the chains, and how many it tries, is what the plain rule finds among all earlier runs
-pub chains-find-the-same : (rule : Rule) (w : List ℕ) (height : ℕ) (rs : List Standing) (gs : List Group) (n from m t : ℕ) →
+abbrev pub ChainsFindTheSame : Type 0
+ChainsFindTheSame =
+    (rule : Rule) (w : List ℕ) (height : ℕ) (rs : List Standing) (gs : List Group) (n from m t : ℕ) →
     Ready w height rs gs n from → from + m ≤ n → onward m rule w height from t .0 ≡ forth rule m rs from t
-chains-find-the-same rule w height rs gs n from m t r h = onward-went m rule w height rs gs n from t r h .next

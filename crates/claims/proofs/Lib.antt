@@ -1,0 +1,5 @@
+-- The proofs of the claims, a file for each of specs/; the cases are computed there.
+pub mod Records
+pub mod Lines
+pub mod Accepted
+pub mod Matcher

@@ -1,0 +1,103 @@
+-- Demand 3, proved: the statements of specs/Matcher.antt, from the promises of the functions and the theorems on groups.
+-- Assumes nothing.
+use Prim.Native.Nat.{ℕ, _+_}
+use native.Mathlib.Omega.{arith}
+use mathlib.Core.Path.{_≡_, refl, ap, _∙_}
+use mathlib.Core.List.{List}
+use mathlib.Core.Option.{Option, none, some}
+use lib.ListN.{length}
+use Rattle.record.specs.Event.{sectionBytes}
+use Rattle.record.specs.Written.{by-check}
+use Rattle.record.proofs.Exactly.{exactly}
+use Rattle.record.specs.Outcome.{gives, onto}
+use Rattle.record.specs.declared.event.Event.{Event}
+use Rattle.runs.specs.Runs.{offender}
+use Rattle.runs.specs.Plain.{Standing, Group}
+use Rattle.runs.specs.Rule.{Rule, crate}
+use Rattle.runs.specs.Pieces.{outcome}
+use Rattle.runs.specs.Output.{output}
+use Rattle.groups.specs.Matches.{begin}
+use Rattle.groups.proofs.Theorems as groups
+use Rattle.output.proofs.MarkerBytes as pieces
+use Rattle.attention.specs.Attention.{unlessOffended, attention}
+use Rattle.attention.proofs.Beginning.{begins}
+use Rattle.ledgerlark.specs.declared.resolve.LarkResolved.{LarkResolved}
+use Rattle.matcher.specs.State.{Fresh, Ready}
+use Rattle.matcher.proofs.Chained.{onward-went}
+use Rattle.matcher.proofs.Resolving.{fresh-ready}
+use Rattle.claims.specs.Records.{docOf, allEvents}
+use Rattle.claims.specs.Matcher.{Stands, at-the-first, after-a-closer, AcceptedAsThePlainRule, AcceptedNests, GroupsAreThePlainRule's, AcceptedBegins, AcceptedGroups, ChainsAfterAMatch, ChainsAfterPassing, ChainsAfterEach, ChainsOnTheWay, ChainsFindTheSame}
+use Rattle.claims.proofs.Records.{no-row-sound, attention-claim}
+
+the-output : (o : Option ℕ) (all es : List Event) → unlessOffended o all ≡ gives es → es ≡ all
+the-output none all es q = cc
+the-output (some j) all es q = let z : _≡_ {A = ℕ} 0 1 = cc in absurd (omega arith)
+
+none-offended : (o : Option ℕ) (all es : List Event) → unlessOffended o all ≡ gives es → o ≡ none
+none-offended none all es q = refl
+none-offended (some j) all es q = let z : _≡_ {A = ℕ} 0 1 = cc in absurd (omega arith)
+
+pub accepted-as-the-plain-rule : AcceptedAsThePlainRule
+unfolding attention
+accepted-as-the-plain-rule s options out work r out′ work′ p z =
+    let a = attention-claim s options .accepts out work r out′ work′ p z in
+    let none = attention-claim s options .exactly out work r out′ work′ p .none-holds z in
+    let good = no-row-sound s options (length work) (λ n q x. none n q (by-check x)) in
+    let same = the-output (offender (docOf s) options (allEvents s)) (output crate options (docOf s) (allEvents s)) (a .events) (a .made-so) in
+    record {
+      record-good =
+          record {
+            events = rw (good .0) (good .1);
+            shapes = none-offended (offender (docOf s) options (allEvents s)) (output crate options (docOf s) (allEvents s)) (a .events) (a .made-so);
+          };
+      groups = ap (λ (y : LarkResolved). y .groups) (a .answer);
+      tried = ap (λ (y : LarkResolved). y .tried) (a .answer);
+      events = ap (λ (y : LarkResolved). y .events) (a .answer) ∙ ap (λ (l : List Event). length l) same;
+      written = a .written ∙ ap (λ (l : List Event). onto (sectionBytes l) out) same;
+    }
+
+pub accepted-nests : AcceptedNests
+accepted-nests s options out work r out′ work′ a z =
+    let good = accepted-as-the-plain-rule s options out work r out′ work′ a z .record-good in
+    record {
+      groups-never-cross = groups.groups-never-cross crate options (docOf s) (allEvents s) 64 (length (docOf s)) (good .events);
+      containers-never-crossed = groups.containers-never-crossed crate options (docOf s) (allEvents s) 64 (length (docOf s)) (good .events);
+      container-is-one = groups.container-is-one crate options (docOf s) (allEvents s);
+      each-held = groups.each-held crate options (docOf s) (allEvents s) 64 (length (docOf s)) (good .events);
+      each-marker-once = pieces.each-marker-once crate options (docOf s) (allEvents s) 64 good;
+      only-markers = pieces.only-markers crate options (docOf s) (allEvents s);
+    }
+
+pub groups-are-the-plain-rule's : GroupsAreThePlainRule's
+groups-are-the-plain-rule's rule w n made tried w′ a = (a .along, λ rs f. let x = a .of rs f in (x .made, x .count, x .grouped))
+
+pub accepted-begins : AcceptedBegins
+accepted-begins s options n w w₁ w₂ room l c = let same = l .same-length in begins (omega arith) (l .runs n refl) c
+
+pub accepted-groups : AcceptedGroups
+unfolding outcome
+accepted-groups s options n made tried w w′ f a = groups-are-the-plain-rule's (crate .rule options) w n made tried w′ a .1 (begin crate options (docOf s) (allEvents s)) f
+
+pub chains-after-a-match : ChainsAfterAMatch
+chains-after-a-match rule w height n from groups tried next height′ groups′ tried′ w′ h rs gs r e = let x = h .of rs gs r e in (h .along, x .at, x .ready .listed)
+
+pub chains-after-passing : ChainsAfterPassing
+chains-after-passing rule w height rs gs n from passed t u w′ height′ r h e =
+    let went = onward-went passed rule w height rs gs n from t r h in
+    let at-end : Ready w′ height′ rs gs n (from + passed) = rw e at (went .ready) in
+    at-end .listed
+
+ready-there : {rule : Rule} {n : ℕ} {w₀ : List ℕ} {rs₀ : List Standing} {w : List ℕ} {height from tried : ℕ} {gs : List Group} {rs : List Standing} →
+    Fresh w₀ rs₀ n → Stands rule n w₀ rs₀ w height from tried gs rs → Ready w height rs gs n from
+ready-there f at-the-first = fresh-ready _ _ _ f
+ready-there f (after-a-closer st h) = let x = h .of _ _ (ready-there f st) refl in rw (x .at) (x .ready)
+
+pub chains-after-each : ChainsAfterEach
+chains-after-each rule n w₀ rs₀ w height from tried gs rs f st = ready-there f st .listed
+
+pub chains-on-the-way : ChainsOnTheWay
+chains-on-the-way rule n w₀ rs₀ w height from tried gs rs passed t u w′ height′ f st h e =
+    chains-after-passing rule w height rs gs n from passed t u w′ height′ (ready-there f st) h e
+
+pub chains-find-the-same : ChainsFindTheSame
+chains-find-the-same rule w height rs gs n from m t r h = onward-went m rule w height rs gs n from t r h .next

@@ -1,0 +1,264 @@
+-- The claims of the calls on a record hold, each by the call's promise alone.
+-- Assumes nothing.
+use Prim.Native.Nat.{ℕ, _+_, _*_, _<_, _≤_}
+use native.Mathlib.Omega.{arith}
+use mathlib.Core.Path.{_≡_, refl, sym, ap, _∙_}
+use mathlib.Core.Bool.{Bool, true, false}
+use mathlib.Core.List.{List}
+use lib.ListN.{length, replicate}
+use lib.Dec.{leb}
+use borrow.Author.Tests.{leb-true, leb-false}
+use Rattle.record.specs.Check.{admitted, refuse}
+use Rattle.record.specs.Event.{documentOf, eventsOf}
+use Rattle.record.specs.Sound.{sound}
+use Rattle.record.specs.Rows.{Row, row-1, row-2, row-3, row-4, row-5, documentCount, eventCount}
+use Rattle.record.specs.Written.{WrittenRow, by-check, row-6, row-7, row-8, ExactlyWritten}
+use Rattle.record.specs.Outcome.{Outcome, accepted, refused, refusing, Resolution, outcome, onto, bytesWritten}
+use Rattle.record.specs.Promise.{Writes, writes-determined, writes-same-answer, writes-same-work, writes-same-bytes, writes-keep-rest}
+use Rattle.record.specs.declared.check.Reading.{Reading}
+use Rattle.record.specs.declared.check.Reading.the-variants.{Good, Refused}
+use Rattle.record.specs.declared.event.Event.{Event}
+use Rattle.record.proofs.Exactly.{exactly}
+use Rattle.record.proofs.Good.{admission}
+use Rattle.record.proofs.Parts.{length-document}
+use Rattle.record.proofs.Sections.{length-section}
+use Rattle.record.proofs.Output.{onto-none}
+use Rattle.attention.specs.Attention.{attention}
+use Rattle.attention.specs.Promise.{resolution as attentionOutcome, answerOf as attentionAnswer}
+use Rattle.attention.specs.Shape.{Offends as RunOffends}
+use Rattle.attention.proofs.Exactly.{exactly-resolved as attention-exactly-resolved}
+use Rattle.heading.specs.Headings.{headings}
+use Rattle.heading.specs.Promise.{resolution as headingOutcome, answerOf as headingAnswer}
+use Rattle.heading.specs.Shape.{Broken as HeadingOffends}
+use Rattle.heading.proofs.Exactly.{exactly-resolved as headings-exactly-resolved}
+use Rattle.list.specs.Lists.{lists}
+use Rattle.list.specs.Promise.{outcomeOf as listOutcome, answerOf as listAnswer}
+use Rattle.list.specs.Offence.{Offends as ItemOffends}
+use Rattle.list.proofs.Exactly.{exactly-resolved as lists-exactly-resolved}
+use Rattle.ledgerlark.specs.Answers.{readingOf, attentionOf, headingsOf, listsOf, ReadAs}
+use Rattle.ledgerlark.specs.declared.resolve.LarkReading.{LarkReading}
+use Rattle.ledgerlark.specs.declared.resolve.LarkResolved.{LarkResolved}
+use Rattle.claims.specs.Told.{Told}
+use Rattle.claims.specs.Records.{docOf, allEvents, readRefusal, refusal, resolved, ReadClaim, Isolated, Numbered, Accepts, Claim, AttentionClaim, HeadingsClaim, ListsClaim}
+
+-- a row of the table has a number from 1 up
+row-number : {s : List ℕ} {options works n p : ℕ} → Row s options works n p → 0 < n
+row-number (row-1 h e f) = omega arith
+row-number (row-2 h e f) = omega arith
+row-number (row-3 h e) = omega arith
+row-number (row-4 h e) = omega arith
+row-number (row-5 h e) = omega arith
+
+pub written-number : {s : List ℕ} {options works : ℕ} {Offends : ℕ → Type 0} {made : Resolution} {outs n p : ℕ} →
+    WrittenRow s options works Offends made outs n p → 0 < n
+written-number (by-check r) = row-number r
+written-number (row-6 k h e f) = omega arith
+written-number (row-7 es h g e f) = omega arith
+written-number (row-8 es h g e f) = omega arith
+
+-- lark_read
+
+read-back : (a : Reading) (n p : ℕ) → 0 < n → readingOf a ≡ readRefusal n p → a ≡ refuse n p
+read-back (Good d e) n p h q = let z : 0 ≡ n = ap (λ (x : LarkReading). x .number) q in absurd (omega arith)
+read-back (Refused x) n p h q =
+    let e₁ : x .number ≡ n = ap (λ (y : LarkReading). y .number) q in
+    let e₂ : x .place ≡ p = ap (λ (y : LarkReading). y .place) q in
+    let e₃ : refuse (x .number) (x .place) ≡ refuse n p = cc in
+    e₃
+
+read-whole : (a : Reading) → 0 < readingOf a .number → readingOf a ≡ readRefusal (readingOf a .number) (readingOf a .place)
+read-whole (Good d e) h = absurd (omega arith)
+read-whole (Refused x) h = refl
+
+read-exactly : {s : List ℕ} {options : ℕ} {work : List ℕ} {r : LarkReading} {work′ : List ℕ} → ReadAs s options work r work′ →
+    Told (λ (x : LarkReading). x .number) (λ (x : LarkReading). x .place) readRefusal (Row s options (length work)) r
+read-exactly {s} {options} {work} {r} a =
+    record {
+      given = λ n p l. a .answer ∙ ap readingOf (exactly s options (length work) .given n p l);
+      only = λ n p h q. exactly s options (length work) .refused n p (read-back (admitted s options (length work)) n p h (sym (a .answer) ∙ q));
+      accepted = λ none. ap (λ (x : LarkReading). x .number) (a .answer ∙ ap readingOf (exactly s options (length work) .accepted none));
+      none-holds = λ z. read-none (admitted s options (length work)) refl z;
+      nothing-more = λ h. rw (a .answer) (read-whole (admitted s options (length work)) (rw (a .answer) at h));
+    }
+  where
+    read-none : (o : Reading) → admitted s options (length work) ≡ o → r .number ≡ 0 → (n p : ℕ) → Row s options (length work) n p → ⊥
+    read-none (Good d e) q z = exactly s options (length work) .good d e q .2
+    read-none (Refused x) q z =
+        let h = row-number (exactly s options (length work) .refused (x .number) (x .place) q .holds) in
+        let k : r .number ≡ x .number = ap (λ (y : LarkReading). y .number) (a .answer ∙ ap readingOf q) in
+        absurd (omega arith)
+
+-- where no row holds the record's events are sound over its document
+pub no-row-sound : (s : List ℕ) (options works : ℕ) → ((n p : ℕ) → Row s options works n p → ⊥) →
+    (length (docOf s) ≡ documentCount s) × (sound 64 (documentCount s) (allEvents s) ≡ true)
+no-row-sound s options works none =
+    let good = admission s options works (documentCount s) (eventCount s) (exactly s options works .accepted none) .good in
+    let whole = good .whole in
+    (length-document s (documentCount s) (omega arith), good .sound-events)
+
+pub read-claim : (s : List ℕ) (options : ℕ) → ReadClaim s options
+read-claim s options =
+    record {
+      unique = λ work r₁ r₂ w₁ w₂ p q. (p .answer ∙ sym (q .answer), p .wiped ∙ sym (q .wiped));
+      isolated = λ work₁ work₂ r₁ r₂ w₁ w₂ e p q. (
+        p .answer ∙ ap (λ (n : ℕ). readingOf (admitted s options n)) e ∙ sym (q .answer),
+        p .wiped ∙ ap (λ (n : ℕ). replicate n 0) e ∙ sym (q .wiped),
+      );
+      exactly = λ work r work′ a. read-exactly a;
+      accepts = λ work r work′ a z. a .answer ∙ ap readingOf (exactly s options (length work) .accepted (read-exactly a .none-holds z));
+      wiped = λ work r work′ a. a .wiped;
+    }
+
+-- every call that writes, once: what it comes to, and how its answer reads that
+
+-- an answer reads an outcome in numbers: how much was made where something is written, a refusal's number and place else
+pub record Reads (groups tried : ℕ) (answers : Outcome → LarkResolved) : Type 0 where
+  pub of-refused : (n p : ℕ) → answers (refusing n p) ≡ refusal n p
+  pub of-accepted : (es : List Event) → answers (accepted es) ≡ resolved (length es) groups tried
+
+of-zero : {groups tried : ℕ} {answers : Outcome → LarkResolved} → Reads groups tried answers → (es : List Event) → answers (accepted es) .number ≡ 0
+of-zero reads es = ap (λ (x : LarkResolved). x .number) (reads .of-accepted es)
+
+writes-isolated : {comes : ℕ → ℕ → Outcome} {answers : Outcome → LarkResolved} {out₁ out₂ work₁ work₂ : List ℕ} {r₁ r₂ : LarkResolved}
+    {o₁ o₂ w₁ w₂ : List ℕ} →
+    length out₁ ≡ length out₂ → length work₁ ≡ length work₂ → Writes comes answers out₁ work₁ r₁ o₁ w₁ → Writes comes answers out₂ work₂ r₂ o₂ w₂ →
+    Isolated (bytesWritten (comes (length out₁) (length work₁))) out₁ out₂ r₁ r₂ o₁ o₂ w₁ w₂
+writes-isolated {comes} {answers} {out₁} {out₂} {work₁} {work₂} eo ew p q =
+    record {
+      answer = writes-same-answer eo ew p q;
+      first = writes-same-bytes eo ew p q _ refl .0;
+      second = writes-same-bytes eo ew p q _ refl .1;
+      first-kept = writes-keep-rest eo ew p q _ refl;
+      second-kept = writes-keep-rest (sym eo) (sym ew) q p _ both;
+      work = writes-same-work eo ew p q;
+    }
+  where
+    both : bytesWritten (comes (length out₁) (length work₁)) ≡ bytesWritten (comes (length out₂) (length work₂))
+    both = cc
+
+keeps : {groups tried : ℕ} {comes : ℕ → ℕ → Outcome} {answers : Outcome → LarkResolved} {out work : List ℕ} {r : LarkResolved} {out′ work′ : List ℕ} →
+    Reads groups tried answers → (o : Outcome) → comes (length out) (length work) ≡ o → Writes comes answers out work r out′ work′ → 0 < r .number → out′ ≡ out
+keeps {groups} {tried} {comes} {answers} {out} {work} {r} reads (accepted es) e a h =
+    let z : r .number ≡ 0 = ap (λ (x : LarkResolved). x .number) (a .answer ∙ ap answers e) ∙ of-zero reads es in absurd (omega arith)
+keeps {groups} {tried} {comes} {answers} {out} {work} {r} reads (refused x) e a h =
+    a .output ∙ ap (λ (o : Outcome). onto (bytesWritten o) out) e ∙ onto-none out
+
+no-refusal-writes : {groups tried : ℕ} {comes : ℕ → ℕ → Outcome} {answers : Outcome → LarkResolved} {out work : List ℕ} {r : LarkResolved} {out′ work′ : List ℕ} →
+    Reads groups tried answers → Writes comes answers out work r out′ work′ → 0 < r .number → out′ ≡ out
+no-refusal-writes {groups} {tried} {comes} {answers} {out} {work} reads a h = keeps reads (comes (length out) (length work)) refl a h
+
+back : {groups tried : ℕ} {answers : Outcome → LarkResolved} → Reads groups tried answers → (o : Outcome) (n p : ℕ) → 0 < n → answers o ≡ refusal n p → o ≡ refusing n p
+back {groups} {tried} {answers} reads (accepted es) n p h q =
+    let z : 0 ≡ n = sym (of-zero reads es) ∙ ap (λ (x : LarkResolved). x .number) q in absurd (omega arith)
+back {groups} {tried} {answers} reads (refused x) n p h q =
+    let e : refusal (x .number) (x .place) ≡ refusal n p = sym (reads .of-refused (x .number) (x .place)) ∙ q in
+    let e₁ : x .number ≡ n = ap (λ (y : LarkResolved). y .number) e in
+    let e₂ : x .place ≡ p = ap (λ (y : LarkResolved). y .place) e in
+    let e₃ : refusing (x .number) (x .place) ≡ refusing n p = cc in
+    e₃
+
+-- the rows as the resolver's own crate states them, read as numbers
+told : {groups tried : ℕ} {comes : ℕ → ℕ → Outcome} {answers : Outcome → LarkResolved} {s : List ℕ} {options : ℕ} {Offends : ℕ → Type 0} {resolve : ℕ → ℕ → Resolution}
+    {out work : List ℕ} {r : LarkResolved} {out′ work′ : List ℕ} → Reads groups tried answers →
+    comes (length out) (length work) ≡ outcome (admitted s options (length work)) resolve (length out) →
+    ExactlyWritten s options (length work) Offends resolve (length out) → Writes comes answers out work r out′ work′ →
+    Numbered (WrittenRow s options (length work) Offends (resolve (documentCount s) (eventCount s)) (length out)) r
+told {groups} {tried} {comes} {answers} {s} {options} {Offends} {resolve} {out} {work} {r} reads e x a =
+    record {
+      given = λ n p l. a .answer ∙ ap answers (e ∙ x .given n p l) ∙ reads .of-refused n p;
+      only = λ n p h q. x .refused n p (sym e ∙ back reads (comes (length out) (length work)) n p h (sym (a .answer) ∙ q));
+      accepted = λ none. zero-number (outcome (admitted s options (length work)) resolve (length out)) e none;
+      none-holds = λ z. none-held (outcome (admitted s options (length work)) resolve (length out)) e z;
+      nothing-more = λ h. whole (comes (length out) (length work)) (a .answer) h;
+    }
+  where
+    zero-number : (o : Outcome) → comes (length out) (length work) ≡ o →
+        ((n p : ℕ) → WrittenRow s options (length work) Offends (resolve (documentCount s) (eventCount s)) (length out) n p → ⊥) → r .number ≡ 0
+    zero-number (accepted es) c none = ap (λ (y : LarkResolved). y .number) (a .answer ∙ ap answers c) ∙ of-zero reads es
+    zero-number (refused y) c none = absurd (none (y .number) (y .place) (x .refused (y .number) (y .place) (sym e ∙ c) .holds))
+
+    none-held : (o : Outcome) → comes (length out) (length work) ≡ o → r .number ≡ 0 →
+        (n p : ℕ) → WrittenRow s options (length work) Offends (resolve (documentCount s) (eventCount s)) (length out) n p → ⊥
+    none-held (accepted es) c z = x .good es (sym e ∙ c) .1
+    none-held (refused y) c z =
+        let h = written-number (x .refused (y .number) (y .place) (sym e ∙ c) .holds) in
+        let k : r .number ≡ y .number = ap (λ (v : LarkResolved). v .number) (a .answer ∙ ap answers c ∙ reads .of-refused (y .number) (y .place)) in
+        absurd (omega arith)
+
+    whole : (o : Outcome) → r ≡ answers o → 0 < r .number → r ≡ refusal (r .number) (r .place)
+    whole (accepted es) q h = let z : r .number ≡ 0 = ap (λ (v : LarkResolved). v .number) q ∙ of-zero reads es in absurd (omega arith)
+    whole (refused y) q h =
+        let k : r ≡ refusal (y .number) (y .place) = q ∙ reads .of-refused (y .number) (y .place) in
+        rw k refl
+
+at-most : (a b : ℕ) → (b < a → ⊥) → a ≤ b
+at-most a b f = go (leb a b) refl
+  where
+    go : (z : Bool) → leb a b ≡ z → a ≤ b
+    go true q = leb-true _ _ q
+    go false q = absurd (f (leb-false _ _ q))
+
+-- which holds of each, by its promise alone
+claimed : (comes : ℕ → ℕ → Outcome) (answers : Outcome → LarkResolved) (s : List ℕ) (options : ℕ) (Offends : ℕ → Type 0) (resolve : ℕ → ℕ → Resolution)
+    (groups tried : ℕ) → Reads groups tried answers → ((outs works : ℕ) → comes outs works ≡ outcome (admitted s options works) resolve outs) →
+    ((outs works : ℕ) → ExactlyWritten s options works Offends resolve outs) →
+    Claim s options Offends (resolve (documentCount s) (eventCount s)) groups tried (Writes comes answers)
+    (λ outs works. bytesWritten (comes outs works))
+claimed comes answers s options Offends resolve groups tried reads e x =
+    record {
+      unique = λ out work r₁ r₂ o₁ o₂ w₁ w₂ p q. writes-determined p q;
+      isolated = λ out₁ out₂ work₁ work₂ r₁ r₂ o₁ o₂ w₁ w₂ eo ew p q. writes-isolated eo ew p q;
+      exactly = λ out work r out′ work′ a. told reads (e (length out) (length work)) (x (length out) (length work)) a;
+      refusal-writes-nothing = λ out work r out′ work′ a h. no-refusal-writes reads a h;
+      accepts = λ out work r out′ work′ a z. made-so out work r out′ work′ a z (comes (length out) (length work)) refl;
+      fits = λ out work. room (length out) (length work) (comes (length out) (length work)) refl;
+      wiped = λ out work r out′ work′ a. a .wiped;
+    }
+  where
+    -- where the section did not fit, row 8 would hold
+    room : (outs works : ℕ) (o : Outcome) → comes outs works ≡ o → length (bytesWritten (comes outs works)) ≤ outs
+    room outs works (refused y) c = rw c (omega arith)
+    room outs works (accepted es) c =
+        let g = x outs works .good es (sym (e outs works) ∙ c) in
+        rw (c, length-section es) (at-most (4 + 8 * length es) outs (λ h. g .1 8 0 (row-8 es (g .0) h refl refl)))
+
+    made-so : (out work : List ℕ) (r : LarkResolved) (out′ work′ : List ℕ) → Writes comes answers out work r out′ work′ → r .number ≡ 0 →
+        (o : Outcome) → comes (length out) (length work) ≡ o → Accepts (resolve (documentCount s) (eventCount s)) groups tried out r out′
+    made-so out work r out′ work′ a z (accepted es) c =
+        record {
+          events = es;
+          made-so = x (length out) (length work) .good es (sym (e (length out) (length work)) ∙ c) .0;
+          answer = a .answer ∙ ap answers c ∙ reads .of-accepted es;
+          written = a .output ∙ ap (λ (o : Outcome). onto (bytesWritten o) out) c;
+        }
+    made-so out work r out′ work′ a z (refused y) c =
+        let h = written-number (x (length out) (length work) .refused (y .number) (y .place) (sym (e (length out) (length work)) ∙ c) .holds) in
+        let k : r .number ≡ y .number = ap (λ (v : LarkResolved). v .number) (a .answer ∙ ap answers c ∙ reads .of-refused (y .number) (y .place)) in
+        absurd (omega arith)
+
+pub attention-claim : (s : List ℕ) (options : ℕ) → AttentionClaim s options
+unfolding attentionOutcome
+attention-claim s options =
+    claimed (attentionOutcome s options) (λ (o : Outcome). attentionOf (attentionAnswer s options o)) s options
+    (RunOffends (docOf s) options (allEvents s)) (λ d e. attention options (documentOf s d) (eventsOf s d e)) _ _
+    (record { of-refused = λ n p. refl; of-accepted = λ es. refl })
+    (λ outs works. refl)
+    (λ outs works. attention-exactly-resolved s options works outs)
+
+pub headings-claim : (s : List ℕ) (options : ℕ) → HeadingsClaim s options
+unfolding headingOutcome
+headings-claim s options =
+    claimed (headingOutcome s options) (λ (o : Outcome). headingsOf (headingAnswer o)) s options (HeadingOffends (allEvents s))
+    (λ d e. headings (eventsOf s d e)) 0 0
+    (record { of-refused = λ n p. refl; of-accepted = λ es. refl })
+    (λ outs works. refl)
+    (λ outs works. headings-exactly-resolved s options works outs)
+
+pub lists-claim : (s : List ℕ) (options : ℕ) → ListsClaim s options
+unfolding listOutcome
+lists-claim s options =
+    claimed (listOutcome s options) (λ (o : Outcome). listsOf (listAnswer o)) s options (ItemOffends (docOf s) (allEvents s))
+    (λ d e. lists (documentOf s d) (eventsOf s d e)) 0 0
+    (record { of-refused = λ n p. refl; of-accepted = λ es. refl })
+    (λ outs works. refl)
+    (λ outs works. lists-exactly-resolved s options works outs)
