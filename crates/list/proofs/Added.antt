@@ -14,7 +14,7 @@ use Rattle.record.specs.Outcome.{gives}
 use Rattle.record.specs.Sound.{sound}
 use Rattle.record.specs.declared.event.Event.{Event}
 use Rattle.list.specs.Tree.{Row, none, pair, written, treeOf}
-use Rattle.list.specs.Reading.{tree-written}
+use Rattle.list.proofs.Reading.{tree-written}
 use Rattle.list.specs.Item.{markOf}
 use Rattle.list.specs.Lists.{offenders, joins, listName, listed, settling, lists}
 use Rattle.list.specs.Listing.{Listing, all-kept, keeps, begins, ends}

@@ -1,3 +1,4 @@
+mod Reading
 mod Earliest
 pub mod Added
 pub mod Nesting

@@ -18,7 +18,7 @@ use Rattle.record.specs.declared.event.Event.{Event}
 use Rattle.record.proofs.Bools.{clash}
 use Rattle.record.proofs.Soundness.{stands, sound-rest, sound-enter, sound-exit, after-enter, after-exit}
 use Rattle.list.specs.Tree.{Row, none, pair, written, treeOf}
-use Rattle.list.specs.Reading.{tree-written}
+use Rattle.list.proofs.Reading.{tree-written}
 use Rattle.list.specs.Item.{markOf}
 use Rattle.list.specs.Lists.{between, noItem, neighbour, joins, listName, listed, lists}
 use Rattle.list.proofs.Earliest.{Shaped, with-pair, all-shaped, passed-over}

@@ -19,7 +19,7 @@ use Rattle.record.proofs.Good.{admission}
 use Rattle.record.proofs.Output.{onto-none}
 use Rattle.record.proofs.Sections.{length-eventsAt}
 use Rattle.list.specs.Tree.{Row, written, treeOf}
-use Rattle.list.specs.Reading.{tree-written}
+use Rattle.list.proofs.Reading.{tree-written}
 use Rattle.list.specs.Lists.{offenders, listed, settling, lists}
 use Rattle.list.specs.Walk.{Checked, onward, offendersIn, notes, noted, spliced, added}
 use Rattle.list.specs.Noting.{finding, Noted}

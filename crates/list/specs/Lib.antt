@@ -1,5 +1,4 @@
 pub mod Tree
-pub mod Reading
 pub mod Item
 pub mod Lists
 pub mod Offence

@@ -2,10 +2,13 @@
 -- these rows: of what an item holds, and of the siblings that follow it.
 -- Assumes nothing.
 use Prim.Native.Nat.{ℕ}
+use mathlib.Core.Path.{_≡_}
+use mathlib.Core.Bool.{true}
 use mathlib.Core.List.{List, [], _∷_}
 use lib.Dec.{eqb}
 use Rattle.record.specs.Choice.{choose}
 use Rattle.record.specs.Event.{enter, exit}
+use Rattle.record.specs.Sound.{sound}
 use Rattle.record.specs.declared.event.Event.{Event}
 
 -- a row of siblings: none, or a pair (its name, the places of its enter and its exit, the row that it holds) and the siblings after it
@@ -38,6 +41,13 @@ abbrev pub rowOf : Rest → Row
 rowOf (ends row) = row
 rowOf (leaves row name to rest) = row
 
--- the event tree of a list of events. Of a sound list it is the one row whose events they are: specs/Reading.antt.
+-- the event tree of a list of events
 unfoldable pub treeOf : List Event → Row
 treeOf es = rowOf (restOf es)
+
+-- of a sound list it is the one row whose events they are: proofs/Reading.antt
+abbrev pub TreeWritten : Type 0
+TreeWritten = (deep d : ℕ) (es : List Event) → sound deep d es ≡ true → written (treeOf es) [] ≡ es
+
+abbrev pub TreeUnique : Type 0
+TreeUnique = (row : Row) → treeOf (written row []) ≡ row

@@ -10,7 +10,8 @@ use lib.ListN.{length}
 use Rattle.record.specs.Choice.{and}
 use Rattle.runs.specs.Runs.{isMarker}
 use Rattle.runs.specs.Plain.{Standing, at, sameContainer}
-use Rattle.runs.specs.Chains.{chainNumber, same-chain}
+use Rattle.runs.specs.Chains.{chainNumber}
+use Rattle.runs.proofs.OneChain.{same-chain}
 use Rattle.slots.specs.Layout.{wholeOf, leftOf, markerOf, opensOf, closesOf, chainOf, firstGroupOf, latestGroupOf, linkOf}
 
 -- the slot n holds this run, which is in no group yet and on no chain

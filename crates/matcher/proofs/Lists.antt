@@ -16,7 +16,8 @@ use Rattle.record.specs.Choice.{choose}
 use Rattle.record.proofs.Bools.{and-left, and-right, and-both, clash}
 use Rattle.runs.specs.Runs.{isMarker}
 use Rattle.runs.specs.Plain.{Standing, at, opener, candidate}
-use Rattle.runs.specs.Chains.{chainNumber, same-chain}
+use Rattle.runs.specs.Chains.{chainNumber}
+use Rattle.runs.proofs.OneChain.{same-chain}
 use Rattle.matcher.specs.Chains.{on, latest, openers}
 
 module _ (rs : List Standing) (k j : ℕ) where

@@ -12,7 +12,8 @@ use Rattle.classes.specs.Class.{classOf, standardClass, amended, whitespace, pu
 use Rattle.classes.specs.declared.Class.{Class}
 use Rattle.classes.specs.declared.Class.the-variants.{Other, Whitespace, Punctuation}
 use Rattle.runs.specs.Flanking.{classBeside, besideMarker, flanksLeft, flanksRight, canOpen, canClose}
-use Rattle.runs.specs.Paragraph.{isOther, firstOpen, firstBy, opensBy, opens, closes, open-as-written, close-as-written, never, threes-as-written}
+use Rattle.runs.specs.Paragraph.{isOther, firstOpen, firstBy, opensBy, opens, closes}
+use Rattle.runs.proofs.AsWritten.{open-as-written, close-as-written, never, threes-as-written}
 use Rattle.runs.specs.Rule.{threes}
 
 module _ (strike : Bool) (marker : ℕ) (before after : Class) (byte : ℕ) where

@@ -1,1 +1,3 @@
+pub mod AsWritten
+pub mod OneChain
 pub mod Firsts

@@ -1,15 +1,12 @@
 -- Document 01's "the chains, one per marker and container" as a number: the one that the load pass gives a run and the matcher goes by. With
--- 2,048 events there are 6,147 of them. `same-chain` is their law: two runs have one number just where they have one marker and one container.
+-- 2,048 events there are 6,147 of them.
 -- Assumes nothing.
-use Prim.Native.Nat.{ℕ, _+_, _*_, _<_}
-use mathlib.Core.Path.{_≡_, refl, sym, ap}
-use mathlib.Core.Bool.{Bool, true, false}
+use Prim.Native.Nat.{ℕ, _+_, _*_}
+use mathlib.Core.Path.{_≡_}
+use mathlib.Core.Bool.{true}
 use mathlib.Core.Option.{Option, none, some}
-use native.Mathlib.Omega.{arith}
 use lib.Dec.{eqb}
-use borrow.Author.Tests.{eq-eqb, ne-eqb, eqb-true, eqb-false}
 use Rattle.record.specs.Choice.{choose, and}
-use Rattle.record.proofs.Bools.{clash}
 use Rattle.runs.specs.Runs.{isMarker}
 use Rattle.runs.specs.Plain.{Standing, sameContainer}
 
@@ -26,83 +23,8 @@ markerNumber marker = choose (eqb marker 42) 0 (choose (eqb marker 95) 1 2)
 unfoldable pub chainNumber : Standing → ℕ
 chainNumber r = 3 * containerNumber (r .container) + markerNumber (r .marker)
 
--- a marker is one of three
-data Mark : ℕ → Type 0 where
-  star : Mark 42
-  line : Mark 95
-  tilde : Mark 126
-
-mark : (m : ℕ) → isMarker m ≡ true → Mark m
-unfolding isMarker
-mark m e = go (eqb m 42) (eqb m 95) refl refl
-  where
-    go : (a b : Bool) → eqb m 42 ≡ a → eqb m 95 ≡ b → Mark m
-    go true b p q = rw (eqb-true m 42 p) star
-    go false true p q = rw (eqb-true m 95 q) line
-    go false false p q = rw (eqb-true m 126 (rw (p, q) at e)) tilde
-
-apart : {a b : ℕ} → Mark a → Mark b → markerNumber a ≡ markerNumber b → a ≡ b
-unfolding markerNumber choose
-apart star star e = refl
-apart star line e = absurd (omega arith)
-apart star tilde e = absurd (omega arith)
-apart line star e = absurd (omega arith)
-apart line line e = refl
-apart line tilde e = absurd (omega arith)
-apart tilde star e = absurd (omega arith)
-apart tilde line e = absurd (omega arith)
-apart tilde tilde e = refl
-
-below : {a : ℕ} → Mark a → markerNumber a < 3
-unfolding markerNumber choose
-below star = omega arith
-below line = omega arith
-below tilde = omega arith
-
--- the containers are the same just where their numbers are
-same-number : (a b : Option ℕ) → containerNumber a ≡ containerNumber b → sameContainer a b ≡ true
-unfolding sameContainer
-same-number none none e = refl
-same-number none (some b) e = absurd (omega arith)
-same-number (some a) none e = absurd (omega arith)
-same-number (some a) (some b) e = eq-eqb a b (omega arith)
-
-number-same : (a b : Option ℕ) → sameContainer a b ≡ true → containerNumber a ≡ containerNumber b
-unfolding sameContainer
-number-same none none e = refl
-number-same none (some b) e = absurd (clash refl (sym e))
-number-same (some a) none e = absurd (clash refl (sym e))
-number-same (some a) (some b) e = ap (λ (n : ℕ). n + 1) (eqb-true a b e)
-
--- Two runs are on one chain just where they have one marker and one container.
-module _ (a b : Standing) (ma : isMarker (a .marker) ≡ true) (mb : isMarker (b .marker) ≡ true) where
-  pub one-chain : a .marker ≡ b .marker → sameContainer (a .container) (b .container) ≡ true → chainNumber a ≡ chainNumber b
-  unfolding chainNumber
-  one-chain m c =
-      let k : containerNumber (a .container) ≡ containerNumber (b .container) = number-same (a .container) (b .container) c in
-      cc
-
-  pub one-marker : chainNumber a ≡ chainNumber b → a .marker ≡ b .marker
-  unfolding chainNumber
-  one-marker e =
-      let la : markerNumber (a .marker) < 3 = below (mark (a .marker) ma) in
-      let lb : markerNumber (b .marker) < 3 = below (mark (b .marker) mb) in
-      apart (mark (a .marker) ma) (mark (b .marker) mb) (omega arith)
-
-  pub one-container : chainNumber a ≡ chainNumber b → sameContainer (a .container) (b .container) ≡ true
-  unfolding chainNumber
-  one-container e =
-      let la : markerNumber (a .marker) < 3 = below (mark (a .marker) ma) in
-      let lb : markerNumber (b .marker) < 3 = below (mark (b .marker) mb) in
-      same-number (a .container) (b .container) (omega arith)
-
-  -- the same as one equation of tests
-  pub same-chain : eqb (chainNumber a) (chainNumber b) ≡ and (eqb (a .marker) (b .marker)) (sameContainer (a .container) (b .container))
-  unfolding and
-  same-chain = go (eqb (a .marker) (b .marker)) (sameContainer (a .container) (b .container)) refl refl
-    where
-      go : (x y : Bool) → eqb (a .marker) (b .marker) ≡ x → sameContainer (a .container) (b .container) ≡ y →
-          eqb (chainNumber a) (chainNumber b) ≡ and (eqb (a .marker) (b .marker)) (sameContainer (a .container) (b .container))
-      go true true p q = rw (p, q) (eq-eqb _ _ (one-chain (eqb-true _ _ p) q))
-      go true false p q = rw (p, q) (ne-eqb _ _ (λ e. clash (one-container e) q))
-      go false y p q = rw p (ne-eqb _ _ (λ e. eqb-false _ _ p (one-marker e)))
+-- two runs have one number just where they have one marker and one container: proofs/OneChain.antt
+abbrev pub SameChain : Type 0
+SameChain =
+    (a b : Standing) → isMarker (a .marker) ≡ true → isMarker (b .marker) ≡ true →
+    eqb (chainNumber a) (chainNumber b) ≡ and (eqb (a .marker) (b .marker)) (sameContainer (a .container) (b .container))

@@ -1,20 +1,18 @@
 -- Document 01's own sentences on opening, closing and skipping, and that they say what the standard's rules with the amendments say: opening
--- and closing for every marker, every byte or edge before and after, with option 2 on and off; skipping for all sizes.
+-- and closing for every marker, every byte or edge before and after, with option 2 on and off; skipping for all sizes. proofs/AsWritten.antt
+-- proves the three statements.
 -- Assumes nothing.
 use Prim.Native.Nat.{ℕ, _+_, _%_}
-use mathlib.Core.Path.{_≡_, refl, sym, ap, _∙_}
-use mathlib.Core.Bool.{Bool, true, false, not, _&&_, _||_, true≢false}
-use mathlib.Core.Option.{Option, none, some}
-use native.Mathlib.Omega.{arith}
+use mathlib.Core.Path.{_≡_}
+use mathlib.Core.Bool.{Bool, true, false, not, _&&_, _||_}
+use mathlib.Core.Option.{Option, some}
 use lib.Dec.{eqb, ltb}
 use Rattle.record.specs.Choice.{choose}
 use Rattle.record.specs.Options.{optionOn}
-use borrow.Author.Tests.{eqb-true, eqb-false}
-use Rattle.classes.specs.Class.{classOf, standardClass, amended, whitespace, punctuation}
 use Rattle.classes.specs.declared.Class.{Class}
 use Rattle.classes.specs.declared.Class.the-variants.{Other, Whitespace, Punctuation}
-use Rattle.runs.specs.Flanking.{isWhitespace, isPunctuation, classBeside, besideMarker, leftFlanking, rightFlanking, flanksLeft, flanksRight, canOpen, canClose}
-use Rattle.runs.specs.Rule.{Side, threes, tildes, ruleOver, crateRule}
+use Rattle.runs.specs.Flanking.{isPunctuation, classBeside, besideMarker, canOpen, canClose}
+use Rattle.runs.specs.Rule.{Side, crateRule}
 
 abbrev pub isOther : Class → Bool
 isOther Other = true
@@ -53,80 +51,15 @@ closes strike marker before after =
     let first = firstClose strike marker before after in
     choose (eqb marker 95) (first && (not (isOther (classBeside after)) || not (firstOpen strike marker before after))) first
 
--- the standard's sentence and the paper's are one: "not whitespace, and not punctuation or ..." leaves other, or punctuation
-flanks-first : (before after : Class) (m : Bool) →
-    leftFlanking before after || (true && m) ≡ isOther after || ((isPunctuation after && not (isOther before)) || m)
-unfolding leftFlanking
-flanks-first before Other m = refl
-flanks-first before Whitespace m = refl
-flanks-first Other Punctuation m = refl
-flanks-first Whitespace Punctuation m = refl
-flanks-first Punctuation Punctuation m = refl
-
--- rule 2's "preceded by punctuation" and the paper's "before isn't other" are one where whitespace before means that the run can't close
-preceded : (first close : Bool) (before : Class) → (before ≡ Whitespace → close ≡ false) →
-    first && (not close || (close && isPunctuation before)) ≡ first && (not (isOther before) || not close)
-preceded first true Other h = refl
-preceded first true Whitespace h = absurd (true≢false (h refl))
-preceded first true Punctuation h = refl
-preceded first false Other h = refl
-preceded first false Whitespace h = refl
-preceded first false Punctuation h = refl
-
--- a whitespace byte is no byte that isn't one
-another : (b x : ℕ) → classOf b ≡ Whitespace → isWhitespace (classOf x) ≡ false → eqb b x ≡ false
-another b x h f = go (eqb b x) refl
-  where
-    go : (z : Bool) → eqb b x ≡ z → eqb b x ≡ false
-    go false e = e
-    go true e =
-        let same : b ≡ x = eqb-true b x e in
-        absurd (true≢false (sym (ap isWhitespace h) ∙ ap (λ (y : ℕ). isWhitespace (classOf y)) same ∙ f))
-
-pub never : (m : Bool) → m && false ≡ false
-never true = refl
-never false = refl
-
--- a marker is punctuation, so what is whitespace is no marker
-blank-unmarked : (strike : Bool) (marker : ℕ) (n : Option ℕ) → classBeside n ≡ Whitespace → besideMarker strike marker n ≡ false
-unfolding besideMarker classBeside classOf standardClass amended whitespace punctuation
-blank-unmarked strike marker none h = refl
-blank-unmarked strike marker (some b) h =
-    rw (another b 42 h refl, another b 95 h refl, another b 126 h refl) (never (not (eqb marker 126)))
-
--- where whitespace stands before, the first results say that the run can't close
-pub blank-shut : (strike : Bool) (marker : ℕ) (before after : Option ℕ) → classBeside before ≡ Whitespace → firstClose strike marker before after ≡ false
-unfolding firstOpen
-blank-shut strike marker before after h = rw (h, blank-unmarked strike marker before h)
-
--- left-flanking with the amendment is the paper's first result for opening, and right-flanking its first result for closing
-left-first : (strike : Bool) (marker : ℕ) (before after : Option ℕ) → flanksLeft true strike marker before after ≡ firstOpen strike marker before after
-unfolding flanksLeft firstOpen
-left-first strike marker before after = flanks-first (classBeside before) (classBeside after) (besideMarker strike marker after)
-
-right-first : (strike : Bool) (marker : ℕ) (before after : Option ℕ) → flanksRight true strike marker before after ≡ firstClose strike marker before after
-unfolding flanksRight firstOpen leftFlanking rightFlanking
-right-first strike marker before after = flanks-first (classBeside after) (classBeside before) (besideMarker strike marker before)
-
 -- a run can open by CommonMark's rules with amendment D4 exactly when document 01's paragraph says so
-pub open-as-written : (strike : Bool) (marker : ℕ) (before after : Option ℕ) → canOpen true strike marker before after ≡ opens strike marker before after
-unfolding canOpen opens
-open-as-written strike marker before after =
-    rw (
-      left-first strike marker before after,
-      right-first strike marker before after,
-      preceded (firstOpen strike marker before after) (firstClose strike marker before after) (classBeside before) (blank-shut strike marker before after),
-    )
+abbrev pub OpenAsWritten : Type 0
+OpenAsWritten =
+    (strike : Bool) (marker : ℕ) (before after : Option ℕ) → canOpen true strike marker before after ≡ opens strike marker before after
 
 -- and the same of closing
-pub close-as-written : (strike : Bool) (marker : ℕ) (before after : Option ℕ) → canClose true strike marker before after ≡ closes strike marker before after
-unfolding canClose closes
-close-as-written strike marker before after =
-    rw (
-      left-first strike marker before after,
-      right-first strike marker before after,
-      preceded (firstClose strike marker before after) (firstOpen strike marker before after) (classBeside after) (blank-shut strike marker after before),
-    )
+abbrev pub CloseAsWritten : Type 0
+CloseAsWritten =
+    (strike : Bool) (marker : ℕ) (before after : Option ℕ) → canClose true strike marker before after ≡ closes strike marker before after
 
 -- "skips it if (either can do both jobs, closer's remaining size mod 3 ≠ 0, and the remaining sizes sum to a multiple of 3) or (`~`, and the
 -- sizes differ, exceed 2, or are 1 without option 4)"
@@ -135,37 +68,7 @@ skips single marker opener closer =
     ((opener .both || closer .both) && (not (eqb (closer .left % 3) 0) && eqb ((opener .left + closer .left) % 3) 0))
     || (eqb marker 126 && (not (eqb (opener .left) (closer .left)) || (ltb 2 (closer .left) || (eqb (closer .left) 1 && not single))))
 
--- a sum and one of its parts that are multiples of 3 leave a multiple of 3
-pub threes-as-written : (both : Bool) (opener closer : ℕ) →
-    threes both opener closer ≡ both && (not (eqb (closer % 3) 0) && eqb ((opener + closer) % 3) 0)
-unfolding threes
-threes-as-written both o c =
-    ap (λ (x : Bool). both && x) (go (eqb (o % 3) 0) (eqb (c % 3) 0) (eqb ((o + c) % 3) 0) refl refl refl)
-  where
-    go : (x y z : Bool) → eqb (o % 3) 0 ≡ x → eqb (c % 3) 0 ≡ y → eqb ((o + c) % 3) 0 ≡ z → z && not (x && y) ≡ not y && z
-    go true true true e f g = refl
-    go true true false e f g = refl
-    go true false true e f g = refl
-    go true false false e f g = refl
-    go false true true e f g =
-        let p = eqb-false (o % 3) 0 e in
-        let q = eqb-true (c % 3) 0 f in
-        let r = eqb-true ((o + c) % 3) 0 g in
-        absurd (p (omega arith))
-    go false true false e f g = refl
-    go false false true e f g = refl
-    go false false false e f g = refl
-
-neither : (a b : Bool) → not a && not b ≡ not (a || b)
-neither true b = refl
-neither false b = refl
-
 -- the crate's rule takes exactly the openers that the paper does not skip
-pub taken-as-written : (options marker : ℕ) (opener closer : Side) →
-    crateRule options marker opener closer ≡ not (skips (optionOn options 4) marker opener closer)
-unfolding ruleOver skips tildes
-taken-as-written options marker o c =
-    rw (threes-as-written (o .both || c .both) (o .left) (c .left))
-    (neither
-    ((o .both || c .both) && (not (eqb (c .left % 3) 0) && eqb ((o .left + c .left) % 3) 0))
-    (tildes (optionOn options 4) marker (o .left) (c .left)))
+abbrev pub TakenAsWritten : Type 0
+TakenAsWritten =
+    (options marker : ℕ) (opener closer : Side) → crateRule options marker opener closer ≡ not (skips (optionOn options 4) marker opener closer)

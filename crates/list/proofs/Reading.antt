@@ -1,5 +1,5 @@
--- Why the event tree is the right one. A sound list of events is the events of its tree, and the tree of a row's events is that row: so
--- the tree of a sound list is the one row whose events they are.
+-- Why the event tree is the right one: a sound list of events is the events of its tree, and the tree of a row's events is that row. So the
+-- tree of a sound list is the one row whose events they are.
 -- Assumes nothing.
 use Prim.Native.Nat.{ℕ, zero, suc, _≤_}
 use mathlib.Core.Path.{_≡_, refl, sym, ap, _∙_}
@@ -11,10 +11,10 @@ use borrow.Author.Tests.{eq-eqb, ne-eqb}
 use Rattle.record.specs.Choice.{choose}
 use Rattle.record.specs.Event.{event, enter, exit}
 use Rattle.record.specs.Stack.{none, after}
-use Rattle.record.specs.Sound.{soundFrom, sound}
+use Rattle.record.specs.Sound.{soundFrom}
 use Rattle.record.specs.declared.event.Event.{Event}
 use Rattle.record.proofs.Soundness.{Stands, stands, sound-rest, after-enter, after-exit}
-use Rattle.list.specs.Tree.{Row, pair, written, Rest, ends, leaves, entering, restOf, rowOf, treeOf}
+use Rattle.list.specs.Tree.{Row, pair, written, Rest, ends, leaves, entering, restOf, rowOf, treeOf, TreeWritten, TreeUnique}
 use Rattle.list.specs.Tree as tree
 
 -- the events of a rest, and the names of the pairs that it leaves, the innermost first
@@ -74,7 +74,7 @@ rest-ends (ends row) q = refl
 rest-ends (leaves row name to rest) q = let z : _≡_ {A = ℕ} 0 1 = cc in absurd (omega arith)
 
 -- a sound list is the events of its tree
-pub tree-written : (deep d : ℕ) (es : List Event) → sound deep d es ≡ true → written (treeOf es) [] ≡ es
+pub tree-written : TreeWritten
 unfolding treeOf
 tree-written deep d es q =
     let r = rest-read deep d 0 [] es q in
@@ -97,6 +97,6 @@ read-back (pair n from to inside next) =
     }
 
 -- the tree of a row's events is the row
-pub tree-unique : (row : Row) → treeOf (written row []) ≡ row
+pub tree-unique : TreeUnique
 unfolding treeOf
 tree-unique row = ap rowOf (read-back row .at-end)
