@@ -1,12 +1,11 @@
 -- What the public call promises.
 -- Assumes nothing.
 use Prim.Native.Nat.{ℕ}
-use mathlib.Core.Path.{_≡_}
 use mathlib.Core.List.{List}
 use lib.ListN.{length}
 use Rattle.record.specs.Event.{documentOf, eventsOf}
 use Rattle.record.specs.Check.{admitted}
-use Rattle.record.specs.Outcome.{Outcome, accepted, refused, outcome, onto, bytesWritten}
+use Rattle.record.specs.Outcome.{Outcome, accepted, refused, outcome}
 use Rattle.record.specs.Promise.{Writes}
 use Rattle.list.specs.Lists.{lists}
 use Rattle.list.specs.declared.call.Answer.{Answer}
@@ -20,11 +19,6 @@ outcomeOf s options outs works = outcome (admitted s options works) (λ d e. lis
 abbrev pub answerOf : Outcome → Answer
 answerOf (accepted es) = Resolved (length es)
 answerOf (refused r) = Refused r
-
--- the answer and the output
-pub record Answered (s : List ℕ) (options : ℕ) (out : List ℕ) (works : ℕ) (r : Answer) (out′ : List ℕ) : Type 0 where
-  pub answer : r ≡ answerOf (outcomeOf s options (length out) works)
-  pub output : out′ ≡ onto (bytesWritten (outcomeOf s options (length out) works)) out
 
 -- the whole promise, that of every call that writes: r is answered, and out′ and work′ are what the two buffers then hold
 abbrev pub Promise : List ℕ → ℕ → List ℕ → List ℕ → Answer → List ℕ → List ℕ → Type 0
