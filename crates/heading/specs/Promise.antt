@@ -5,7 +5,7 @@ use mathlib.Core.List.{List}
 use lib.ListN.{length}
 use Rattle.record.specs.Event.{eventsOf}
 use Rattle.record.specs.Check.{admitted}
-use Rattle.record.specs.Promise.{Writes}
+use Rattle.record.specs.Promise.{SectionNumbers, Writes}
 use Rattle.record.specs.Outcome.{Outcome, accepted, refused, outcome}
 use Rattle.heading.specs.Headings.{headings}
 use Rattle.heading.specs.declared.resolve.Answer.{Answer}
@@ -25,11 +25,6 @@ abbrev pub Promise : List ℕ → ℕ → List ℕ → List ℕ → Answer → L
 Promise s options out work r out′ work′ = Writes (resolution s options) answerOf out work r out′ work′
 
 -- document 01's numbers of an answer: "A refusal returns its number and place, all else zero"
-pub record Numbers : Type 0 where
-  pub number : ℕ
-  pub place : ℕ
-  pub events : ℕ
-
-abbrev pub numbersOf : Answer → Numbers
+abbrev pub numbersOf : Answer → SectionNumbers
 numbersOf (Resolved n) = record { number = 0; place = 0; events = n }
 numbersOf (Refused r) = record { number = r .number; place = r .place; events = 0 }

@@ -6,7 +6,7 @@ use lib.ListN.{length}
 use Rattle.record.specs.Event.{documentOf, eventsOf}
 use Rattle.record.specs.Check.{admitted}
 use Rattle.record.specs.Outcome.{Outcome, accepted, refused, outcome}
-use Rattle.record.specs.Promise.{Writes}
+use Rattle.record.specs.Promise.{SectionNumbers, Writes}
 use Rattle.list.specs.Lists.{lists}
 use Rattle.list.specs.declared.call.Answer.{Answer}
 use Rattle.list.specs.declared.call.Answer.the-variants.{Resolved, Refused}
@@ -25,11 +25,6 @@ abbrev pub Promise : List ℕ → ℕ → List ℕ → List ℕ → Answer → L
 Promise s options out work r out′ work′ = Writes (outcomeOf s options) answerOf out work r out′ work′
 
 -- document 01's numbers of an answer: "A refusal returns its number and place, all else zero"
-pub record Numbers : Type 0 where
-  pub number : ℕ
-  pub place : ℕ
-  pub events : ℕ
-
-abbrev pub numbersOf : Answer → Numbers
+abbrev pub numbersOf : Answer → SectionNumbers
 numbersOf (Resolved n) = record { number = 0; place = 0; events = n }
 numbersOf (Refused r) = record { number = r .number; place = r .place; events = 0 }

@@ -22,6 +22,12 @@ abbrev pub numbersOf : Reading → ReadNumbers
 numbersOf (Good d e) = record { number = 0; place = 0; document = d; events = e }
 numbersOf (Refused r) = record { number = r .number; place = r .place; document = 0; events = 0 }
 
+-- and those of an answer that tells of a section only how many events it has
+pub record SectionNumbers : Type 0 where
+  pub number : ℕ
+  pub place : ℕ
+  pub events : ℕ
+
 -- `read` answers r, and work′ is what the work memory then holds: the answer is one of the record, the options and the memory's length alone
 pub record Read (s : List ℕ) (options : ℕ) (work : List ℕ) (r : Reading) (work′ : List ℕ) : Type 0 where
   pub answer : r ≡ admitted s options (length work)
