@@ -15,6 +15,7 @@ use Rattle.record.specs.Event.{documentOf, eventsOf}
 use Rattle.record.specs.Check.{refuse, admitted}
 use Rattle.record.specs.Rows.{documentCount, eventCount}
 use Rattle.record.specs.Outcome.{Resolution, offends, gives, Outcome, accepted, refused, refusing, sized, settled, outcome, onto, bytesWritten}
+use Rattle.record.specs.Promise.{Answered}
 use Rattle.record.specs.declared.event.Event.{Event}
 use Rattle.record.specs.declared.check.Refusal.{Refusal}
 use Rattle.record.specs.declared.check.Reading.{Reading}
@@ -41,7 +42,7 @@ use Rattle.matcher.specs.declared.closers.Found.the-variants.{Groups, TooMany}
 use Rattle.attention.specs.Start.{Cleared}
 use Rattle.attention.specs.Attention.{unlessOffended, attention}
 use Rattle.attention.specs.Result.{Matched, resultOf, Ended}
-use Rattle.attention.specs.Promise.{answerAt, answerOf, resolution, Made, Answered}
+use Rattle.attention.specs.Promise.{answerAt, answerOf, resolution, Made}
 use Rattle.attention.specs.declared.result.Written.{Written}
 use Rattle.attention.specs.declared.result.Written.the-variants.{Events, Long, Short}
 use Rattle.attention.specs.declared.call.Answer.{Answer}
@@ -167,7 +168,8 @@ good-loadable s options works d e w q k =
 
 -- the whole call
 module _ (s : List ℕ) (options works : ℕ) (out : List ℕ) where
-  pub refused-call : (r : Refusal) → admitted s options works ≡ readings.Refused r → Answered s options out works (Refused r) out
+  pub refused-call : (r : Refusal) → admitted s options works ≡ readings.Refused r →
+      Answered (resolution s options (length out) works) (answerOf s options) out (Refused r) out
   unfolding resolution onto
   refused-call r q =
       record {
@@ -175,7 +177,8 @@ module _ (s : List ℕ) (options works : ℕ) (out : List ℕ) where
         output = rw q;
       }
 
-  pub good-call : (d e : ℕ) (r : Answer) (out′ : List ℕ) → admitted s options works ≡ readings.Good d e → Made s d e options out r out′ → Answered s options out works r out′
+  pub good-call : (d e : ℕ) (r : Answer) (out′ : List ℕ) → admitted s options works ≡ readings.Good d e → Made s d e options out r out′ →
+      Answered (resolution s options (length out) works) (answerOf s options) out r out′
   unfolding resolution
   good-call d e r out′ q m =
       let f = admission s options works d e q .good in

@@ -1,15 +1,14 @@
 -- What the public call promises.
 -- Assumes nothing.
 use Prim.Native.Nat.{ℕ}
-use mathlib.Core.Path.{_≡_}
 use mathlib.Core.List.{List}
 use lib.ListN.{length}
 use Rattle.record.specs.Event.{documentOf, eventsOf}
 use Rattle.record.specs.Check.{admitted}
 use Rattle.record.specs.Rows.{documentCount, eventCount}
-use Rattle.record.specs.Outcome.{Outcome, accepted, refused, settled, outcome, onto, bytesWritten}
+use Rattle.record.specs.Outcome.{Outcome, accepted, refused, settled, outcome}
 use Rattle.record.specs.declared.event.Event.{Event}
-use Rattle.record.specs.Promise.{Writes}
+use Rattle.record.specs.Promise.{Answered, Writes}
 use Rattle.runs.specs.Rule.{crate}
 use Rattle.runs.specs.Pieces.{outcome as matching}
 use Rattle.attention.specs.Attention.{attention}
@@ -31,14 +30,9 @@ abbrev pub answerOf : List ℕ → ℕ → Outcome → Answer
 answerOf s options = answerAt options (documentOf s (documentCount s)) (eventsOf s (documentCount s) (eventCount s))
 
 -- the answer and the output, of a good record with the counts d and e
-pub record Made (s : List ℕ) (d e options : ℕ) (out : List ℕ) (r : Answer) (out′ : List ℕ) : Type 0 where
-  pub answer : r ≡ answerAt options (documentOf s d) (eventsOf s d e) (settled d (attention options (documentOf s d) (eventsOf s d e)) (length out))
-  pub output : out′ ≡ onto (bytesWritten (settled d (attention options (documentOf s d) (eventsOf s d e)) (length out))) out
-
--- the same of any record, with work memory of `works` bytes
-pub record Answered (s : List ℕ) (options : ℕ) (out : List ℕ) (works : ℕ) (r : Answer) (out′ : List ℕ) : Type 0 where
-  pub answer : r ≡ answerOf s options (resolution s options (length out) works)
-  pub output : out′ ≡ onto (bytesWritten (resolution s options (length out) works)) out
+abbrev pub Made : List ℕ → ℕ → ℕ → ℕ → List ℕ → Answer → List ℕ → Type 0
+Made s d e options out r out′ =
+    Answered (settled d (attention options (documentOf s d) (eventsOf s d e)) (length out)) (answerAt options (documentOf s d) (eventsOf s d e)) out r out′
 
 -- the whole promise, that of every call that writes: r is answered, and out′ and work′ are what the two buffers then hold
 abbrev pub Promise : List ℕ → ℕ → List ℕ → List ℕ → Answer → List ℕ → List ℕ → Type 0

@@ -16,9 +16,10 @@ use record::limits::OPTION_SINGLE_TILDE;
 ghost use mathlib.Core.Path.{_≡_};
 ghost use lib.ListN.{length};
 ghost use Rattle.record.specs.Event.{documentOf, eventsOf};
+ghost use Rattle.record.specs.Promise.{Answered};
 ghost use Rattle.loading.specs.Promise.{Loadable, Ready};
 ghost use Rattle.attention.specs.Result.{Matched};
-ghost use Rattle.attention.specs.Promise.{Made, Answered, Promise};
+ghost use Rattle.attention.specs.Promise.{resolution, answerOf, Made, Promise};
 
 // What a call answers: how many events the section that it wrote has, how many groups it made and how many candidates it tried; or a refusal.
 pub enum Answer {
@@ -111,7 +112,7 @@ fn resolve_good(s: &[u8], d: usize, e: usize, options: u32, w: &mut [u8], out: &
 
 // The answer and the output; work memory is left in any state.
 fn answer_attention(s: &[u8], options: u32, out: &mut [u8], work: &mut [u8]) -> Answer
-    ensures { λ r. ⌜ Answered (now (s .entry)) options (now (out .entry)) (length (now (work .entry))) r (now (out .exit)) ⌝ }
+    ensures { λ r. ⌜ Answered (resolution (now (s .entry)) options (length (now (out .entry))) (length (now (work .entry)))) (answerOf (now (s .entry)) options) (now (out .entry)) r (now (out .exit)) ⌝ }
 {
     match admit(s, options, work.len()) {
         Reading::Refused(refusal) => {

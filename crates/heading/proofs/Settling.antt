@@ -13,13 +13,14 @@ use Rattle.record.specs.Bytes.{Wrote, u32Bytes}
 use Rattle.record.specs.Event.{flat, eventsAt, eventsOf}
 use Rattle.record.specs.Check.{admitted}
 use Rattle.record.specs.Outcome.{Resolution, offends, gives, sized, settled}
+use Rattle.record.specs.Promise.{Answered}
 use Rattle.record.specs.declared.event.Event.{Event}
 use Rattle.record.specs.declared.check.Refusal.{Refusal}
 use Rattle.record.specs.declared.check.Reading.the-variants.{Good, Refused}
 use Rattle.record.proofs.Sections.{length-eventsAt, section}
 use Rattle.record.proofs.Output.{onto-none}
 use Rattle.heading.specs.Headings.{resolvedFrom, offending, earliest, headings}
-use Rattle.heading.specs.Promise.{resolution, Wrought}
+use Rattle.heading.specs.Promise.{answerOf, resolution}
 use Rattle.heading.specs.Steps.{judgedOf}
 use Rattle.heading.specs.declared.judge.Judged.the-variants.{Offends, Sized}
 use Rattle.heading.specs.declared.resolve.Answer.{Answer}
@@ -74,12 +75,12 @@ module _ (s : List ℕ) (d e : ℕ) (out : List ℕ) where
   offender-below k q = omega (arith, offends-is (eventsAt e s (8 + d)) k q .1, length-eventsAt e s (8 + d))
 
   pub shape-broken : (k : ℕ) → Offends k ≡ judgedOf (headings (eventsAt e s (8 + d))) →
-      Wrought (settled d (headings (eventsOf s d e)) (length out)) out (answers.Refused (record { number = 6; place = 8 + d + 8 * k })) out
+      Answered (settled d (headings (eventsOf s d e)) (length out)) answerOf out (answers.Refused (record { number = 6; place = 8 + d + 8 * k })) out
   unfolding eventsOf
   shape-broken k q = rw (offends-is (eventsAt e s (8 + d)) k q .0) (record { answer = refl; output = sym (onto-none out) })
 
   module _ (n : ℕ) (q : Sized n ≡ judgedOf (headings (eventsAt e s (8 + d)))) where
-    pub too-many : 8000 < n → Wrought (settled d (headings (eventsOf s d e)) (length out)) out (answers.Refused (record { number = 7; place = 0 })) out
+    pub too-many : 8000 < n → Answered (settled d (headings (eventsOf s d e)) (length out)) answerOf out (answers.Refused (record { number = 7; place = 0 })) out
     unfolding eventsOf sized choose
     too-many h =
         let f = sized-is (eventsAt e s (8 + d)) n q in
@@ -87,7 +88,7 @@ module _ (s : List ℕ) (d e : ℕ) (out : List ℕ) where
         rw (f .0, lt-ltb 8000 (length (resolvedFrom 0 (eventsAt e s (8 + d)))) l) (record { answer = refl; output = sym (onto-none out) })
 
     pub too-short : n ≤ 8000 → length out < 4 + 8 * n →
-        Wrought (settled d (headings (eventsOf s d e)) (length out)) out (answers.Refused (record { number = 8; place = 0 })) out
+        Answered (settled d (headings (eventsOf s d e)) (length out)) answerOf out (answers.Refused (record { number = 8; place = 0 })) out
     unfolding eventsOf sized choose
     too-short h o =
         let f = sized-is (eventsAt e s (8 + d)) n q in
@@ -103,7 +104,7 @@ module _ (s : List ℕ) (d e : ℕ) (out : List ℕ) where
     size-is = sized-is (eventsAt e s (8 + d)) n q .1
 
     pub resolved : {d₁ d₂ : List ℕ} → n ≤ 8000 → 4 + 8 * n ≤ length out → Wrote out 0 (u32Bytes n) d₁ → Wrote d₁ 4 (flat (resolvedFrom 0 (eventsAt e s (8 + d)))) d₂ →
-        Wrought (settled d (headings (eventsOf s d e)) (length out)) out (answers.Resolved n) d₂
+        Answered (settled d (headings (eventsOf s d e)) (length out)) answerOf out (answers.Resolved n) d₂
     unfolding eventsOf sized choose
     resolved h o w v =
         let f = sized-is (eventsAt e s (8 + d)) n q in
@@ -114,11 +115,11 @@ module _ (s : List ℕ) (d e : ℕ) (out : List ℕ) where
 
 -- the check's two ways on
 pub not-admitted : (s : List ℕ) (options works : ℕ) (out : List ℕ) (r : Refusal) → Refused r ≡ admitted s options works →
-    Wrought (resolution s options (length out) works) out (answers.Refused r) out
+    Answered (resolution s options (length out) works) answerOf out (answers.Refused r) out
 unfolding resolution
 not-admitted s options works out r q = rw (← q) (record { answer = refl; output = sym (onto-none out) })
 
 pub good-record : (s : List ℕ) (options works d e : ℕ) (out : List ℕ) {r : Answer} {out′ : List ℕ} → Good d e ≡ admitted s options works →
-    Wrought (settled d (headings (eventsOf s d e)) (length out)) out r out′ → Wrought (resolution s options (length out) works) out r out′
+    Answered (settled d (headings (eventsOf s d e)) (length out)) answerOf out r out′ → Answered (resolution s options (length out) works) answerOf out r out′
 unfolding resolution
 good-record s options works d e out q w = rw (← q) w

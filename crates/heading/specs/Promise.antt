@@ -1,13 +1,12 @@
 -- What the public call promises.
 -- Assumes nothing.
 use Prim.Native.Nat.{ℕ}
-use mathlib.Core.Path.{_≡_}
 use mathlib.Core.List.{List}
 use lib.ListN.{length}
 use Rattle.record.specs.Event.{eventsOf}
 use Rattle.record.specs.Check.{admitted}
-use Rattle.record.specs.Promise.{Writes}
-use Rattle.record.specs.Outcome.{Outcome, accepted, refused, outcome, onto, bytesWritten}
+use Rattle.record.specs.Promise.{SectionNumbers, Writes}
+use Rattle.record.specs.Outcome.{Outcome, accepted, refused, outcome}
 use Rattle.heading.specs.Headings.{headings}
 use Rattle.heading.specs.declared.resolve.Answer.{Answer}
 use Rattle.heading.specs.declared.resolve.Answer.the-variants.{Resolved, Refused}
@@ -21,21 +20,11 @@ answerOf (refused r) = Refused r
 unfoldable pub resolution : List ℕ → ℕ → ℕ → ℕ → Outcome
 resolution s options outs works = outcome (admitted s options works) (λ d e. headings (eventsOf s d e)) outs
 
--- the answer, and what the output then holds
-pub record Wrought (o : Outcome) (out : List ℕ) (r : Answer) (out′ : List ℕ) : Type 0 where
-  pub answer : r ≡ answerOf o
-  pub output : out′ ≡ onto (bytesWritten o) out
-
 -- the whole promise, that of every call that writes: r is answered, and out′ and work′ are what the two buffers hold then
 abbrev pub Promise : List ℕ → ℕ → List ℕ → List ℕ → Answer → List ℕ → List ℕ → Type 0
 Promise s options out work r out′ work′ = Writes (resolution s options) answerOf out work r out′ work′
 
 -- document 01's numbers of an answer: "A refusal returns its number and place, all else zero"
-pub record Numbers : Type 0 where
-  pub number : ℕ
-  pub place : ℕ
-  pub events : ℕ
-
-abbrev pub numbersOf : Answer → Numbers
+abbrev pub numbersOf : Answer → SectionNumbers
 numbersOf (Resolved n) = record { number = 0; place = 0; events = n }
 numbersOf (Refused r) = record { number = r .number; place = r .place; events = 0 }

@@ -14,8 +14,9 @@ ghost use Prim.Native.Nat.{_+_, _*_, _≤_};
 ghost use lib.ListN.{length};
 ghost use Rattle.record.specs.Event.{eventsOf};
 ghost use Rattle.record.specs.Outcome.{settled};
+ghost use Rattle.record.specs.Promise.{Answered};
 ghost use Rattle.heading.specs.Headings.{headings};
-ghost use Rattle.heading.specs.Promise.{resolution, Wrought, Promise};
+ghost use Rattle.heading.specs.Promise.{answerOf, resolution, Promise};
 
 // How many events the section that is written has, or the refusal.
 pub enum Answer {
@@ -26,7 +27,7 @@ pub enum Answer {
 // Numbers 6 to 8, or the section: of a good record with these two counts.
 pub fn settle(s: &[u8], d: usize, e: usize, out: &mut [u8]) -> Answer
     requires { ⌜ (d ≤ 16384) × (e ≤ 2048) × (length (now s) ≡ 8 + d + 8 * e) ⌝ }
-    ensures { λ r. ⌜ Wrought (settled d (headings (eventsOf (now (s .entry)) d e)) (length (now (out .entry)))) (now (out .entry)) r (now (out .exit)) ⌝ }
+    ensures { λ r. ⌜ Answered (settled d (headings (eventsOf (now (s .entry)) d e)) (length (now (out .entry)))) answerOf (now (out .entry)) r (now (out .exit)) ⌝ }
 {
     let from = 8 + d;
     match judge(s, from, e) {
@@ -58,7 +59,7 @@ pub fn settle(s: &[u8], d: usize, e: usize, out: &mut [u8]) -> Answer
 
 // The answer and the output; of the work memory only the length matters.
 pub fn answer_for(s: &[u8], options: u32, out: &mut [u8], works: usize) -> Answer
-    ensures { λ r. ⌜ Wrought (resolution (now (s .entry)) options (length (now (out .entry))) works) (now (out .entry)) r (now (out .exit)) ⌝ }
+    ensures { λ r. ⌜ Answered (resolution (now (s .entry)) options (length (now (out .entry))) works) answerOf (now (out .entry)) r (now (out .exit)) ⌝ }
 {
     match admit(s, options, works) {
         Reading::Refused(refusal) => {

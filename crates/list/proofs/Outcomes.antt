@@ -12,6 +12,7 @@ use Rattle.record.specs.Choice.{choose}
 use Rattle.record.specs.Event.{documentOf, eventsOf, sectionBytes, enter, exit}
 use Rattle.record.specs.Check.{admitted}
 use Rattle.record.specs.Outcome.{offends, gives, sized, onto}
+use Rattle.record.specs.Promise.{Answered}
 use Rattle.record.specs.declared.event.Event.{Event}
 use Rattle.record.specs.declared.check.Refusal.{Refusal}
 use Rattle.record.specs.declared.check.Reading.the-variants as reading
@@ -23,7 +24,7 @@ use Rattle.list.proofs.Reading.{tree-written}
 use Rattle.list.specs.Lists.{offenders, listed, settling, lists}
 use Rattle.list.specs.Walk.{Checked, onward, offendersIn, notes, noted, spliced, added}
 use Rattle.list.specs.Noting.{finding, Noted}
-use Rattle.list.specs.Promise.{outcomeOf, Answered}
+use Rattle.list.specs.Promise.{outcomeOf, answerOf}
 use Rattle.list.specs.declared.chain.Findings.{Findings}
 use Rattle.list.specs.declared.chain.Findings.the-variants.{Added, Offends}
 use Rattle.list.specs.declared.call.Answer.{Answer}
@@ -158,21 +159,24 @@ module _ (s : List ℕ) (options works d e : ℕ) (g : reading.Good d e ≡ admi
 
 -- the answer and the output, case by case
 module _ (s : List ℕ) (options works : ℕ) (out : List ℕ) where
-  pub refused-by-check : (r : Refusal) → reading.Refused r ≡ admitted s options works → Answered s options out works (Refused r) out
+  pub refused-by-check : (r : Refusal) → reading.Refused r ≡ admitted s options works →
+      Answered (outcomeOf s options (length out) works) answerOf out (Refused r) out
   unfolding outcomeOf
   refused-by-check r q = record { answer = rw (← q); output = rw (← q) (sym (onto-none out)) }
 
   module _ (d e : ℕ) (g : reading.Good d e ≡ admitted s options works) where
     pub shape-broken : (k : ℕ) → lists (documentOf s d) (eventsOf s d e) ≡ offends k → (r : Answer) →
-        r ≡ Refused (record { number = 6; place = 8 + d + 8 * k }) → Answered s options out works r out
+        r ≡ Refused (record { number = 6; place = 8 + d + 8 * k }) → Answered (outcomeOf s options (length out) works) answerOf out r out
     unfolding outcomeOf
     shape-broken k q r er = record { answer = rw (← g, q) er; output = rw (← g, q) (sym (onto-none out)) }
 
     module _ (es : List Event) (q : lists (documentOf s d) (eventsOf s d e) ≡ gives es) (count : ℕ) (n : length es ≡ count) (few : count ≤ 8000) where
-      pub output-short : length out < 4 + 8 * count → (r : Answer) → r ≡ Refused (record { number = 8; place = 0 }) → Answered s options out works r out
+      pub output-short : length out < 4 + 8 * count → (r : Answer) → r ≡ Refused (record { number = 8; place = 0 }) →
+          Answered (outcomeOf s options (length out) works) answerOf out r out
       unfolding outcomeOf sized choose
       output-short h r er = record { answer = rw (← g, q, n, le-ltb _ _ few, lt-ltb _ _ h) er; output = rw (← g, q, n, le-ltb _ _ few, lt-ltb _ _ h) (sym (onto-none out)) }
 
-      pub resolved : 4 + 8 * count ≤ length out → (out′ : List ℕ) → out′ ≡ onto (sectionBytes es) out → Answered s options out works (Resolved count) out′
+      pub resolved : 4 + 8 * count ≤ length out → (out′ : List ℕ) → out′ ≡ onto (sectionBytes es) out →
+          Answered (outcomeOf s options (length out) works) answerOf out (Resolved count) out′
       unfolding outcomeOf sized choose
       resolved h out′ w = record { answer = rw (← g, q, n, le-ltb _ _ few, le-ltb _ _ h) (ap Resolved (sym n)); output = rw (← g, q, n, le-ltb _ _ few, le-ltb _ _ h) w }

@@ -1,13 +1,12 @@
 -- What the public call promises.
 -- Assumes nothing.
 use Prim.Native.Nat.{ℕ}
-use mathlib.Core.Path.{_≡_}
 use mathlib.Core.List.{List}
 use lib.ListN.{length}
 use Rattle.record.specs.Event.{documentOf, eventsOf}
 use Rattle.record.specs.Check.{admitted}
-use Rattle.record.specs.Outcome.{Outcome, accepted, refused, outcome, onto, bytesWritten}
-use Rattle.record.specs.Promise.{Writes}
+use Rattle.record.specs.Outcome.{Outcome, accepted, refused, outcome}
+use Rattle.record.specs.Promise.{SectionNumbers, Writes}
 use Rattle.list.specs.Lists.{lists}
 use Rattle.list.specs.declared.call.Answer.{Answer}
 use Rattle.list.specs.declared.call.Answer.the-variants.{Resolved, Refused}
@@ -21,21 +20,11 @@ abbrev pub answerOf : Outcome → Answer
 answerOf (accepted es) = Resolved (length es)
 answerOf (refused r) = Refused r
 
--- the answer and the output
-pub record Answered (s : List ℕ) (options : ℕ) (out : List ℕ) (works : ℕ) (r : Answer) (out′ : List ℕ) : Type 0 where
-  pub answer : r ≡ answerOf (outcomeOf s options (length out) works)
-  pub output : out′ ≡ onto (bytesWritten (outcomeOf s options (length out) works)) out
-
 -- the whole promise, that of every call that writes: r is answered, and out′ and work′ are what the two buffers then hold
 abbrev pub Promise : List ℕ → ℕ → List ℕ → List ℕ → Answer → List ℕ → List ℕ → Type 0
 Promise s options out work r out′ work′ = Writes (outcomeOf s options) answerOf out work r out′ work′
 
 -- document 01's numbers of an answer: "A refusal returns its number and place, all else zero"
-pub record Numbers : Type 0 where
-  pub number : ℕ
-  pub place : ℕ
-  pub events : ℕ
-
-abbrev pub numbersOf : Answer → Numbers
+abbrev pub numbersOf : Answer → SectionNumbers
 numbersOf (Resolved n) = record { number = 0; place = 0; events = n }
 numbersOf (Refused r) = record { number = r .number; place = r .place; events = 0 }

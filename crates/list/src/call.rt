@@ -9,7 +9,8 @@ use record::check::Refusal;
 use record::check::admit;
 ghost use mathlib.Core.Path.{_≡_};
 ghost use lib.ListN.{length};
-ghost use Rattle.list.specs.Promise.{Answered, Promise};
+ghost use Rattle.record.specs.Promise.{Answered};
+ghost use Rattle.list.specs.Promise.{outcomeOf, answerOf, Promise};
 
 // What a call answers: how many events the section that it wrote has, or a refusal.
 pub enum Answer {
@@ -27,7 +28,7 @@ pub fn refused(number: usize, place: usize) -> Answer
 // The answer and the output; work memory is left in any state. The result has at most two events for each of the record's, so that number 7
 // is never given.
 fn answer_lists(s: &[u8], options: u32, out: &mut [u8], work: &mut [u8]) -> Answer
-    ensures { λ r. ⌜ Answered (now (s .entry)) options (now (out .entry)) (length (now (work .entry))) r (now (out .exit)) ⌝ }
+    ensures { λ r. ⌜ Answered (outcomeOf (now (s .entry)) options (length (now (out .entry))) (length (now (work .entry)))) answerOf (now (out .entry)) r (now (out .exit)) ⌝ }
 {
     match admit(s, options, work.len()) {
         Reading::Refused(r) => {

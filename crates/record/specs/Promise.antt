@@ -22,10 +22,22 @@ abbrev pub numbersOf : Reading → ReadNumbers
 numbersOf (Good d e) = record { number = 0; place = 0; document = d; events = e }
 numbersOf (Refused r) = record { number = r .number; place = r .place; document = 0; events = 0 }
 
+-- and those of an answer that tells of a section only how many events it has
+pub record SectionNumbers : Type 0 where
+  pub number : ℕ
+  pub place : ℕ
+  pub events : ℕ
+
 -- `read` answers r, and work′ is what the work memory then holds: the answer is one of the record, the options and the memory's length alone
 pub record Read (s : List ℕ) (options : ℕ) (work : List ℕ) (r : Reading) (work′ : List ℕ) : Type 0 where
   pub answer : r ≡ admitted s options (length work)
   pub wiped : work′ ≡ replicate (length work) 0
+
+-- a call's answer and output, where it comes to o: r is answered, which is `answers` of o, and out′ is what its output then holds. The inner
+-- promise of a call that writes: nothing is said of the work memory
+pub record Answered {A : Type 0} (o : Outcome) (answers : Outcome → A) (out : List ℕ) (r : A) (out′ : List ℕ) : Type 0 where
+  pub answer : r ≡ answers o
+  pub output : out′ ≡ onto (bytesWritten o) out
 
 -- a call that writes answers r, and out′ and work′ are what its output and work memory then hold. What it comes to is a definition of the two
 -- lengths, `comes` (the record, the options and other arguments are in it), and `answers` is its answer type's reading of that

@@ -1,11 +1,6 @@
 -- `attention::call::resolve_attention` meets its contract: each return is a case of the definition.
 -- Assumes nothing.
-use Prim.Native.Nat.{ℕ}
-use mathlib.Core.Path.{_≡_}
-use mathlib.Core.List.{List}
-use lib.ListN.{length, replicate}
-use Rattle.attention.specs.Promise.{Answered, Promise}
-use Rattle.attention.specs.declared.call.Answer.{Answer}
+use Rattle.record.proofs.Output.{then-wiped}
 use borrow.Author.Needs.{needs}
 use Rattle.attention.proofs.call.resolve_attention.Statement.{statement}
 use Rattle.attention.proofs.call.resolve_attention.Tie as tie
@@ -13,10 +8,6 @@ use Rattle.attention.proofs.call.resolve_attention.Reads as reads
 use Rattle.attention.proofs.call.resolve_attention.Lts as lts
 use Rattle.attention.proofs.call.answer_attention.Reads as answer-attention-reads
 use Rattle.record.proofs.bytes.wipe.Reads as wipe-reads
-
-then-wiped : {s : List ℕ} {options : ℕ} {out work : List ℕ} {r : Answer} {out′ work′ : List ℕ} →
-    Answered s options out (length work) r out′ → work′ ≡ replicate (length work) 0 → Promise s options out work r out′ work′
-then-wiped a w = record { answer = a .answer; output = a .output; wiped = w }
 
 answer-attention-requires : tie.Need-answer-attention-requires
 answer-attention-requires c κs = search needs

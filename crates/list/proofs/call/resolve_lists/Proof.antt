@@ -1,22 +1,13 @@
 -- `list::call::resolve_lists` meets its contract: the inner call's answer and output, and the wiping.
 -- Assumes nothing.
-use Prim.Native.Nat.{ℕ}
-use mathlib.Core.Path.{_≡_}
-use mathlib.Core.List.{List}
-use lib.ListN.{length, replicate}
+use Rattle.record.proofs.Output.{then-wiped}
 use borrow.Author.Needs.{needs}
-use Rattle.list.specs.Promise.{Answered, Promise}
-use Rattle.list.specs.declared.call.Answer.{Answer}
 use Rattle.list.proofs.call.resolve_lists.Statement.{statement}
 use Rattle.list.proofs.call.resolve_lists.Tie as tie
 use Rattle.list.proofs.call.resolve_lists.Reads as reads
 use Rattle.list.proofs.call.resolve_lists.Lts as lts
 use Rattle.list.proofs.call.answer_lists.Reads as answer-lists-reads
 use Rattle.record.proofs.bytes.wipe.Reads as wipe-reads
-
-then-wiped : {s : List ℕ} {options : ℕ} {out work : List ℕ} {r : Answer} {out′ work′ : List ℕ} →
-    Answered s options out (length work) r out′ → work′ ≡ replicate (length work) 0 → Promise s options out work r out′ work′
-then-wiped a w = record { answer = a .answer; output = a .output; wiped = w }
 
 answer-lists-requires : tie.Need-answer-lists-requires
 answer-lists-requires c κs = search needs
