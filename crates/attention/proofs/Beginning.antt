@@ -1,9 +1,9 @@
 -- From the load pass to the matcher: with the runs in their slots and every chain empty, the matcher can begin.
 -- Assumes nothing.
 use mathlib.Core.Path.{_≡_, sym, ap, _∙_}
-use mathlib.Core.Bool.{Bool, true, false, not}
+use mathlib.Core.Bool.{not}
 use mathlib.Core.List.{List}
-use Prim.Native.Nat.{ℕ, _+_, _*_, _≤_, _<_}
+use Prim.Native.Nat.{ℕ, _+_, _*_, _<_}
 use native.Mathlib.Omega.{arith}
 use lib.Dec.{eqb}
 use lib.ListN.{length, getD, length-map}
@@ -17,7 +17,6 @@ use Rattle.slots.specs.Layout.{Room, linkOf, chainOf}
 use Rattle.groups.specs.Matches.{begin}
 use Rattle.loading.specs.Held.{Slotted}
 use Rattle.loading.specs.Promise.{Ready as Loaded}
-use Rattle.matcher.specs.Chains.{Reads}
 use Rattle.matcher.specs.State.{Fresh}
 use Rattle.attention.specs.Start.{Cleared}
 

@@ -1,28 +1,26 @@
 -- From the matcher's words to the writer's: the groups that the memory holds are the plain rule's, and they are kept so that a writer finds
 -- them; the slots keep the record's runs.
 -- Assumes nothing.
-use mathlib.Core.Path.{_≡_, refl, sym, ap, _∙_, subst}
+use mathlib.Core.Path.{_≡_, refl, sym, ap, _∙_}
 use mathlib.Core.Bool.{Bool, true, false}
-use mathlib.Core.List.{List, [], _∷_, _++_, map}
+use mathlib.Core.List.{List, [], _∷_, _++_}
 use Prim.Native.Nat.{ℕ, zero, suc, _+_, _-_, _≤_, _<_}
 use native.Mathlib.Omega.{arith}
 use lib.Dec.{leb, eqb}
-use lib.ListN.{length, getD, take, drop, length-map}
+use lib.ListN.{length, getD, take, drop}
 use lib.Seq.{drop-cons, drop-length, take-suc, take-length, length-take-le}
 use borrow.Author.Tests.{leb-true, leb-false}
 use Rattle.record.specs.Choice.{choose}
 use Rattle.record.specs.declared.event.Event.{Event}
-use Rattle.runs.specs.Runs.{Run, runsOf}
+use Rattle.runs.specs.Runs.{runsOf}
 use Rattle.runs.specs.Rule.{crate}
 use Rattle.runs.specs.Plain.{Standing, at, Group, group, groupAt as nthGroup}
 use Rattle.runs.specs.Pieces.{standing, outcome, closed, opened}
 use Rattle.runs.specs.Output.{noRun}
-use Rattle.slots.specs.Layout.{Room, wholeOf, leftOf, markerOf, firstGroupOf, latestGroupOf, groupOpener, groupCloser, groupTaken, groupEarlier}
-use Rattle.groups.specs.Matches.{begin}
+use Rattle.slots.specs.Layout.{Room, wholeOf, leftOf, groupOpener, groupCloser, groupTaken}
 use Rattle.groups.proofs.Matches.{at-begin}
 use Rattle.groups.proofs.Accounts.{outcome-account}
 use Rattle.groups.proofs.Theorems.{closers-in-order}
-use Rattle.matcher.specs.Chains.{Reads}
 use Rattle.matcher.specs.Groups.{firstClosed, lastOpened, Grouped}
 use Rattle.matcher.specs.Promise.{GroupsOf}
 use Rattle.writing.specs.Kept.{groupAt, groupsFrom, groupsIn, firstClosing, latestOpening, Kept, Slotted}

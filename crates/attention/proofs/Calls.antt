@@ -2,49 +2,43 @@
 -- Assumes nothing.
 use mathlib.Core.Path.{_≡_, refl, sym, ap, _∙_}
 use mathlib.Core.Bool.{Bool}
-use mathlib.Core.List.{List, []}
-use mathlib.Core.Option.{Option, none, some}
-use Prim.Native.Nat.{ℕ, _+_, _*_, _≤_, _<_}
+use mathlib.Core.List.{List}
+use mathlib.Core.Option.{none, some}
+use Prim.Native.Nat.{ℕ, _+_, _*_, _<_}
 use native.Mathlib.Omega.{arith}
 use lib.ListN.{length}
-use borrow.Author.Tests.{lt-ltb}
-use Rattle.record.specs.Choice.{choose}
 use Rattle.record.specs.Options.{optionOn}
 use Rattle.record.specs.Bytes.{u32At}
 use Rattle.record.specs.Event.{documentOf, eventsOf}
-use Rattle.record.specs.Check.{refuse, admitted}
-use Rattle.record.specs.Rows.{documentCount, eventCount}
-use Rattle.record.specs.Outcome.{Resolution, offends, gives, Outcome, accepted, refused, refusing, sized, settled, outcome, onto, bytesWritten}
+use Rattle.record.specs.Check.{admitted}
+use Rattle.record.specs.Outcome.{offends, Outcome, refusing, settled, onto, bytesWritten}
 use Rattle.record.specs.Promise.{Answered}
-use Rattle.record.specs.declared.event.Event.{Event}
 use Rattle.record.specs.declared.check.Refusal.{Refusal}
-use Rattle.record.specs.declared.check.Reading.{Reading}
 use Rattle.record.specs.declared.check.Reading.the-variants as readings
 use Rattle.record.proofs.Good.{admission}
 use Rattle.record.proofs.Parts.{length-document}
 use Rattle.record.proofs.Sections.{length-eventsAt}
-use Rattle.runs.specs.Runs.{offender, runsOf}
+use Rattle.runs.specs.Runs.{offender}
 use Rattle.runs.specs.Rule.{Rule, ruleFor, crate}
 use Rattle.runs.specs.Plain.{Standing, plain}
 use Rattle.groups.specs.Matches.{begin}
 use Rattle.runs.specs.Pieces.{outcome as matching}
 use Rattle.runs.specs.Output.{output}
-use Rattle.slots.specs.Layout.{Room}
 use Rattle.output.specs.Accepted.{Accepted}
 use Rattle.output.proofs.ResultSize.{size-of-output, many-groups-too-long}
 use Rattle.loading.specs.Promise.{Loadable, Ready, Loads}
 use Rattle.loading.proofs.Asked.{loadable}
 use Rattle.loading.specs.declared.pass.Loaded.{Loaded}
-use Rattle.loading.specs.declared.pass.Loaded.the-variants.{Runs, Offends}
+use Rattle.loading.specs.declared.pass.Loaded.the-variants.{Offends}
 use Rattle.matcher.specs.Promise.{GroupsOf, Answers, Answered as Matching, Loaded as Begun}
 use Rattle.matcher.specs.declared.closers.Found.{Found}
 use Rattle.matcher.specs.declared.closers.Found.the-variants.{Groups, TooMany}
 use Rattle.attention.specs.Start.{Cleared}
-use Rattle.attention.specs.Attention.{unlessOffended, attention}
+use Rattle.attention.specs.Attention.{attention}
 use Rattle.attention.specs.Result.{Matched, resultOf, Ended}
 use Rattle.attention.specs.Promise.{answerAt, answerOf, resolution, Made}
 use Rattle.attention.specs.declared.result.Written.{Written}
-use Rattle.attention.specs.declared.result.Written.the-variants.{Events, Long, Short}
+use Rattle.attention.specs.declared.result.Written.the-variants.{Events}
 use Rattle.attention.specs.declared.call.Answer.{Answer}
 use Rattle.attention.specs.declared.call.Answer.the-variants.{Resolved, Refused}
 use Rattle.attention.proofs.Beginning.{begins}

@@ -1,25 +1,23 @@
 -- The end of a call, case by case: too many events, too short an output, or the section written.
 -- Assumes nothing.
-use mathlib.Core.Path.{_≡_, refl, sym, ap, _∙_}
-use mathlib.Core.List.{List, []}
+use mathlib.Core.Path.{_≡_, sym, ap, _∙_}
+use mathlib.Core.List.{List}
 use Prim.Native.Nat.{ℕ, _+_, _*_, _-_, _≤_, _<_}
 use native.Mathlib.Omega.{arith}
 use lib.ListN.{length}
 use borrow.Author.Tests.{lt-ltb, le-ltb}
 use Rattle.record.specs.Choice.{choose}
 use Rattle.record.specs.Bytes.{Wrote, u32Bytes}
-use Rattle.record.specs.Event.{documentOf, eventsOf, flat, sectionBytes}
+use Rattle.record.specs.Event.{documentOf, eventsOf, flat}
 use Rattle.record.specs.Outcome.{Outcome, accepted, refusing, sized, onto, bytesWritten}
 use Rattle.record.specs.declared.event.Event.{Event}
 use Rattle.record.proofs.Sections.{section}
 use Rattle.runs.specs.Rule.{crate}
 use Rattle.runs.specs.Plain.{Group}
 use Rattle.runs.specs.Runs.{runsOf}
-use Rattle.runs.specs.Pieces.{outcome}
 use Rattle.runs.specs.Output.{output, replaced}
-use Rattle.writing.specs.Kept.{Kept, Slotted, groupsIn, runsIn, writtenOf}
+use Rattle.writing.specs.Kept.{Kept, Slotted, runsIn, writtenOf}
 use Rattle.attention.specs.Result.{emptiedFrom, Matched, resultOf, Ended}
-use Rattle.attention.specs.declared.result.Written.{Written}
 use Rattle.attention.specs.declared.result.Written.the-variants.{Events, Long, Short}
 use Rattle.attention.proofs.Bridging.{kept, slotted, kept-groups}
 use Rattle.attention.proofs.Sizes.{size-same}

@@ -1,6 +1,6 @@
 -- The table's "given exactly when" for the resolver of attention: rows 1 to 8, row 6 by document 01's shape rule.
 -- Assumes nothing.
-use mathlib.Core.Path.{_≡_, refl, sym, _∙_}
+use mathlib.Core.Path.{_≡_, refl}
 use mathlib.Core.Bool.{Bool, true, false}
 use mathlib.Core.List.{List}
 use mathlib.Core.Option.{Option, none, some}
@@ -10,7 +10,7 @@ use lib.Dec.{leb}
 use borrow.Author.Tests.{leb-true, leb-false}
 use Rattle.record.specs.Event.{documentOf, eventsOf}
 use Rattle.record.specs.Rows.{documentCount, eventCount}
-use Rattle.record.specs.Outcome.{Resolution, offends, gives}
+use Rattle.record.specs.Outcome.{offends, gives}
 use Rattle.record.specs.Written.{Judges, ExactlyWritten}
 use Rattle.record.specs.declared.event.Event.{Event}
 use Rattle.record.proofs.ExactlyWritten.{exactly-written}

@@ -8,7 +8,6 @@ use native.Mathlib.Omega.{arith}
 use lib.Dec.{leb, eqb}
 use lib.ListN.{length, getD}
 use borrow.Author.Tests.{leb-true, leb-false, eqb-true, eqb-false}
-use Rattle.slots.specs.Words.{get16}
 use Rattle.slots.specs.Layout.{Room, headOf, withHead}
 use Rattle.slots.proofs.Laws.{length-put, get-put-same, get-put-other, byte-put-other}
 use Rattle.attention.specs.Start.{Cleared}

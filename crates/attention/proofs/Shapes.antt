@@ -1,7 +1,7 @@
 -- The shape rule as a test (`shaped`) and as what a run may look like (`Shape`) are one.
 -- Assumes nothing.
-use Prim.Native.Nat.{ℕ, zero, suc, _+_, _-_, _/_, _%_, _<_, _≤_}
-use mathlib.Core.Path.{_≡_, refl, sym, ap, _∙_}
+use Prim.Native.Nat.{ℕ, zero, suc, _+_, _-_, _<_, _≤_}
+use mathlib.Core.Path.{_≡_, refl, ap}
 use mathlib.Core.Bool.{Bool, true, false, not}
 use mathlib.Core.List.{List, [], _∷_}
 use native.Mathlib.Omega.{arith}
@@ -13,7 +13,7 @@ use Rattle.record.specs.Options.{optionOn}
 use Rattle.record.specs.Event.{event, exit}
 use Rattle.record.specs.declared.event.Event.{Event}
 use Rattle.record.proofs.Bools.{and-left, and-right, and-both, clash}
-use Rattle.runs.specs.Runs.{isMarker, allowed, leftAtOnce, firstPlace, allAre, isByte, byteAt, runBetween, shaped}
+use Rattle.runs.specs.Runs.{isMarker, allowed, leftAtOnce, allAre, isByte, byteAt, runBetween, shaped}
 use Rattle.attention.specs.Shape.{Marker, star, line, tilde, Shape}
 
 -- a scan over bytes that are all one says so of each, and the other way round

@@ -1,12 +1,11 @@
 -- What a slot's size and flags say together.
 -- Assumes nothing.
 use Prim.Native.Nat.{ℕ, _+_, _<_}
-use mathlib.Core.Path.{_≡_, refl, sym, _∙_}
+use mathlib.Core.Path.{_≡_, sym, _∙_}
 use mathlib.Core.Bool.{Bool, true, false, not, _&&_, _||_}
 use mathlib.Core.List.{List}
 use native.Mathlib.Omega.{arith}
-use lib.Dec.{eqb, ltb}
-use borrow.Author.Tests.{lt-ltb, le-ltb}
+use borrow.Author.Tests.{lt-ltb}
 use Rattle.record.specs.Choice.{choose, and}
 use Rattle.slots.specs.Layout.{leftOf, opensOf, closesOf, chainOf, headOf, markerOf, withLink, withHead, withOpenAt}
 use Rattle.runs.specs.Rule.{threes, tildes, ruleOver, ruleFor}

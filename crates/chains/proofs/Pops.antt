@@ -10,12 +10,12 @@ use mathlib.Core.List.{List}
 use mathlib.Core.Bool.{Bool, true, false, not}
 use native.Mathlib.Omega.{arith}
 use lib.Dec.{eqb, ltb, leb}
-use lib.ListN.{length, getD, set, length-set}
+use lib.ListN.{length, getD, length-set}
 use lib.Seq.{getD-set-same, getD-set-other}
-use borrow.Author.Tests.{eq-eqb, ne-eqb, eqb-true, eqb-false, lt-ltb, le-ltb, le-leb, lt-leb, leb-true, leb-false, ltb-true, ltb-false}
+use borrow.Author.Tests.{eq-eqb, ne-eqb, lt-ltb, le-ltb, le-leb, lt-leb, leb-true, leb-false, ltb-true, ltb-false}
 use Rattle.record.specs.Choice.{choose, and}
 use Rattle.runs.specs.Plain.{amount}
-use Rattle.slots.specs.Words.{get16, put16}
+use Rattle.slots.specs.Words.{get16}
 use Rattle.slots.specs.Layout.{leftOf, opensOf, chainOf, linkOf, headOf, openAt, firstGroupOf, latestGroupOf, withLeft, withHead, withOpens, withFirstGroup, withLatestGroup, withGroup}
 use Rattle.slots.proofs.Laws.{Apart, Beside, length-put, get-put-same, word-after-word, byte-after-word, word-after-byte}
 use Rattle.chains.specs.Step.{unchained, popped, cleared, leaves, lowered, joined, matchedAt, Ranged}

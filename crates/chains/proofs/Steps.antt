@@ -8,15 +8,14 @@ use mathlib.Core.Path.{_≡_, refl, _∙_, sym, ap}
 use mathlib.Core.List.{List}
 use mathlib.Core.Bool.{Bool, true, false}
 use native.Mathlib.Omega.{arith}
-use lib.Dec.{eqb, ltb}
+use lib.Dec.{eqb}
 use lib.ListN.{length, getD}
 use borrow.Author.Tests.{eq-eqb, ne-eqb, eqb-true, eqb-false}
 use Rattle.record.specs.Choice.{choose}
-use Rattle.runs.specs.declared.Next.{Next}
 use Rattle.runs.specs.declared.Next.the-variants.{Match, Done}
 use Rattle.runs.specs.Rule.{Rule}
-use Rattle.runs.specs.Plain.{Look, hit, miss, settle}
-use Rattle.slots.specs.Words.{get16, put16}
+use Rattle.runs.specs.Plain.{hit, miss}
+use Rattle.slots.specs.Words.{get16}
 use Rattle.slots.specs.Layout.{linkOf, headOf, chainOf, openAt, withLink, withHead, withOpenAt}
 use Rattle.slots.proofs.Laws.{Apart, Beside, length-put, get-put-same, word-after-word, byte-after-word}
 use Rattle.chains.specs.Walk.{down, seek, first, takesAt, closing, opening, passed, raised, onward, Sound}

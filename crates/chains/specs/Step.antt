@@ -4,10 +4,9 @@
 -- Assumes nothing.
 use Prim.Native.Nat.{ℕ, zero, suc, _+_, _-_, _<_, _≤_}
 use mathlib.Core.Path.{_≡_}
-use mathlib.Core.Bool.{Bool, true, false}
 use mathlib.Core.List.{List}
 use lib.Dec.{eqb, ltb}
-use Rattle.record.specs.Choice.{choose, and}
+use Rattle.record.specs.Choice.{choose}
 use Rattle.runs.specs.Plain.{amount}
 use Rattle.slots.specs.Layout.{Room, leftOf, chainOf, linkOf, openAt, firstGroupOf, latestGroupOf, withLeft, withOpens, withHead, withFirstGroup, withLatestGroup, withGroup}
 

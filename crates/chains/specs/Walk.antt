@@ -4,8 +4,7 @@
 -- fall and numbers are in range". `onward` is that definition, over any rule, and `Sound` are those premises.
 -- Assumes nothing.
 use Prim.Native.Nat.{ℕ, zero, suc, _+_, _-_, _<_, _≤_}
-use mathlib.Core.Path.{_≡_}
-use mathlib.Core.Bool.{Bool, true, false}
+use mathlib.Core.Bool.{Bool}
 use mathlib.Core.List.{List}
 use lib.Dec.{eqb, ltb}
 use Rattle.record.specs.Choice.{choose, and}

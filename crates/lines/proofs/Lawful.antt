@@ -9,7 +9,7 @@ use native.Mathlib.Omega.{arith}
 use lib.ListN.{length, drop, length-drop}
 use lib.Dec.{leb}
 use borrow.Author.Tests.{leb-true, eqb-false}
-use Rattle.record.specs.Choice.{choose, and}
+use Rattle.record.specs.Choice.{choose}
 use Rattle.record.specs.declared.check.Refusal.{Refusal}
 use Rattle.record.proofs.Bools.{and-right, clash}
 use Rattle.record.proofs.Chosen.{chosen}

@@ -1,16 +1,16 @@
 -- An item has a mark just where it begins as document 01 says.
 -- Assumes nothing.
-use mathlib.Core.Path.{_≡_, refl, sym, ap, _∙_, subst}
+use mathlib.Core.Path.{_≡_, refl, ap}
 use mathlib.Core.Bool.{Bool, true, false}
 use mathlib.Core.Logic.{_⊎_, inl, inr}
-use mathlib.Core.List.{List, [], _∷_}
+use mathlib.Core.List.{List}
 use Prim.Native.Nat.{ℕ, _+_}
 use native.Mathlib.Omega.{arith}
 use lib.Dec.{eqb}
 use lib.ListN.{getD}
-use borrow.Author.Tests.{eqb-true, eqb-false, eq-eqb, ne-eqb}
+use borrow.Author.Tests.{eqb-true, eq-eqb}
 use Rattle.record.specs.Choice.{choose, and}
-use Rattle.record.proofs.Bools.{and-left, and-right, and-both}
+use Rattle.record.proofs.Bools.{and-left, and-right}
 use Rattle.list.specs.Tree.{Row, none, pair}
 use Rattle.list.specs.Item.{pastLeaf, isNone, known, markerOf, prefixOf, markOf}
 use Rattle.list.specs.Offence.{Mark, star, plus, minus, point, bracket, Marker, bare, spaced, Prefix, unvalued, valued, Begins, at-once, indented}

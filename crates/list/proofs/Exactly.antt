@@ -1,6 +1,6 @@
 -- The table's "given exactly when" for the list resolver: rows 1 to 8, row 6 by document 01's shape rule.
 -- Assumes nothing.
-use mathlib.Core.Path.{_≡_, refl, sym, _∙_}
+use mathlib.Core.Path.{_≡_, refl}
 use mathlib.Core.Bool.{false}
 use mathlib.Core.Logic.{⊎-elim}
 use mathlib.Core.List.{List, [], _∷_}
@@ -8,14 +8,13 @@ use Prim.Native.Nat.{ℕ, _+_, _≤_}
 use native.Mathlib.Omega.{arith}
 use Rattle.record.specs.Event.{documentOf, eventsOf}
 use Rattle.record.specs.Rows.{documentCount, eventCount}
-use Rattle.record.specs.Outcome.{offends, gives}
 use Rattle.record.specs.Written.{Judges, ExactlyWritten}
 use Rattle.record.specs.declared.event.Event.{Event}
 use Rattle.record.proofs.ExactlyWritten.{exactly-written}
 use Rattle.list.specs.Tree.{treeOf}
 use Rattle.list.specs.Lists.{offenders, lists}
 use Rattle.list.proofs.Added.{result-of}
-use Rattle.list.proofs.Earliest.{Rising, no-more, then, Among, front, behind, earliest}
+use Rattle.list.proofs.Earliest.{Rising, then, Among, front, behind, earliest}
 use Rattle.list.specs.Offence.{Offends}
 use Rattle.list.proofs.Offending.{named-offends, offends-named}
 

@@ -10,20 +10,18 @@ use mathlib.Core.List.{List}
 use mathlib.Core.Bool.{Bool, true, false, not}
 use native.Mathlib.Omega.{arith}
 use lib.Dec.{eqb, ltb}
-use lib.ListN.{length, getD}
-use borrow.Author.Tests.{eq-eqb, ne-eqb, eqb-true, eqb-false, ltb-true, ltb-false}
-use Rattle.record.specs.Choice.{choose, and}
+use lib.ListN.{length}
+use borrow.Author.Tests.{eqb-true, eqb-false, ltb-true, ltb-false}
+use Rattle.record.specs.Choice.{choose}
 use Rattle.record.proofs.Bools.{clash}
 use Rattle.runs.specs.Plain.{Standing, at, opener}
 use Rattle.runs.specs.Chains.{chainNumber}
-use Rattle.slots.specs.Words.{get16, put16}
-use Rattle.slots.specs.Layout.{leftOf, opensOf, linkOf, headOf, chainOf, openAt}
-use Rattle.slots.proofs.Laws.{Apart, Beside}
+use Rattle.slots.specs.Layout.{opensOf, linkOf, headOf, chainOf, openAt}
 use Rattle.matcher.specs.Chains.{on, latest, openers, Listed}
 use Rattle.chains.specs.Step.{unchained, popped, cleared}
-use Rattle.matcher.proofs.Lists.{on-opener, on-chain, on-yes, on-not, latest-on, latest-off, latest-shut, latest-level, openers-le, openers-on, openers-off, openers-past, openers-shut, openers-level, Level, level-less, Shut}
+use Rattle.matcher.proofs.Lists.{on-chain, on-yes, latest-off, latest-shut, latest-level, openers-on, openers-past, openers-shut, openers-level, Level, level-less, Shut}
 use Rattle.matcher.proofs.Frames.{SameRuns, SameLeft, SameGroups, SameChains, same-runs, runs-then, groups-then, listed-same}
-use Rattle.chains.proofs.Pops.{cleared-end, cleared-stop, cleared-pop, unchained-word, unchained-own, unchained-other, unchained-length, popped-word, popped-byte, popped-own, popped-head, popped-length, popped-chain, popped-stack}
+use Rattle.chains.proofs.Pops.{cleared-stop, cleared-pop, unchained-word, unchained-own, unchained-other, popped-word, popped-byte, popped-own, popped-head, popped-length, popped-chain, popped-stack}
 
 -- the latest run below b that can open, which is the top of the open runs
 pub record Top (rs : List Standing) (b h : ℕ) : Type 0 where

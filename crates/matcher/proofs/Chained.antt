@@ -10,25 +10,24 @@ use mathlib.Core.List.{List}
 use mathlib.Core.Bool.{Bool, true, false}
 use native.Mathlib.Omega.{arith}
 use lib.Dec.{eqb, ltb}
-use lib.ListN.{length, getD}
-use borrow.Author.Tests.{eq-eqb, ne-eqb, eqb-true, eqb-false, ltb-true, lt-ltb}
+use lib.ListN.{getD}
+use borrow.Author.Tests.{eqb-true, eqb-false, ltb-true}
 use Rattle.record.specs.Choice.{choose, and}
-use Rattle.record.proofs.Bools.{and-left, and-right, and-both, clash}
+use Rattle.record.proofs.Bools.{and-left, clash}
 use Rattle.runs.specs.declared.Next.{Next}
 use Rattle.runs.specs.declared.Next.the-variants.{Match, Done}
-use Rattle.runs.specs.Rule.{Rule, Side}
-use Rattle.runs.specs.Plain.{Standing, Group, at, sideOf, opener, closer, candidate, takes, Look, hit, miss, settle, back, look, forth}
+use Rattle.runs.specs.Rule.{Rule}
+use Rattle.runs.specs.Plain.{Standing, Group, at, opener, closer, candidate, takes, Look, hit, miss, settle, back, look, forth}
 use Rattle.runs.specs.Chains.{chainNumber}
-use Rattle.slots.specs.Words.{get16, put16}
-use Rattle.slots.specs.Layout.{leftOf, markerOf, opensOf, closesOf, linkOf, headOf, chainOf, openAt}
-use Rattle.slots.proofs.Laws.{Apart, Beside}
+use Rattle.slots.specs.Words.{get16}
+use Rattle.slots.specs.Layout.{leftOf, opensOf, closesOf, linkOf, headOf, chainOf, openAt}
+use Rattle.slots.proofs.Laws.{Apart}
 use Rattle.chains.specs.Walk.{down, seek, first, takesAt, bothAt, closing, opening, passed, raised, onward, Sound}
 use Rattle.matcher.specs.Chains.{on, latest, openers, Reads, Listed}
-use Rattle.matcher.specs.Groups.{Grouped}
 use Rattle.matcher.specs.State.{Ready}
-use Rattle.chains.proofs.Flags.{passed-on, passed-off, raised-on, raised-off, opening-none, opening-some, closing-none, closing-some}
-use Rattle.chains.proofs.Steps.{Falls, down-end, down-hit, down-on, passed-word, passed-byte, passed-length, passed-link-same, passed-link-other, passed-head-same, passed-head-other, passed-open-same, passed-open-other, passed-sound}
-use Rattle.matcher.proofs.Lists.{on-opener, on-chain, on-yes, on-not, latest-on, latest-off, latest-le, openers-le, openers-on, openers-off, openers-past, candidate-on}
+use Rattle.chains.proofs.Flags.{raised-on, raised-off}
+use Rattle.chains.proofs.Steps.{Falls, down-end, down-hit, down-on, passed-word, passed-byte, passed-link-same, passed-link-other, passed-head-same, passed-head-other, passed-open-same, passed-open-other, passed-sound}
+use Rattle.matcher.proofs.Lists.{on-opener, on-chain, on-yes, latest-on, latest-off, latest-le, openers-le, openers-on, openers-off, openers-past, candidate-on}
 use Rattle.matcher.proofs.Frames.{SameRuns, SameGroups, same-runs, same-opens, reads-same, grouped-same}
 
 -- where a walk ends: at the closer of the match, or past all runs

@@ -3,12 +3,12 @@
 --     reads-same, listed-same, grouped-same   what goes by them
 -- Assumes nothing.
 use Prim.Native.Nat.{ℕ, _+_, _*_, _<_, _≤_}
-use mathlib.Core.Path.{_≡_, refl, _∙_, sym, ap}
+use mathlib.Core.Path.{_≡_, _∙_, ap}
 use mathlib.Core.List.{List}
-use mathlib.Core.Bool.{Bool, not}
+use mathlib.Core.Bool.{not}
 use native.Mathlib.Omega.{arith}
 use lib.Dec.{eqb}
-use lib.ListN.{length, getD}
+use lib.ListN.{getD}
 use Rattle.runs.specs.Plain.{Standing, Group}
 use Rattle.slots.specs.Words.{get16}
 use Rattle.slots.specs.Layout.{wholeOf, leftOf, markerOf, opensOf, closesOf, chainOf, linkOf, headOf, openAt, firstGroupOf, latestGroupOf}

@@ -2,10 +2,9 @@
 -- Invariant: for all runs and groups that the memory had at the start there are runs and groups that it has now, ready at the run to go on from,
 -- from which the plain rule finishes the same closer; and going along the chains from here comes to the same as from the start. Measure: the groups for which there is still room.
 -- Assumes nothing.
-use Prim.Native.Nat.{ℕ, zero, suc, _+_, _-_, _*_, _<_, _≤_}
+use Prim.Native.Nat.{ℕ, _+_, _-_, _*_, _<_, _≤_}
 use mathlib.Core.Path.{_≡_, refl, _∙_, sym, ap}
-use mathlib.Core.List.{List, [], _∷_, _++_}
-use mathlib.Core.Bool.{Bool, true, false}
+use mathlib.Core.List.{List, [], _∷_}
 use native.Mathlib.Omega.{arith}
 use lib.ListN.{length, length-append}
 use Rattle.runs.specs.declared.Next.{Next}
@@ -15,10 +14,10 @@ use Rattle.runs.specs.Plain.{Standing, Group, group, at, forth, takenBy, matche
 use Rattle.chains.specs.Walk.{onward, Sound}
 use Rattle.matcher.specs.State.{Ready}
 use Rattle.chains.specs.Step.{matchedAt, Takable}
-use Rattle.matcher.specs.Closer.{Finish, finish, closerFrom}
+use Rattle.matcher.specs.Closer.{finish, closerFrom}
 use Rattle.matcher.specs.Along.{closerBy}
-use Rattle.matcher.specs.declared.closers.Step.the-variants.{Closed, Full}
-use Rattle.matcher.specs.Promise.{Begun, ClosedAs, Handled, Handles}
+use Rattle.matcher.specs.declared.closers.Step.the-variants.{Closed}
+use Rattle.matcher.specs.Promise.{Begun, Handled}
 use Rattle.matcher.proofs.Chained.{ready-sound, Went, onward-went, reach}
 use Rattle.matcher.proofs.Taken.{match-takable, match-ready}
 use Rattle.matcher.proofs.Rounds.{Found, forth-found, forth-count, triedBy, andGroup, finish-match, finish-done, finish-longer}

@@ -15,7 +15,7 @@ use borrow.Author.Tests.{eq-eqb, ne-eqb, eqb-true, eqb-false}
 use Rattle.record.specs.Choice.{choose}
 use Rattle.runs.specs.Plain.{Group, group, groupAt}
 use Rattle.slots.specs.Words.{get16, put16}
-use Rattle.slots.specs.Layout.{groupOpener, groupCloser, groupTaken, groupEarlier, firstGroupOf, latestGroupOf, withGroup, withLatestGroup, withFirstGroup}
+use Rattle.slots.specs.Layout.{groupOpener, groupCloser, groupTaken, groupEarlier, firstGroupOf, latestGroupOf}
 use Rattle.slots.proofs.Laws.{Apart, Beside, length-put, get-put-same, word-after-word, byte-after-word}
 use Rattle.chains.specs.Step.{joined}
 use Rattle.matcher.specs.Groups.{firstClosed, lastOpened, Grouped}

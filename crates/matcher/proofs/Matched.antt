@@ -3,20 +3,19 @@
 --     left-.., opens-.., opener-..            its fields
 --     matched-total                           fewer markers are left
 -- Assumes nothing.
-use Prim.Native.Nat.{ℕ, zero, suc, _+_, _-_, _*_, _<_, _≤_}
-use mathlib.Core.Path.{_≡_, refl, _∙_, sym, ap}
+use Prim.Native.Nat.{ℕ, zero, suc, _+_, _-_, _<_, _≤_}
+use mathlib.Core.Path.{_≡_, refl, _∙_, ap}
 use mathlib.Core.List.{List, [], _∷_}
 use mathlib.Core.Bool.{Bool, true, false}
 use native.Mathlib.Omega.{arith}
 use lib.Dec.{eqb, ltb}
-use lib.ListN.{length, getD}
-use borrow.Author.Tests.{eq-eqb, ne-eqb, eqb-true, eqb-false, lt-ltb, le-ltb, ltb-true, ltb-false}
+use lib.ListN.{length}
+use borrow.Author.Tests.{eq-eqb, ne-eqb, eqb-true, eqb-false, lt-ltb, le-ltb}
 use Rattle.record.specs.Choice.{choose, and}
-use Rattle.record.proofs.Bools.{and-left, and-right, and-both, and-false, clash}
-use Rattle.runs.specs.Plain.{Standing, at, opener, closer, amount, takenBy, alter, change, matched, total}
+use Rattle.record.proofs.Bools.{and-right, and-false}
+use Rattle.runs.specs.Plain.{Standing, at, opener, takenBy, alter, change, matched}
 use Rattle.runs.specs.Chains.{chainNumber}
 use Rattle.matcher.proofs.Lists.{Level, Shut}
-use Rattle.chains.proofs.Pops.{amount-le}
 
 -- a run of an altered list
 at-alter : (f : ℕ → Standing → Standing) (j : ℕ) (rs : List Standing) (q : ℕ) → q < length rs → at (alter j f rs) q ≡ f (j + q) (at rs q)

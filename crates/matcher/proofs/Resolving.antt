@@ -1,22 +1,22 @@
 -- All closers, turn by turn. Invariant: for all runs that the memory had at the start there are runs and groups that it has now, from which the
 -- plain rule comes to the same. Measure: the runs left.
 -- Assumes nothing.
-use Prim.Native.Nat.{ℕ, zero, suc, _+_, _-_, _*_, _<_, _≤_}
-use mathlib.Core.Path.{_≡_, refl, _∙_, sym, ap}
-use mathlib.Core.List.{List, [], _∷_, _++_}
+use Prim.Native.Nat.{ℕ, _+_, _-_, _*_, _<_, _≤_}
+use mathlib.Core.Path.{_≡_, refl, _∙_, sym}
+use mathlib.Core.List.{List, []}
 use native.Mathlib.Omega.{arith}
 use lib.ListN.{length}
 use Rattle.runs.specs.Rule.{Rule}
-use Rattle.runs.specs.Plain.{Standing, Group, Outcome, rounds, total, plain}
+use Rattle.runs.specs.Plain.{Standing, Group, rounds, total, plain}
 use Rattle.matcher.specs.declared.closers.Step.{Step}
 use Rattle.matcher.specs.declared.closers.Step.the-variants.{Closed, Full}
-use Rattle.matcher.specs.declared.closers.Found.the-variants.{Groups, TooMany}
+use Rattle.matcher.specs.declared.closers.Found.the-variants.{Groups}
 use Rattle.matcher.specs.Chains.{latest, openers}
 use Rattle.matcher.specs.Groups.{firstClosed, lastOpened}
 use Rattle.matcher.specs.State.{Fresh, Ready}
-use Rattle.matcher.specs.Closer.{Finish, finish, closerFrom}
+use Rattle.matcher.specs.Closer.{Finish, closerFrom}
 use Rattle.matcher.specs.Along.{along, chained}
-use Rattle.matcher.specs.Promise.{Begun, ClosedAs, Handled, Handles, Loaded, GroupsOf, Answered, Answers}
+use Rattle.matcher.specs.Promise.{Begun, ClosedAs, Handles, Loaded, Answered}
 use Rattle.matcher.proofs.Rounds.{rounds-finish, rounds-longer, rounds-end}
 
 -- before the first match all is ready at the first run

@@ -12,7 +12,7 @@ use mathlib.Core.List.{List, [], _∷_, _++_}
 use mathlib.Core.Bool.{Bool, true, false}
 use native.Mathlib.Omega.{arith}
 use native.Mathlib.Numerals.{add-one}
-use lib.Dec.{eqb, ltb}
+use lib.Dec.{eqb}
 use lib.ListN.{length, drop, length-append, length-drop, List·getD-append}
 use lib.Seq.{getD-append-add, getD-drop, drop-cons}
 use borrow.Author.Tests.{eqb-true, eqb-false, eq-eqb, ne-eqb}
@@ -20,11 +20,11 @@ use Rattle.record.specs.Choice.{choose}
 use Rattle.runs.specs.declared.Next.{Next}
 use Rattle.runs.specs.declared.Next.the-variants.{Match, Done}
 use Rattle.runs.specs.Rule.{Rule}
-use Rattle.runs.specs.Plain.{Standing, Group, group, groupAt, Outcome, forth, takenBy, matched, ends, rounds, total, plain}
-use Rattle.runs.specs.Pieces.{Piece, piece, closings}
+use Rattle.runs.specs.Plain.{Standing, Group, group, groupAt, forth, takenBy, matched, ends, rounds, total, plain}
+use Rattle.runs.specs.Pieces.{piece, closings}
 use Rattle.matcher.specs.Groups.{firstClosed}
 use Rattle.matcher.proofs.Matched.{matched-length}
-use Rattle.matcher.proofs.Rounds.{Found, forth-found, andGroup}
+use Rattle.matcher.proofs.Rounds.{forth-found, andGroup}
 
 -- the groups made up to the closer c, of n runs
 pub record Ordered (n : ℕ) (gs : List Group) (c : ℕ) : Type 0 where

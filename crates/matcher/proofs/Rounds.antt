@@ -13,15 +13,13 @@ use mathlib.Core.List.{List, [], _∷_, _++_}
 use mathlib.Core.Bool.{Bool, true, false}
 use native.Mathlib.Omega.{arith}
 use native.Mathlib.Numerals.{add-one}
-use lib.Dec.{eqb, ltb}
 use lib.ListN.{length, length-append}
-use borrow.Author.Tests.{eq-eqb, ne-eqb, eqb-true, eqb-false}
-use Rattle.record.specs.Choice.{choose, and}
-use Rattle.record.proofs.Bools.{and-left, and-right, clash}
+use Rattle.record.specs.Choice.{choose}
+use Rattle.record.proofs.Bools.{and-left}
 use Rattle.runs.specs.declared.Next.{Next}
 use Rattle.runs.specs.declared.Next.the-variants.{Match, Done}
 use Rattle.runs.specs.Rule.{Rule}
-use Rattle.runs.specs.Plain.{Standing, Group, group, at, opener, closer, candidate, takes, Look, hit, miss, settle, back, look, forth, next, takenBy, alter, change, matched, Outcome, ends, rounds, total, plain}
+use Rattle.runs.specs.Plain.{Standing, Group, group, at, opener, closer, candidate, takes, Look, hit, miss, settle, back, look, forth, next, takenBy, matched, Outcome, ends, rounds, total}
 use Rattle.matcher.specs.Closer.{Finish, finish}
 use Rattle.matcher.proofs.Chained.{opener-left, closer-left, forth-suc, back-suc, back-zero}
 use Rattle.matcher.proofs.Matched.{matched-length, left-le, left-closer}

@@ -10,24 +10,24 @@ use mathlib.Core.Bool.{Bool, true, false, not}
 use native.Mathlib.Omega.{arith}
 use lib.Dec.{eqb, ltb}
 use lib.ListN.{length, getD}
-use borrow.Author.Tests.{eq-eqb, ne-eqb, eqb-true, eqb-false, ltb-true, ltb-false, lt-ltb}
+use borrow.Author.Tests.{eqb-true, eqb-false, ltb-true, ltb-false, lt-ltb}
 use Rattle.record.specs.Choice.{choose, and}
 use Rattle.record.proofs.Bools.{clash}
 use Rattle.runs.specs.Runs.{isMarker}
 use Rattle.runs.specs.Plain.{Standing, Group, group, at, opener, closer, amount, takenBy, matched}
-use Rattle.slots.specs.Words.{get16, put16}
-use Rattle.slots.specs.Layout.{wholeOf, leftOf, markerOf, opensOf, closesOf, linkOf, headOf, chainOf, openAt, withLeft}
-use Rattle.slots.proofs.Laws.{Apart, Beside, length-put, get-put-same, word-after-word, byte-after-word}
+use Rattle.slots.specs.Words.{get16}
+use Rattle.slots.specs.Layout.{leftOf, opensOf, linkOf, chainOf, openAt, withLeft}
+use Rattle.slots.proofs.Laws.{Apart, length-put, get-put-same, word-after-word, byte-after-word}
 use Rattle.matcher.specs.Chains.{openers, Reads, Listed}
 use Rattle.matcher.specs.Groups.{Grouped}
 use Rattle.matcher.specs.State.{Ready}
-use Rattle.chains.specs.Step.{unchained, cleared, leaves, lowered, joined, takenAt, matchedAt, Ranged, Takable}
-use Rattle.matcher.proofs.Lists.{openers-on, openers-past, openers-le, Level, Shut}
-use Rattle.matcher.proofs.Frames.{SameRuns, SameLeft, SameGroups, SameChains, same-runs, runs-then, groups-then, grouped-same, listed-same}
+use Rattle.chains.specs.Step.{unchained, cleared, leaves, lowered, joined, takenAt, matchedAt, Takable}
+use Rattle.matcher.proofs.Lists.{openers-on, openers-past, openers-le}
+use Rattle.matcher.proofs.Frames.{SameRuns, SameGroups, SameChains, same-runs, runs-then, groups-then, grouped-same, listed-same}
 use Rattle.matcher.proofs.Chained.{opener-left, closer-left}
 use Rattle.chains.proofs.Pops.{amount-le, unchained-word, unchained-byte, unchained-length, leaves-on, leaves-off, lowered-on, lowered-off}
 use Rattle.matcher.proofs.Matched.{matched-length, whole-same, marker-same, closes-same, chain-kept, left-own, left-closer, left-other, left-le, opens-between, opens-before, opens-after, level-low, level-own, shut-between, shut-own}
-use Rattle.matcher.proofs.Between.{Top, top, Clears, cleared-clears, listed-unchained, listed-move}
+use Rattle.matcher.proofs.Between.{Clears, cleared-clears, listed-unchained, listed-move}
 use Rattle.matcher.proofs.Joins.{joined-word, joined-byte, joined-length, joined-grouped}
 
 -- a run with markers left that is no opener has its flag down

@@ -1,11 +1,9 @@
 -- The chained matcher's definition, turn by turn: what one turn of each loop makes of it.
 -- Assumes nothing.
 use Prim.Native.Nat.{ℕ, zero, suc, _+_, _-_, _<_, _≤_}
-use mathlib.Core.Path.{_≡_, refl, _∙_, sym, ap}
+use mathlib.Core.Path.{_≡_, refl}
 use mathlib.Core.List.{List}
-use mathlib.Core.Bool.{Bool, true, false}
 use native.Mathlib.Omega.{arith}
-use lib.Dec.{eqb, ltb}
 use borrow.Author.Tests.{eq-eqb, ne-eqb, lt-ltb, le-ltb}
 use Rattle.record.specs.Choice.{choose}
 use Rattle.runs.specs.Rule.{Rule}
@@ -13,10 +11,9 @@ use Rattle.runs.specs.declared.Next.{Next}
 use Rattle.runs.specs.declared.Next.the-variants.{Match, Done}
 use Rattle.chains.specs.Walk.{onward}
 use Rattle.chains.specs.Step.{matchedAt}
-use Rattle.matcher.specs.Along.{walked, closerAlong, closerBy, stepped, along, chained}
+use Rattle.matcher.specs.Along.{closerAlong, closerBy, along}
 use Rattle.matcher.specs.declared.closers.Step.{Step}
 use Rattle.matcher.specs.declared.closers.Step.the-variants.{Closed, Full}
-use Rattle.matcher.specs.declared.closers.Found.{Found}
 use Rattle.matcher.specs.declared.closers.Found.the-variants.{Groups, TooMany}
 
 -- one turn for one closer

@@ -5,15 +5,15 @@
 -- Assumes nothing.
 use Prim.Native.Nat.{ℕ, zero, suc, _+_, _<_}
 use mathlib.Core.Path.{_≡_}
-use mathlib.Core.Bool.{Bool, true, false}
+use mathlib.Core.Bool.{Bool, true}
 use mathlib.Core.List.{List}
-use lib.Dec.{eqb, ltb}
+use lib.Dec.{eqb}
 use lib.ListN.{length}
 use Rattle.record.specs.Choice.{choose, and}
 use Rattle.runs.specs.Runs.{isMarker}
 use Rattle.runs.specs.Plain.{Standing, at, opener}
 use Rattle.runs.specs.Chains.{chainNumber}
-use Rattle.slots.specs.Layout.{Room, wholeOf, leftOf, markerOf, opensOf, closesOf, chainOf, linkOf, headOf, openAt}
+use Rattle.slots.specs.Layout.{wholeOf, leftOf, markerOf, opensOf, closesOf, chainOf, linkOf, headOf, openAt}
 
 -- slot by slot the memory has the runs of a list. Whether a run opens is asked only while it has markers left: after that nothing looks
 pub record Reads (w : List ℕ) (rs : List Standing) (n : ℕ) : Type 0 where

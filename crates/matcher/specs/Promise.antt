@@ -12,7 +12,7 @@ use Rattle.matcher.specs.declared.closers.Step.{Step}
 use Rattle.matcher.specs.declared.closers.Step.the-variants.{Closed, Full}
 use Rattle.matcher.specs.declared.closers.Found.{Found}
 use Rattle.matcher.specs.declared.closers.Found.the-variants.{Groups, TooMany}
-use Rattle.matcher.specs.Chains.{Reads, Listed}
+use Rattle.matcher.specs.Chains.{Reads}
 use Rattle.matcher.specs.Groups.{Grouped}
 use Rattle.matcher.specs.State.{Fresh, Ready}
 use Rattle.matcher.specs.Closer.{Finish, closerFrom}

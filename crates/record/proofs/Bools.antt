@@ -5,7 +5,7 @@ use mathlib.Core.Bool.{Bool, true, false}
 use mathlib.Core.Logic.{_⊎_, inl, inr}
 use Prim.Native.Nat.{ℕ}
 use native.Mathlib.Omega.{arith}
-use Rattle.record.specs.Choice.{choose, and}
+use Rattle.record.specs.Choice.{and}
 
 pub and-left : (a b : Bool) → and a b ≡ true → a ≡ true
 unfolding and

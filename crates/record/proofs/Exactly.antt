@@ -1,10 +1,10 @@
 -- The table's "given exactly when": the check refuses with n at p just where (n, p) is the least row that holds, and is good where none does.
 -- Proved by going through the check's own tests, each of which says that a row holds or that it holds nowhere.
 -- Assumes nothing.
-use mathlib.Core.Path.{_≡_, refl, sym, ap, _∙_, subst}
+use mathlib.Core.Path.{_≡_, refl, sym, ap, _∙_}
 use mathlib.Core.Bool.{Bool, true, false}
 use mathlib.Core.Logic.{_⊎_, inl, inr, ⊎-elim}
-use mathlib.Core.List.{List, [], _∷_}
+use mathlib.Core.List.{List, []}
 use Prim.Native.Nat.{ℕ, zero, suc, _+_, _*_, _≤_, _<_}
 use native.Mathlib.Omega.{arith}
 use lib.ListN.{length, getD}
@@ -20,10 +20,9 @@ use Rattle.record.specs.declared.check.Count.{Count}
 use Rattle.record.specs.declared.check.Count.the-variants.{Fits, Misfit}
 use Rattle.record.specs.declared.check.Refusal.{Refusal}
 use Rattle.record.specs.declared.check.Reading.{Reading}
-use Rattle.record.specs.declared.check.Reading.the-variants.{Good, Refused}
+use Rattle.record.specs.declared.check.Reading.the-variants.{Good}
 use Rattle.record.proofs.Bools.{and-split, clash}
 use Rattle.record.proofs.Counts.{Fitted, fitted}
-use Rattle.record.proofs.Good.{none-returned}
 use Rattle.record.proofs.Verdict.{Verdict, all-good, one-bad, some-left, verdict}
 
 -- the least row is one only

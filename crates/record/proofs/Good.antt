@@ -8,16 +8,16 @@ use native.Mathlib.Omega.{arith}
 use lib.ListN.{length, getD}
 use lib.Dec.{eqb}
 use borrow.Author.Tests.{eqb-true, eqb-false, ltb-false}
-use Rattle.record.specs.Choice.{choose, and}
+use Rattle.record.specs.Choice.{choose}
 use Rattle.record.specs.Bytes.{u32At}
 use Rattle.record.specs.Event.{Stored, storedAt, allStoredAt, eventsAt, eventsOf}
-use Rattle.record.specs.Stack.{none, fitsOpen, after}
-use Rattle.record.specs.Sound.{placed, soundFrom, sound}
+use Rattle.record.specs.Stack.{after}
+use Rattle.record.specs.Sound.{soundFrom, sound}
 use Rattle.record.specs.Check.{refuse, countAt, fitting, firstReturn, formed, judge, insideOf, endOf, eventCountOf, checked, admitted}
 use Rattle.record.specs.declared.check.Count.{Count}
 use Rattle.record.specs.declared.check.Count.the-variants.{Fits, Misfit}
 use Rattle.record.specs.declared.check.Reading.{Reading}
-use Rattle.record.specs.declared.check.Reading.the-variants.{Good, Refused}
+use Rattle.record.specs.declared.check.Reading.the-variants.{Good}
 use Rattle.record.proofs.Bools.{and-left, and-right, and-both}
 use Rattle.record.proofs.Counts.{Fitted, fitted}
 

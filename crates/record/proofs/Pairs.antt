@@ -1,13 +1,13 @@
 -- Which enter an exit belongs to. In a sound list the enter events that are open before an event are, with their names, the open names; so
 -- the innermost of them is the partner of an exit that comes there, and in the end none is open.
 -- Assumes nothing.
-use mathlib.Core.Path.{_≡_, refl, sym, ap, _∙_, subst}
-use mathlib.Core.Bool.{Bool, true, false}
+use mathlib.Core.Path.{_≡_, refl, ap, _∙_}
+use mathlib.Core.Bool.{true}
 use mathlib.Core.Logic.{_⊎_, inl, inr}
 use mathlib.Core.List.{List, [], _∷_}
 use Prim.Native.Nat.{ℕ, zero, suc, _+_, _≤_, _<_}
 use native.Mathlib.Omega.{arith}
-use lib.ListN.{length, getD, take, drop}
+use lib.ListN.{length, take, drop}
 use lib.Seq.{drop-cons, drop-length}
 use Rattle.record.specs.Event.{event}
 use Rattle.record.specs.Stack.{none, outer, after, openAfter, openAt, nth}

@@ -1,14 +1,13 @@
 -- The parts of a record, read byte by byte: where a byte of the document stands, and where an event does.
 -- Assumes nothing.
-use mathlib.Core.Path.{_≡_, refl, sym, ap, _∙_}
+use mathlib.Core.Path.{_≡_, ap, _∙_}
 use mathlib.Core.List.{List, [], _∷_}
 use Prim.Native.Nat.{ℕ, zero, suc, _+_, _*_, _-_, _≤_, _<_}
 use native.Mathlib.Omega.{arith}
-use lib.ListN.{length, getD, take, drop, length-drop}
+use lib.ListN.{length, getD, drop, length-drop}
 use lib.Seq.{getD-take, getD-drop, length-take-le}
-use Rattle.record.specs.Event.{eventAt, eventsAt, documentOf, eventsOf}
+use Rattle.record.specs.Event.{eventAt, eventsAt, documentOf}
 use Rattle.record.specs.Stack.{nth}
-use Rattle.record.specs.declared.event.Event.{Event}
 
 pub length-document : (s : List ℕ) (d : ℕ) → 4 + d ≤ length s → length (documentOf s d) ≡ d
 unfolding documentOf

@@ -1,18 +1,17 @@
 -- Sound lists of events, one event at a time, and the enter events that are open at each.
 -- Assumes nothing.
-use mathlib.Core.Path.{_≡_, refl, sym, ap, _∙_}
-use mathlib.Core.Bool.{Bool, true, false}
+use mathlib.Core.Path.{_≡_, refl, ap, _∙_}
+use mathlib.Core.Bool.{true}
 use mathlib.Core.List.{List, [], _∷_, _++_}
-use Prim.Native.Nat.{ℕ, zero, suc, _+_, _≤_, _<_}
+use Prim.Native.Nat.{ℕ, suc, _+_, _≤_, _<_}
 use native.Mathlib.Omega.{arith}
-use lib.ListN.{length, getD}
-use lib.Dec.{eqb, ltb}
+use lib.ListN.{length}
 use borrow.Author.Tests.{leb-true, ltb-true, eqb-true, eq-eqb, ne-eqb, le-leb, lt-ltb}
 use Rattle.record.specs.Choice.{choose, and}
-use Rattle.record.specs.Stack.{innermost, none, outer, fitsOpen, after, openAfter}
+use Rattle.record.specs.Stack.{innermost, outer, fitsOpen, after, openAfter}
 use Rattle.record.specs.Sound.{placed, soundFrom}
 use Rattle.record.specs.declared.event.Event.{Event}
-use Rattle.record.proofs.Bools.{and-left, and-right, and-both}
+use Rattle.record.proofs.Bools.{and-left, and-right}
 
 -- what one event of a sound list tells, where the names `held` are open before it and the event before has the place `last`
 pub record Stands (deep d last : ℕ) (held : List ℕ) (e : Event) : Type 0 where

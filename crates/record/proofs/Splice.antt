@@ -13,7 +13,7 @@ use native.Mathlib.Nat.{add-zero, zero-add, add-suc, suc-add}
 use lib.ListN.{length, getD, set, take, drop, replicate, drop-of-length-le}
 use borrow.Author.Fill.{fill-more}
 use Rattle.record.specs.Bytes.{Wrote}
-use lib.Seq.{sets, length-sets, sets-eq, take-suc, length-take-le, take-length}
+use lib.Seq.{sets, length-sets, sets-eq, take-suc, length-take-le}
 
 pub sets-append : (d : List ℕ) (i : ℕ) (xs ys : List ℕ) → sets d i (xs ++ ys) ≡ sets (sets d i xs) (i + length xs) ys
 sets-append d i [] ys = ap (λ (k : ℕ). sets d k ys) (sym (add-zero i))

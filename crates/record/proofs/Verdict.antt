@@ -3,20 +3,18 @@
 use mathlib.Core.Path.{_≡_, refl, ap, subst}
 use mathlib.Core.Bool.{Bool, true, false}
 use mathlib.Core.Logic.{_⊎_, inl, inr, ⊎-elim}
-use mathlib.Core.List.{List, [], _∷_}
-use Prim.Native.Nat.{ℕ, zero, suc, _+_, _*_, _≤_, _<_}
+use mathlib.Core.List.{List, _∷_}
+use Prim.Native.Nat.{ℕ, zero, suc, _+_, _≤_, _<_}
 use native.Mathlib.Omega.{arith}
-use lib.ListN.{length, getD}
+use lib.ListN.{length}
 use lib.Dec.{leb, ltb, eqb}
-use borrow.Author.Tests.{leb-true, leb-false, ltb-true, ltb-false, eqb-true, eqb-false}
+use borrow.Author.Tests.{leb-true, leb-false, ltb-false, eqb-true, eqb-false}
 use Rattle.record.specs.Choice.{choose, and}
-use Rattle.record.specs.Bytes.{u32At}
 use Rattle.record.specs.Event.{storedAt, allStoredAt, eventAt}
-use Rattle.record.specs.Stack.{innermost, none, outer, fitsOpen, after}
+use Rattle.record.specs.Stack.{innermost, none, fitsOpen}
 use Rattle.record.specs.Sound.{placed}
 use Rattle.record.specs.Check.{refuse, formed, judge}
 use Rattle.record.specs.Rows.{placeOf, openNames, placeBefore, Broken, bad-kind, bad-name, bad-zeros, past-document, below-last, no-enter, too-deep}
-use Rattle.record.specs.declared.event.Event.{Event}
 use Rattle.record.specs.declared.check.Reading.{Reading}
 use Rattle.record.proofs.Bools.{and-left, and-right, and-split}
 use Rattle.record.proofs.Soundness.{fits-room, fits-partner}

@@ -1,16 +1,14 @@
 -- The check of a whole record, case by case.
 -- Assumes nothing.
-use mathlib.Core.Path.{_≡_, refl, sym, ap, _∙_}
+use mathlib.Core.Path.{_≡_}
 use mathlib.Core.List.{List, []}
 use Prim.Native.Nat.{ℕ, _+_, _*_, _≤_, _<_}
 use lib.ListN.{length}
 use borrow.Author.Tests.{lt-ltb, le-ltb, eq-eqb, ne-eqb}
 use Rattle.record.specs.Choice.{choose}
 use Rattle.record.specs.Event.{allStoredAt}
-use Rattle.record.specs.Check.{refuse, countAt, fitting, firstReturn, judge, insideOf, endOf, eventCountOf, checked, admitted}
-use Rattle.record.specs.declared.check.Count.{Count}
+use Rattle.record.specs.Check.{refuse, countAt, firstReturn, judge, insideOf, endOf, eventCountOf, checked, admitted}
 use Rattle.record.specs.declared.check.Count.the-variants.{Fits, Misfit}
-use Rattle.record.specs.declared.check.Reading.{Reading}
 use Rattle.record.specs.declared.check.Reading.the-variants.{Good}
 
 module _ (s : List ℕ) where

@@ -1,6 +1,5 @@
 -- `script::number` is safe and ends. The measure is what is left of the text.
 -- Assumes nothing.
-use mathlib.Core.Path.{_≡_}
 use Prim.Native.Nat.{_≤_, _<_, _-_}
 use lib.ListN.{length}
 use borrow.Author.Needs.{needs}

@@ -1,7 +1,6 @@
 -- `script::run_of` is safe, ends, and answers a place that is there. The measure is what is left of the text.
 -- Assumes nothing.
-use mathlib.Core.Path.{_≡_}
-use Prim.Native.Nat.{_≤_, _<_, _-_}
+use Prim.Native.Nat.{_≤_, _-_}
 use lib.ListN.{length}
 use borrow.Author.Needs.{needs}
 use Rattle.script.proofs.run_of.Statement.{statement}

@@ -1,6 +1,5 @@
 -- `attention::call::finish` meets its contract: each return is a case of the definition.
 -- Assumes nothing.
-use mathlib.Core.Path.{refl}
 use Rattle.attention.proofs.Calls.{finished-refused, finished-written}
 use borrow.Author.Needs.{needs}
 use Rattle.attention.proofs.call.finish.Statement.{statement}

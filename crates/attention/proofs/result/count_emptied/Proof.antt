@@ -4,7 +4,6 @@
 use mathlib.Core.Path.{sym, _∙_}
 use mathlib.Core.Logic.{⊎-elim}
 use Prim.Native.Nat.{_-_}
-use native.Mathlib.Omega.{arith}
 use Rattle.attention.proofs.Counting.{Counting, start, counted, passed, counted-all}
 use borrow.Author.Needs.{needs}
 use Rattle.attention.proofs.result.count_emptied.Statement.{statement}

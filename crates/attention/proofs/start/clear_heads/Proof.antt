@@ -1,6 +1,6 @@
 -- `attention::start::clear_heads` meets its contract. The invariant: the chains below k are empty and the slots stand; the measure is what is left.
 -- Assumes nothing.
-use mathlib.Core.Path.{_≡_, refl}
+use mathlib.Core.Path.{refl}
 use Prim.Native.Nat.{_≤_, _-_}
 use native.Mathlib.Omega.{arith}
 use Rattle.attention.specs.Start.{Cleared}

@@ -1,6 +1,6 @@
 -- `taking::amount`: each way out is a case of the definition.
 -- Assumes nothing.
-use mathlib.Core.Path.{sym, _∙_}
+use mathlib.Core.Path.{sym}
 use Rattle.chains.proofs.Pops.{amount-few, amount-one, amount-two}
 use borrow.Author.Needs.{needs}
 use Rattle.chains.proofs.taking.amount.Statement.{statement}

@@ -2,14 +2,14 @@
 -- Invariant of the loop over the runs: the whole answer is the answer from here on, links fall and numbers are in range. Measure: the runs left.
 -- Invariant of the loop down a chain: what the search finds is what it finds from p on. Measure: p, as links fall.
 -- Assumes nothing.
-use Prim.Native.Nat.{ℕ, _+_, _-_, _≤_}
+use Prim.Native.Nat.{_+_, _-_, _≤_}
 use mathlib.Core.Path.{_≡_, _∙_, sym}
 use mathlib.Core.Logic.{⊎-elim}
 use native.Mathlib.Omega.{arith}
 use Rattle.runs.specs.Rule.{ruleFor}
 use Rattle.runs.specs.Plain.{miss}
 use Rattle.slots.specs.Layout.{chainOf}
-use Rattle.chains.specs.Walk.{seek, Sound}
+use Rattle.chains.specs.Walk.{seek}
 use Rattle.chains.proofs.Steps.{Outer, Inner, inner-start, inner-again, inner-found, inner-none, outer-start, outer-again, outer-end, outer-found, seek-not}
 use Rattle.chains.proofs.walk.next_match.Statement.{statement}
 use Rattle.chains.proofs.walk.next_match.Tie as tie

@@ -2,11 +2,11 @@
 -- Invariant and measure: Handling.antt.
 -- Assumes nothing.
 use Prim.Native.Nat.{_-_}
-use mathlib.Core.Path.{sym, _∙_, ap}
+use mathlib.Core.Path.{sym, _∙_}
 use native.Mathlib.Omega.{arith}
 use borrow.Author.Needs.{needs}
 use Rattle.runs.specs.Rule.{ruleFor}
-use Rattle.matcher.proofs.Handling.{Keeps, Going, going-start, going-sound, going-done, done-few, match-few, closer-below, going-full, going-takable, going-again, going-begun, going-small}
+use Rattle.matcher.proofs.Handling.{Keeps, going-start, going-sound, going-done, done-few, match-few, closer-below, going-full, going-takable, going-again, going-begun, going-small}
 use Rattle.matcher.proofs.Ways.{done-way, full-way, again-way}
 use Rattle.matcher.proofs.closers.handle_closer.Statement.{statement}
 use Rattle.matcher.proofs.closers.handle_closer.Tie as tie

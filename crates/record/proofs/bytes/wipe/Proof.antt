@@ -1,13 +1,7 @@
-use mathlib.Core.Path.{_≡_, _∙_, ap}
-use mathlib.Core.List.{_++_, append-nil}
-use Prim.Native.Nat.{ℕ, _≤_, _-_}
-use native.Mathlib.Omega.{arith}
-use native.Mathlib.Nat.{le-antisymm}
-use lib.ListN.{length, drop, replicate, length-set, drop-of-length-le}
-use borrow.Author.Fill.{fill-none, fill-more}
+use mathlib.Core.Path.{_≡_}
+use Prim.Native.Nat.{_≤_, _-_}
+use lib.ListN.{length}
 use borrow.Author.Needs.{needs}
-use mathlib.Core.List.{List}
-use lib.ListN.{set}
 use Rattle.record.proofs.Splice.{Filled, fill-start, fill-turn, fill-done}
 use Rattle.record.proofs.bytes.wipe.Statement.{statement}
 use Rattle.record.proofs.bytes.wipe.Tie as tie
