@@ -1,7 +1,7 @@
 // A match: the runs between lose open, markers are taken from both sides, and the group is written down.
 
 ghost use mathlib.Core.Path.{_≡_};
-ghost use Prim.Native.Nat.{_<_, _≤_};
+ghost use Prim.Native.Nat.{_<_};
 ghost use Rattle.runs.specs.Plain.{amount as amountOf};
 ghost use Rattle.slots.specs.Layout.{Room, chainOf};
 ghost use Rattle.chains.specs.Step.{unchained, popped, cleared, leaves, lowered, joined, matchedAt, Ranged, Takable};

@@ -4,7 +4,7 @@ use runs::Next;
 use runs::eligible;
 ghost use mathlib.Core.Path.{_≡_};
 ghost use mathlib.Core.Bool.{_||_};
-ghost use Prim.Native.Nat.{_+_, _-_, _<_, _≤_};
+ghost use Prim.Native.Nat.{_+_, _-_, _<_};
 ghost use Rattle.runs.specs.Rule.{ruleFor};
 ghost use Rattle.slots.specs.Layout.{Room, chainOf};
 ghost use Rattle.chains.specs.Walk.{closing as closingAt, opening as openingAt, bothAt, takesAt, first as firstOf, passed, raised, onward, Sound};

@@ -9,7 +9,7 @@ use lines::spaces::Spaces;
 ghost use mathlib.Core.Path.{_≡_};
 ghost use Rattle.scan.specs.Line.{flag};
 ghost use Rattle.lines.specs.Item.{markOf};
-ghost use Rattle.ledgerlark.specs.Answers.{kindOf, containerOf, spacesOf, itemOf, goingOf, headedOf, SpacesAs, ItemAs, GoingAs, HeadedAs};
+ghost use Rattle.ledgerlark.specs.Answers.{kindOf, spacesOf, itemOf, goingOf, headedOf, SpacesAs, ItemAs, GoingAs, HeadedAs};
 
 #[repr(C)]
 pub struct LarkSpaces {

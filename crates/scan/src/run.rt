@@ -3,7 +3,7 @@
 // The scan of spaces and tabs serves indentation, the space after a list marker and continuation. Its promise is what it finds, not how.
 
 ghost use mathlib.Core.Path.{_≡_};
-ghost use lib.ListN.{length, getD};
+ghost use lib.ListN.{getD};
 ghost use Rattle.scan.specs.Run.{spaceOrTab, leading, digit, hash, filled, blanksUpTo, indentation};
 
 // Whether a byte is a space or a tab.
