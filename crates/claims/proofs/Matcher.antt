@@ -37,13 +37,18 @@ none-offended : (o : Option ℕ) (all es : List Event) → unlessOffended o all 
 none-offended none all es q = refl
 none-offended (some j) all es q = let z : _≡_ {A = ℕ} 0 1 = cc in absurd (omega arith)
 
+-- what attention makes of a record is the output
+pub made-output : (s : List ℕ) (options : ℕ) (es : List Event) → attention options (docOf s) (allEvents s) ≡ gives es → es ≡ output crate options (docOf s) (allEvents s)
+unfolding attention
+made-output s options es q = the-output (offender (docOf s) options (allEvents s)) (output crate options (docOf s) (allEvents s)) es q
+
 pub accepted-as-the-plain-rule : AcceptedAsThePlainRule
 unfolding attention
 accepted-as-the-plain-rule s options out work r out′ work′ p z =
     let a = attention-claim s options .accepts out work r out′ work′ p z in
     let none = attention-claim s options .exactly out work r out′ work′ p .none-holds z in
     let good = no-row-sound s options (length work) (λ n q x. none n q (by-check x)) in
-    let same = the-output (offender (docOf s) options (allEvents s)) (output crate options (docOf s) (allEvents s)) (a .events) (a .made-so) in
+    let same = made-output s options (a .events) (a .made-so) in
     record {
       record-good =
           record {

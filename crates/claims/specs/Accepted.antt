@@ -1,22 +1,39 @@
--- What is true of accepted headings and lists, in words that need no look at the resolvers: what is written is sound over the same document, so
--- that nothing in it crosses, and what the record had is kept. Attention's part of this is on the page of demand 3.
--- proofs/Accepted.antt proves both.
+-- What is true of the three resolvers where they accept, in words that need no look at them: what is written is sound over the same document, so
+-- that nothing in it crosses, and what the record had beside is kept. proofs/Accepted.antt proves it. What is true of attention's groups is on the
+-- page of demand 3.
 -- Assumes nothing.
 use Prim.Native.Nat.{ℕ}
 use mathlib.Core.Path.{_≡_}
 use mathlib.Core.Bool.{true}
 use mathlib.Core.List.{List}
+use lib.ListN.{length}
 use Rattle.record.specs.Rows.{documentCount}
 use Rattle.record.specs.Sound.{sound}
+use Rattle.runs.specs.Rule.{crate}
+use Rattle.runs.specs.Pieces.{outcome as matching}
+use Rattle.output.specs.Others.{others, Among}
+use Rattle.attention.specs.Attention.{attention}
 use Rattle.heading.specs.Headings.{headings}
 use Rattle.heading.specs.Outside.{outside}
 use Rattle.list.specs.Lists.{lists}
 use Rattle.list.specs.Listing.{Listing}
-use Rattle.ledgerlark.specs.Answers.{HeadingsAs, ListsAs}
+use Rattle.ledgerlark.specs.Answers.{AttentionAs, HeadingsAs, ListsAs}
 use Rattle.ledgerlark.specs.declared.resolve.LarkResolved.{LarkResolved}
 use Rattle.claims.specs.Records.{docOf, allEvents, Accepts}
 
--- the result is sound, at most one event deeper than a record may be, and its events outside headings are those of the record
+-- attention: the result is sound, with room for all of its events to be open, and the events that are no run's are there, in their order
+pub record AttentionNests (s : List ℕ) (options : ℕ) (out : List ℕ) (r : LarkResolved) (out′ : List ℕ) : Type 0 where
+  pub accepted : Accepts (attention options (docOf s) (allEvents s)) (length (matching crate options (docOf s) (allEvents s) .groups))
+      (matching crate options (docOf s) (allEvents s) .tried) out r out′
+  pub nests : sound (length (accepted .events)) (documentCount s) (accepted .events) ≡ true
+  pub kept : Among (others (allEvents s)) (accepted .events)
+
+abbrev pub AcceptedAttention : Type 0
+AcceptedAttention =
+    (s : List ℕ) (options : ℕ) (out work : List ℕ) (r : LarkResolved) (out′ work′ : List ℕ) →
+    AttentionAs s options out work r out′ work′ → r .number ≡ 0 → AttentionNests s options out r out′
+
+-- headings: the result is sound, at most one event deeper than a record may be, and its events outside headings are those of the record
 pub record HeadingsNest (s out : List ℕ) (r : LarkResolved) (out′ : List ℕ) : Type 0 where
   pub accepted : Accepts (headings (allEvents s)) 0 0 out r out′
   pub nests : sound 65 (documentCount s) (accepted .events) ≡ true
@@ -27,7 +44,7 @@ AcceptedHeadings =
     (s : List ℕ) (options : ℕ) (out work : List ℕ) (r : LarkResolved) (out′ work′ : List ℕ) →
     HeadingsAs s options out work r out′ work′ → r .number ≡ 0 → HeadingsNest s out r out′
 
--- the result is sound, at most twice as deep as a record may be, and it is the record's events with lists added, each round an item
+-- lists: the result is sound, at most twice as deep as a record may be, and it is the record's events with lists added, each round an item
 pub record ListsNest (s out : List ℕ) (r : LarkResolved) (out′ : List ℕ) : Type 0 where
   pub accepted : Accepts (lists (docOf s) (allEvents s)) 0 0 out r out′
   pub nests : sound 128 (documentCount s) (accepted .events) ≡ true

@@ -8,8 +8,8 @@
 -- closer, its chain from the head; `chained` (crates/matcher/specs/Along.antt) goes on by it closer by closer. Three contracts say that this is
 -- what is done: `next_match` (crates/chains/src/walk.rt) is equal to `onward`, and `handle_closer` and `find_groups` (crates/matcher/src/closers.rt)
 -- to `closerBy` and `chained`, each in answer and memory. That only chains are looked at is in the first: its premises say nothing of slots off
--- the chain. That the other two find their groups by it is seen in their bodies: on memory that is as they require, a search over all runs would
--- come to the same. What their promises, `Handles` and `Answers`, say is drawn out here.
+-- the chain. That the functions above it, up to the call, find their groups by it is seen in their bodies: on memory that is as they require, a
+-- search over all runs would come to the same. What the promises of those two, `Handles` and `Answers`, say is drawn out here.
 --
 -- First the call: what it reports and writes, and that nothing crosses. Then the matcher, from the memory that a record's runs are loaded into,
 -- closer by closer: its groups, and its chains. These are the statements; proofs/Matcher.antt proves each under the name in small letters.
@@ -31,10 +31,8 @@ use Rattle.groups.specs.Theorems.{groupsOf}
 use Rattle.groups.specs.Matches.{begin}
 use Rattle.groups.specs.Spans.{Held, NeverCross}
 use Rattle.groups.specs.Containers.{NeverCrosses, OneContainer}
-use Rattle.groups.proofs.Theorems as groups
 use Rattle.output.specs.Accepted.{Accepted}
 use Rattle.output.specs.Tiling.{allPieces, holding, Marker}
-use Rattle.output.proofs.MarkerBytes as pieces
 use Rattle.attention.specs.Start.{Cleared}
 use Rattle.ledgerlark.specs.Answers.{AttentionAs}
 use Rattle.ledgerlark.specs.declared.resolve.LarkResolved.{LarkResolved}

@@ -12,7 +12,6 @@ use Rattle.record.specs.Rows.{Row, documentCount, eventCount}
 use Rattle.record.specs.Written.{WrittenRow}
 use Rattle.record.specs.Outcome.{Resolution, gives, onto, bytesWritten}
 use Rattle.record.specs.declared.event.Event.{Event}
-use Rattle.record.proofs.Exactly.{exactly}
 use Rattle.runs.specs.Rule.{crate}
 use Rattle.runs.specs.Pieces.{outcome as matching}
 use Rattle.attention.specs.Attention.{attention}

@@ -41,7 +41,7 @@ unfoldable pub formed : Stored → ℕ → ℕ → Bool
 formed v d last = and (eqb (v .zeros) 0) (placed (v .what) d last)
 
 -- the events one by one, the first of them at a place of the record: the first that breaks a rule is refused there, and where none does,
--- events left open are refused at the record's end
+-- events left open are refused at the record's end. Amendment D18: the standard sets no limit to depth
 unfoldable pub judge : List Stored → ℕ → ℕ → ℕ → List ℕ → Reading → Reading
 judge [] d at last held good = choose (none held) good (refuse 5 at)
 judge (v ∷ vs) d at last held good =
@@ -60,6 +60,7 @@ insideOf s d e =
 unfoldable pub endOf : List ℕ → ℕ → ℕ → Reading
 endOf s d e = choose (eqb (length s) (8 + d + 8 * e)) (insideOf s d e) (refuse 3 (8 + d + 8 * e))
 
+-- Amendment D18 here and in `checked`: the standard sets no limit to a document or its events
 unfoldable pub eventCountOf : List ℕ → ℕ → Reading
 eventCountOf s d = fitting (countAt s (4 + d) 2048 8) (refuse 3 (4 + d)) (λ e. endOf s d e)
 

@@ -25,7 +25,7 @@ pub data Outcome : Type 0 where
 abbrev pub refusing : ℕ → ℕ → Outcome
 refusing number place = refused (record { number = number; place = place })
 
--- "result over 8,000 events", "output shorter than 4 + 8 × result"; `outs` is the output's length
+-- "result over 8,000 events" (amendment D18), "output shorter than 4 + 8 × result"; `outs` is the output's length
 unfoldable pub sized : List Event → ℕ → Outcome
 sized es outs =
     choose (ltb 8000 (length es)) (refusing 7 0)

@@ -26,7 +26,7 @@ lineOf s = take (endOf s) s
 abbrev pub refusal : ℕ → ℕ → Refusal
 refusal number place = record { number = number; place = place }
 
--- "options over 63", "a line over 16,384 bytes", "a carriage return in the .. line"; "3 and 4 look past" the line feed
+-- "options over 63", "a line over 16,384 bytes" (amendment D18), "a carriage return in the .. line"; "3 and 4 look past" the line feed
 unfoldable pub checkedLine : List ℕ → ℕ → Checked
 checkedLine s options =
     choose (ltb 63 options) (Bad (refusal 2 0))
