@@ -6,7 +6,7 @@ use mathlib.Core.Bool.{Bool, true, false, not}
 use mathlib.Core.List.{List, [], _∷_}
 use native.Mathlib.Omega.{arith}
 use lib.ListN.{length, getD}
-use lib.Dec.{eqb, ltb}
+use lib.Dec.{ltb}
 use borrow.Author.Tests.{eq-eqb, ne-eqb, eqb-true, lt-ltb, ltb-true, ltb-false, not-true}
 use Rattle.record.specs.Choice.{choose, and}
 use Rattle.record.specs.Options.{optionOn}
@@ -14,6 +14,7 @@ use Rattle.record.specs.Event.{event, exit}
 use Rattle.record.specs.declared.event.Event.{Event}
 use Rattle.record.proofs.Bools.{and-left, and-right, and-both, clash}
 use Rattle.runs.specs.Runs.{isMarker, allowed, leftAtOnce, allAre, isByte, byteAt, runBetween, shaped}
+use Rattle.runs.proofs.Marks.{Mark, star as a-star, line as a-line, tilde as a-tilde, mark}
 use Rattle.attention.specs.Shape.{Marker, star, line, tilde, Shape}
 
 -- a scan over bytes that are all one says so of each, and the other way round
@@ -36,14 +37,11 @@ alike-all (suc n) marker doc at f =
     and-both _ _ (eq-eqb _ _ (f at (omega arith) (omega arith))) (alike-all n marker doc (at + 1) (λ i l h. f i (omega arith) (omega arith)))
 
 -- a marker whose option is on, as two tests
-known-marker : (options m : ℕ) → isMarker m ≡ true → allowed options m ≡ true → Marker options m
-unfolding isMarker allowed optionOn choose
-known-marker options m k a = go (eqb m 42) (eqb m 95) refl refl
-  where
-    go : (x y : Bool) → eqb m 42 ≡ x → eqb m 95 ≡ y → Marker options m
-    go true y p q = let e : m ≡ 42 = eqb-true m 42 p in rw e (star (eqb-true _ _ (rw e at a)))
-    go false true p q = let e : m ≡ 95 = eqb-true m 95 q in rw e (line (eqb-true _ _ (rw e at a)))
-    go false false p q = let e : m ≡ 126 = eqb-true m 126 (rw (p, q) at k) in rw e (tilde (eqb-true _ _ (rw e at a)))
+known-marker : (options m : ℕ) → Mark m → allowed options m ≡ true → Marker options m
+unfolding allowed optionOn choose
+known-marker options m a-star a = star (eqb-true _ _ a)
+known-marker options m a-line a = line (eqb-true _ _ a)
+known-marker options m a-tilde a = tilde (eqb-true _ _ a)
 
 marker-tested : {options m : ℕ} → Marker options m → (isMarker m ≡ true) × (allowed options m ≡ true)
 unfolding isMarker allowed optionOn choose
@@ -85,7 +83,7 @@ module _ (doc : List ℕ) (options : ℕ) (e : Event) where
         marker = m;
         left-at-once = ap (λ (y : Event). y ∷ es) (exits-run x (eqb-true _ _ (and-left _ _ left)) (eqb-true _ _ (and-right _ _ left)));
         later = later;
-        known = known-marker options m (and-left _ _ q₂) (and-right _ _ q₄);
+        known = known-marker options m (mark m (and-left _ _ q₂)) (and-right _ _ q₄);
         all-alike = λ i l h. each-alike (x .place - e .place) m doc (e .place) (and-left _ _ q₃) i l (omega arith);
         ends-there = λ h b. clash (is-byte m doc (x .place) h b) (not-true _ (and-left _ _ q₄));
       }

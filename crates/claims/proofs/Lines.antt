@@ -5,10 +5,10 @@ use native.Mathlib.Omega.{arith}
 use mathlib.Core.Path.{_≡_, refl, sym, ap, _∙_}
 use mathlib.Core.Bool.{Bool, true, false}
 use mathlib.Core.List.{List, []}
-use lib.ListN.{length, take, drop}
+use lib.ListN.{length}
 use lib.Dec.{leb, ltb}
 use borrow.Author.Tests.{ltb-false}
-use Rattle.record.proofs.Output.{onto-bytes, onto-rest, onto-none}
+use Rattle.record.proofs.Output.{onto-none}
 use Rattle.record.proofs.Sections.{length-section}
 use Rattle.record.specs.Event.{sectionBytes}
 use Rattle.record.specs.declared.event.Event.{Event}
@@ -41,6 +41,7 @@ use Rattle.ledgerlark.specs.declared.line.LarkItem.{LarkItem}
 use Rattle.ledgerlark.specs.declared.line.LarkGoing.{LarkGoing}
 use Rattle.ledgerlark.specs.declared.line.LarkHeaded.{LarkHeaded}
 use Rattle.claims.specs.Told.{Told}
+use Rattle.claims.proofs.Records.{seam}
 use Rattle.claims.specs.Lines.{LineClaim, spacesRefusal, SpacesClaim, itemRefusal, ItemClaim, goingRefusal, GoingClaim, MarkDoesNotShow, headedRefusal, HeadingClaim}
 
 -- from the reader's own "exactly when": `numbers` reads an answer and `refuse` is a refusal; what has a number is a refusal, what is no refusal has
@@ -198,10 +199,6 @@ headed-whole : (a : Headed) → 0 < headedNumbers a .number → headedNumbers a 
 headed-whole (Heading events) h = absurd (omega arith)
 headed-whole NotHeading h = absurd (omega arith)
 headed-whole (HeadedRefused x) h = refl
-
-seam : (bs out o : List ℕ) → o ≡ onto bs out → (take (length bs) o ≡ bs) × (drop (length bs) o ≡ drop (length bs) out)
-seam bs out o e =
-    (ap (λ (l : List ℕ). take (length bs) l) e ∙ onto-bytes bs out, ap (λ (l : List ℕ). drop (length bs) l) e ∙ onto-rest bs out)
 
 writing-number : {s : List ℕ} {options outs n p : ℕ} → WritingRow s options outs n p → 0 < n
 writing-number (reading-row r) = row-number r

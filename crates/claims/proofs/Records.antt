@@ -5,7 +5,7 @@ use native.Mathlib.Omega.{arith}
 use mathlib.Core.Path.{_≡_, refl, sym, ap, _∙_}
 use mathlib.Core.Bool.{Bool, true, false}
 use mathlib.Core.List.{List}
-use lib.ListN.{length, replicate}
+use lib.ListN.{length, take, drop, replicate}
 use lib.Dec.{leb}
 use borrow.Author.Tests.{leb-true, leb-false}
 use Rattle.record.specs.Check.{admitted, refuse}
@@ -14,7 +14,7 @@ use Rattle.record.specs.Sound.{sound}
 use Rattle.record.specs.Rows.{Row, row-1, row-2, row-3, row-4, row-5, documentCount, eventCount}
 use Rattle.record.specs.Written.{WrittenRow, by-check, row-6, row-7, row-8, ExactlyWritten}
 use Rattle.record.specs.Outcome.{Outcome, accepted, refused, refusing, Resolution, outcome, onto, bytesWritten}
-use Rattle.record.specs.Promise.{Writes, writes-determined, writes-same-answer, writes-same-work, writes-same-bytes, writes-keep-rest}
+use Rattle.record.specs.Promise.{Writes}
 use Rattle.record.specs.declared.check.Reading.{Reading}
 use Rattle.record.specs.declared.check.Reading.the-variants.{Good, Refused}
 use Rattle.record.specs.declared.event.Event.{Event}
@@ -22,7 +22,7 @@ use Rattle.record.proofs.Exactly.{exactly}
 use Rattle.record.proofs.Good.{admission}
 use Rattle.record.proofs.Parts.{length-document}
 use Rattle.record.proofs.Sections.{length-section}
-use Rattle.record.proofs.Output.{onto-none}
+use Rattle.record.proofs.Output.{onto-bytes, onto-rest, onto-none}
 use Rattle.attention.specs.Attention.{attention}
 use Rattle.attention.specs.Promise.{resolution as attentionOutcome, answerOf as attentionAnswer}
 use Rattle.attention.specs.Shape.{Offends as RunOffends}
@@ -119,22 +119,29 @@ pub record Reads (groups tried : ℕ) (answers : Outcome → LarkResolved) : Typ
 of-zero : {groups tried : ℕ} {answers : Outcome → LarkResolved} → Reads groups tried answers → (es : List Event) → answers (accepted es) .number ≡ 0
 of-zero reads es = ap (λ (x : LarkResolved). x .number) (reads .of-accepted es)
 
+-- an output that begins with some bytes: they stand in front, and what is behind them is as it was
+pub seam : (bs out o : List ℕ) → o ≡ onto bs out → (take (length bs) o ≡ bs) × (drop (length bs) o ≡ drop (length bs) out)
+seam bs out o e =
+    (ap (λ (l : List ℕ). take (length bs) l) e ∙ onto-bytes bs out, ap (λ (l : List ℕ). drop (length bs) l) e ∙ onto-rest bs out)
+
 writes-isolated : {comes : ℕ → ℕ → Outcome} {answers : Outcome → LarkResolved} {out₁ out₂ work₁ work₂ : List ℕ} {r₁ r₂ : LarkResolved}
     {o₁ o₂ w₁ w₂ : List ℕ} →
     length out₁ ≡ length out₂ → length work₁ ≡ length work₂ → Writes comes answers out₁ work₁ r₁ o₁ w₁ → Writes comes answers out₂ work₂ r₂ o₂ w₂ →
     Isolated (bytesWritten (comes (length out₁) (length work₁))) out₁ out₂ r₁ r₂ o₁ o₂ w₁ w₂
-writes-isolated {comes} {answers} {out₁} {out₂} {work₁} {work₂} eo ew p q =
+writes-isolated {comes} {answers} {out₁} {out₂} {work₁} {work₂} {o₁ = o₁} {o₂ = o₂} eo ew p q =
+    let same : comes (length out₁) (length work₁) ≡ comes (length out₂) (length work₂) = cc in
+    let there : o₂ ≡ onto (bytesWritten (comes (length out₁) (length work₁))) out₂ =
+    q .output ∙ sym (ap (λ (o : Outcome). onto (bytesWritten o) out₂) same) in
+    let one = seam (bytesWritten (comes (length out₁) (length work₁))) out₁ o₁ (p .output) in
+    let two = seam (bytesWritten (comes (length out₁) (length work₁))) out₂ o₂ there in
     record {
-      answer = writes-same-answer eo ew p q;
-      first = writes-same-bytes eo ew p q _ refl .0;
-      second = writes-same-bytes eo ew p q _ refl .1;
-      first-kept = writes-keep-rest eo ew p q _ refl;
-      second-kept = writes-keep-rest (sym eo) (sym ew) q p _ both;
-      work = writes-same-work eo ew p q;
+      answer = p .answer ∙ ap answers same ∙ sym (q .answer);
+      first = one .0;
+      second = two .0;
+      first-kept = one .1;
+      second-kept = two .1;
+      work = p .wiped ∙ ap (λ (n : ℕ). replicate n 0) ew ∙ sym (q .wiped);
     }
-  where
-    both : bytesWritten (comes (length out₁) (length work₁)) ≡ bytesWritten (comes (length out₂) (length work₂))
-    both = cc
 
 keeps : {groups tried : ℕ} {comes : ℕ → ℕ → Outcome} {answers : Outcome → LarkResolved} {out work : List ℕ} {r : LarkResolved} {out′ work′ : List ℕ} →
     Reads groups tried answers → (o : Outcome) → comes (length out) (length work) ≡ o → Writes comes answers out work r out′ work′ → 0 < r .number → out′ ≡ out
@@ -206,7 +213,7 @@ claimed : (comes : ℕ → ℕ → Outcome) (answers : Outcome → LarkResolved)
     (λ outs works. bytesWritten (comes outs works))
 claimed comes answers s options Offends resolve groups tried reads e x =
     record {
-      unique = λ out work r₁ r₂ o₁ o₂ w₁ w₂ p q. writes-determined p q;
+      unique = λ out work r₁ r₂ o₁ o₂ w₁ w₂ p q. (p .answer ∙ sym (q .answer), p .output ∙ sym (q .output), p .wiped ∙ sym (q .wiped));
       isolated = λ out₁ out₂ work₁ work₂ r₁ r₂ o₁ o₂ w₁ w₂ eo ew p q. writes-isolated eo ew p q;
       exactly = λ out work r out′ work′ a. told reads (e (length out) (length work)) (x (length out) (length work)) a;
       refusal-writes-nothing = λ out work r out′ work′ a h. no-refusal-writes reads a h;

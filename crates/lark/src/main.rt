@@ -60,18 +60,18 @@ fn call_of(command: &[u8]) -> OnRecord {
     OnRecord::Unknown
 }
 
-// What a command on a record takes: only what a resolver answers can be had as text.
-fn taken_by(command: &[u8]) -> u8 {
-    if same(command, b"read") {
-        return FILE;
+// What a call on a record takes: only what a resolver answers can be had as text.
+fn taken_by(call: Call) -> u8 {
+    match call {
+        Call::Read => FILE,
+        Call::Resolve(_) => FILE_OF_EVENTS,
     }
-    FILE_OF_EVENTS
 }
 
 // The commands on a record.
 fn run_on_record(command: &[u8], next: usize) -> u8 {
     if let OnRecord::Is(call) = call_of(command) {
-        return resolve::run(call, arguments(next, taken_by(command)));
+        return resolve::run(call, arguments(next, taken_by(call)));
     }
     if next == 0 {
         return WRONG;

@@ -1,12 +1,13 @@
 -- Why the event tree is the right one: a sound list of events is the events of its tree, and the tree of a row's events is that row. So the
 -- tree of a sound list is the one row whose events they are.
 -- Assumes nothing.
-use Prim.Native.Nat.{ℕ, zero, suc, _≤_}
+use Prim.Native.Nat.{ℕ, zero, suc, _+_, _-_, _≤_}
 use mathlib.Core.Path.{_≡_, refl, sym, ap, _∙_}
-use mathlib.Core.Bool.{true}
+use mathlib.Core.Bool.{Bool, true, false}
 use mathlib.Core.Logic.{_⊎_, inl, inr}
 use mathlib.Core.List.{List, [], _∷_}
 use native.Mathlib.Omega.{arith}
+use lib.Dec.{eqb}
 use borrow.Author.Tests.{eq-eqb, ne-eqb}
 use Rattle.record.specs.Choice.{choose}
 use Rattle.record.specs.Event.{event, enter, exit}
@@ -16,6 +17,7 @@ use Rattle.record.specs.declared.event.Event.{Event}
 use Rattle.record.proofs.Soundness.{Stands, stands, sound-rest, after-enter, after-exit}
 use Rattle.list.specs.Tree.{Row, pair, written, Rest, ends, leaves, entering, restOf, rowOf, treeOf, TreeWritten, TreeUnique}
 use Rattle.list.specs.Tree as tree
+use Rattle.list.specs.Listing.{openItems, SameNumberOpen}
 
 -- the events of a rest, and the names of the pairs that it leaves, the innermost first
 unfoldable pub unread : Rest → List Event
@@ -100,3 +102,19 @@ read-back (pair n from to inside next) =
 pub tree-unique : TreeUnique
 unfolding treeOf
 tree-unique row = ap rowOf (read-back row .at-end)
+
+-- whole pairs leave as many items open as before
+pub same-number-open : SameNumberOpen
+unfolding written openItems choose
+same-number-open n tree.none es = refl
+same-number-open n (pair name from to inside next) es = go (eqb name 15) refl
+    (λ m. same-number-open m inside (exit name to ∷ written next es))
+    (same-number-open n next es)
+  where
+    go : (z : Bool) → eqb name 15 ≡ z → ((m : ℕ) → openItems m (written inside (exit name to ∷ written next es)) ≡ openItems m (exit name to ∷ written next es)) →
+        openItems n (written next es) ≡ openItems n es →
+        openItems n (enter name from ∷ written inside (exit name to ∷ written next es)) ≡ openItems n es
+    go true z held later =
+        let k : n + 1 - 1 ≡ n = omega arith in
+        rw (z, held (n + 1), z, k) later
+    go false z held later = rw (z, held n, z) later

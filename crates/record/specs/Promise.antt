@@ -1,11 +1,10 @@
--- What public calls promise. `read` has its promise here; every call that writes a section has the other, once for all, and what follows from
--- that one alone: that any two results it allows are equal, and that nothing a buffer held before is in what is answered or written.
+-- What public calls promise. `read` has its promise here; every call that writes a section has the other, once for all. What follows from them
+-- alone, that any two results are equal and that nothing a buffer held shows, is said of the exported calls (crates/claims).
 -- Assumes nothing.
 use Prim.Native.Nat.{ℕ}
-use mathlib.Core.Path.{_≡_, sym, ap, _∙_}
+use mathlib.Core.Path.{_≡_}
 use mathlib.Core.List.{List}
-use lib.ListN.{length, take, drop, replicate}
-use lib.Seq.{take-append-seam, drop-append-seam}
+use lib.ListN.{length, replicate}
 use Rattle.record.specs.Check.{admitted}
 use Rattle.record.specs.Outcome.{Outcome, bytesWritten, onto}
 use Rattle.record.specs.declared.check.Reading.{Reading}
@@ -45,35 +44,3 @@ pub record Writes {A : Type 0} (comes : ℕ → ℕ → Outcome) (answers : Outc
   pub answer : r ≡ answers (comes (length out) (length work))
   pub output : out′ ≡ onto (bytesWritten (comes (length out) (length work))) out
   pub wiped : work′ ≡ replicate (length work) 0
-
--- any two results that the promise allows are equal
-pub writes-determined : {A : Type 0} {comes : ℕ → ℕ → Outcome} {answers : Outcome → A} {out work : List ℕ} {r₁ r₂ : A} {o₁ o₂ w₁ w₂ : List ℕ} →
-    Writes comes answers out work r₁ o₁ w₁ → Writes comes answers out work r₂ o₂ w₂ → (r₁ ≡ r₂) × (o₁ ≡ o₂) × (w₁ ≡ w₂)
-writes-determined p q = (p .answer ∙ sym (q .answer), p .output ∙ sym (q .output), p .wiped ∙ sym (q .wiped))
-
--- two calls with equal lengths, whatever their buffers held: they answer alike, leave the work memory alike, and write the same bytes; and
--- behind these the output is as it was
-module _ {A : Type 0} {comes : ℕ → ℕ → Outcome} {answers : Outcome → A} {out₁ out₂ work₁ work₂ : List ℕ} {r₁ r₂ : A} {o₁ o₂ w₁ w₂ : List ℕ}
-    (eo : length out₁ ≡ length out₂) (ew : length work₁ ≡ length work₂)
-    (p : Writes comes answers out₁ work₁ r₁ o₁ w₁) (q : Writes comes answers out₂ work₂ r₂ o₂ w₂) where
-  same-outcome : comes (length out₁) (length work₁) ≡ comes (length out₂) (length work₂)
-  same-outcome = cc
-
-  pub writes-same-answer : r₁ ≡ r₂
-  writes-same-answer = p .answer ∙ ap answers same-outcome ∙ sym (q .answer)
-
-  pub writes-same-work : w₁ ≡ w₂
-  writes-same-work = p .wiped ∙ ap (λ (n : ℕ). replicate n 0) ew ∙ sym (q .wiped)
-
-  pub writes-same-bytes : (bs : List ℕ) → bs ≡ bytesWritten (comes (length out₁) (length work₁)) → (take (length bs) o₁ ≡ bs) × (take (length bs) o₂ ≡ bs)
-  unfolding onto
-  writes-same-bytes bs e =
-      let e₂ : bs ≡ bytesWritten (comes (length out₂) (length work₂)) = e ∙ ap bytesWritten same-outcome in (
-        ap (λ (l : List ℕ). take (length bs) l) (p .output ∙ ap (λ (l : List ℕ). onto l out₁) (sym e)) ∙ take-append-seam bs (drop (length bs) out₁),
-        ap (λ (l : List ℕ). take (length bs) l) (q .output ∙ ap (λ (l : List ℕ). onto l out₂) (sym e₂)) ∙ take-append-seam bs (drop (length bs) out₂),
-      )
-
-  pub writes-keep-rest : (bs : List ℕ) → bs ≡ bytesWritten (comes (length out₁) (length work₁)) → drop (length bs) o₁ ≡ drop (length bs) out₁
-  unfolding onto
-  writes-keep-rest bs e =
-      ap (λ (l : List ℕ). drop (length bs) l) (p .output ∙ ap (λ (l : List ℕ). onto l out₁) (sym e)) ∙ drop-append-seam bs (drop (length bs) out₁)

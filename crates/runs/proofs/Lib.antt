@@ -1,3 +1,4 @@
 pub mod AsWritten
+pub mod Marks
 pub mod OneChain
 pub mod Firsts

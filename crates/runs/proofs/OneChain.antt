@@ -12,21 +12,7 @@ use Rattle.record.proofs.Bools.{clash}
 use Rattle.runs.specs.Runs.{isMarker}
 use Rattle.runs.specs.Plain.{Standing, sameContainer}
 use Rattle.runs.specs.Chains.{containerNumber, markerNumber, chainNumber, SameChain}
-
--- a marker is one of three
-data Mark : ℕ → Type 0 where
-  star : Mark 42
-  line : Mark 95
-  tilde : Mark 126
-
-mark : (m : ℕ) → isMarker m ≡ true → Mark m
-unfolding isMarker
-mark m e = go (eqb m 42) (eqb m 95) refl refl
-  where
-    go : (a b : Bool) → eqb m 42 ≡ a → eqb m 95 ≡ b → Mark m
-    go true b p q = rw (eqb-true m 42 p) star
-    go false true p q = rw (eqb-true m 95 q) line
-    go false false p q = rw (eqb-true m 126 (rw (p, q) at e)) tilde
+use Rattle.runs.proofs.Marks.{Mark, star, line, tilde, mark}
 
 apart : {a b : ℕ} → Mark a → Mark b → markerNumber a ≡ markerNumber b → a ≡ b
 unfolding markerNumber choose
