@@ -6,16 +6,18 @@ use mathlib.Core.Bool.{Bool, true, false}
 use mathlib.Core.Logic.{_⊎_, inl, inr, ⊎-elim}
 use mathlib.Core.List.{List, []}
 use Prim.Native.Nat.{ℕ, zero, suc, _+_, _*_, _≤_, _<_}
+use native.Mathlib.Nat.{mul-le-mul-left}
 use native.Mathlib.Omega.{arith}
 use lib.ListN.{length, getD}
 use lib.Dec.{leb, ltb, eqb}
 use borrow.Author.Tests.{leb-true, leb-false, ltb-true, ltb-false, eqb-true, eqb-false}
 use Rattle.record.specs.Choice.{choose, and}
 use Rattle.record.specs.Bytes.{u32At}
+use Rattle.record.specs.Form.{Form, old, placeIn, mateIn}
 use Rattle.record.specs.Event.{allStoredAt}
 use Rattle.record.specs.Stack.{none}
-use Rattle.record.specs.Check.{refuse, countAt, fitting, firstReturn, judge, insideOf, endOf, eventCountOf, checked, admitted}
-use Rattle.record.specs.Rows.{Least, documentCount, eventCount, Section, the-document, the-events, Misfits, no-room, over, past, follow, Returns, placeOf, openNames, placeBefore, Broken, Unsound, an-event, left-open, Row, row-1, row-2, row-3, row-4, row-5, Exactly}
+use Rattle.record.specs.Check.{refuse, countAt, fitting, firstReturn, judge, insideOf, endOf, eventCountOf, checkedIn, checked, admitted}
+use Rattle.record.specs.Rows.{Least, documentCountIn, eventCountIn, documentCount, eventCount, Section, the-document, the-events, Misfits, no-room, over, past, follow, Returns, openNames, openNumbers, placeBefore, Broken, Unsound, an-event, left-open, Inner, in-3, in-4, in-5, Row, row-1, row-2, row-3, row-4, row-5, Exactly}
 use Rattle.record.specs.declared.check.Count.{Count}
 use Rattle.record.specs.declared.check.Count.the-variants.{Fits, Misfit}
 use Rattle.record.specs.declared.check.Refusal.{Refusal}
@@ -34,9 +36,9 @@ least-only {R} {n} {p} {m} {q} a b =
     (a .least m q (b .holds))
 
 -- what a check comes to, of the rows R
-pub data Found (R : ℕ → ℕ → Type 0) (s : List ℕ) (r : Reading) : Type 0 where
-  least-row : (n p : ℕ) → r ≡ refuse n p → Least R n p → Found R s r
-  no-row : r ≡ Good (documentCount s) (eventCount s) → ((n p : ℕ) → R n p → ⊥) → Found R s r
+pub data Found (fm : Form) (R : ℕ → ℕ → Type 0) (s : List ℕ) (r : Reading) : Type 0 where
+  least-row : (n p : ℕ) → r ≡ refuse n p → Least R n p → Found fm R s r
+  no-row : r ≡ Good (documentCountIn fm s) (eventCountIn fm s) → ((n p : ℕ) → R n p → ⊥) → Found fm R s r
 
 misfit-test : (b : Bool) (m : ℕ) → choose b (Fits m) Misfit ≡ Misfit → b ≡ false
 unfolding choose
@@ -44,11 +46,11 @@ misfit-test true m q = let z : _≡_ {A = ℕ} 0 1 = cc in absurd (omega arith)
 misfit-test false m q = refl
 
 -- a count that is a misfit is one by row 3
-misfits : (s : List ℕ) (at limit width : ℕ) → Section s at limit width → countAt s at limit width ≡ Misfit → Misfits s at
+misfits : (fm : Form) (s : List ℕ) (at limit width : ℕ) → Section fm s at limit width → countAt s at limit width ≡ Misfit → Misfits fm s at
 unfolding countAt and
-misfits s at limit width sec q = go (leb (at + 4) (length s)) refl (misfit-test _ _ q)
+misfits fm s at limit width sec q = go (leb (at + 4) (length s)) refl (misfit-test _ _ q)
   where
-    go : (z : Bool) → leb (at + 4) (length s) ≡ z → and z (and (leb (u32At s at) limit) (leb (at + 4 + width * u32At s at) (length s))) ≡ false → Misfits s at
+    go : (z : Bool) → leb (at + 4) (length s) ≡ z → and z (and (leb (u32At s at) limit) (leb (at + 4 + width * u32At s at) (length s))) ≡ false → Misfits fm s at
     go true e t =
         let room : at + 4 ≤ length s = leb-true _ _ e in
         ⊎-elim (λ x. over sec room (leb-false _ _ x)) (λ x. past sec room (leb-false _ _ x)) (and-split _ _ t)
@@ -68,19 +70,19 @@ fitted-well s at limit width n f (ill-past h) =
     omega (arith, f .whole)
 
 -- row 3 is at the document's count, at the events' count, or after both sections
-data Where (s : List ℕ) (p : ℕ) : Type 0 where
-  at-document : p ≡ 0 → Ill s 0 16384 1 → Where s p
-  at-events : p ≡ 4 + documentCount s → Ill s (4 + documentCount s) 2048 8 → Where s p
-  at-end : p ≡ 8 + documentCount s + 8 * eventCount s → p < length s → Where s p
+data Where (fm : Form) (s : List ℕ) (p : ℕ) : Type 0 where
+  at-document : p ≡ fm .front → Ill s (fm .front) 16384 1 → Where fm s p
+  at-events : p ≡ 4 + fm .front + documentCountIn fm s → Ill s (4 + fm .front + documentCountIn fm s) 2048 (fm .width) → Where fm s p
+  at-end : p ≡ placeIn fm (documentCountIn fm s) (eventCountIn fm s) → p < length s → Where fm s p
 
-where-is : (s : List ℕ) (p : ℕ) → Misfits s p → Where s p
-where-is s p (no-room (the-document a b c) h) = at-document a (ill-room (rw a at h))
-where-is s p (no-room (the-events w a b c) h) = at-events a (ill-room (rw a at h))
-where-is s p (over (the-document a b c) r h) = at-document a (ill-over (rw (a, b) at h))
-where-is s p (over (the-events w a b c) r h) = at-events a (ill-over (rw (a, b) at h))
-where-is s p (past (the-document a b c) r h) = at-document a (ill-past (rw (a, c) at h))
-where-is s p (past (the-events w a b c) r h) = at-events a (ill-past (rw (a, c) at h))
-where-is s p (follow a h) = at-end a h
+where-is : (fm : Form) (s : List ℕ) (p : ℕ) → Misfits fm s p → Where fm s p
+where-is fm s p (no-room (the-document a b c) h) = at-document a (ill-room (rw a at h))
+where-is fm s p (no-room (the-events w a b c) h) = at-events a (ill-room (rw a at h))
+where-is fm s p (over (the-document a b c) r h) = at-document a (ill-over (rw (a, b) at h))
+where-is fm s p (over (the-events w a b c) r h) = at-events a (ill-over (rw (a, b) at h))
+where-is fm s p (past (the-document a b c) r h) = at-document a (ill-past (rw (a, c) at h))
+where-is fm s p (past (the-events w a b c) r h) = at-events a (ill-past (rw (a, c) at h))
+where-is fm s p (follow a h) = at-end a h
 
 -- a lower bound that is not reached
 strict : (a b : ℕ) → a ≤ b → (a ≡ b → ⊥) → a + 1 ≤ b
@@ -129,171 +131,194 @@ first-least (suc n) s at q h e = go (eqb (getD s at 0) 13) refl (first-least n s
     go false x f = ⊎-elim (λ y. inl y) (λ y. inr (omega arith)) (f (later (eqb at q) refl x) e)
 
 -- where the record ends with its events and event i is the first that is broken, row 5 is nowhere before it
-first-broken : (s : List ℕ) (i : ℕ) → length s ≡ placeOf (documentCount s) (eventCount s) → i < 0 + eventCount s →
-    ((j : ℕ) → 0 ≤ j → j < i → Broken s (documentCount s) j → ⊥) → (q : ℕ) → Unsound s q → placeOf (documentCount s) i ≤ q
-first-broken s i ends l f q (an-event k h b e) = go (leb i k) refl
+first-broken : (fm : Form) (s : List ℕ) (i : ℕ) → length s ≡ placeIn fm (documentCountIn fm s) (eventCountIn fm s) → i < 0 + eventCountIn fm s →
+    ((j : ℕ) → 0 ≤ j → j < i → Broken fm s (documentCountIn fm s) j → ⊥) → (q : ℕ) → Unsound fm s q → placeIn fm (documentCountIn fm s) i ≤ q
+first-broken fm s i ends l f q (an-event k h b e) = go (leb i k) refl
   where
-    go : (z : Bool) → leb i k ≡ z → placeOf (documentCount s) i ≤ q
+    go : (z : Bool) → leb i k ≡ z → placeIn fm (documentCountIn fm s) i ≤ q
     go true x =
-        let y : i ≤ k = leb-true _ _ x in
+        let y : fm .width * i ≤ fm .width * k = mul-le-mul-left (fm .width) (leb-true _ _ x) in
         omega arith
     go false x =
         let y : k < i = leb-false _ _ x in
         absurd (f k (omega arith) y b)
-first-broken s i ends l f q (left-open o e) = omega arith
+first-broken fm s i ends l f q (left-open o e) =
+    let y : fm .width * i ≤ fm .width * eventCountIn fm s = mul-le-mul-left (fm .width) (omega arith) in
+    omega arith
 
 -- where none is broken, it is at the record's end only
-none-broken : (s : List ℕ) → ((j : ℕ) → 0 ≤ j → j < 0 + eventCount s → Broken s (documentCount s) j → ⊥) → (q : ℕ) → Unsound s q →
-    (q ≡ length s) × (none (openNames s (documentCount s) (eventCount s)) ≡ false)
-none-broken s f q (an-event k h b e) = absurd (f k (omega arith) (omega arith) b)
-none-broken s f q (left-open o e) = (e, o)
+none-broken : (fm : Form) (s : List ℕ) → ((j : ℕ) → 0 ≤ j → j < 0 + eventCountIn fm s → Broken fm s (documentCountIn fm s) j → ⊥) → (q : ℕ) → Unsound fm s q →
+    (q ≡ length s) × (none (openNames fm s (documentCountIn fm s) (eventCountIn fm s)) ≡ false)
+none-broken fm s f q (an-event k h b e) = absurd (f k (omega arith) (omega arith) b)
+none-broken fm s f q (left-open o e) = (e, o)
 
-module _ (s : List ℕ) (options works : ℕ) (memory : 65536 ≤ works) (known : options ≤ 63) where
-  at-3 : (p : ℕ) → Misfits s p → ((q : ℕ) → Misfits s q → p ≤ q) → Least (Row s options works) 3 p
-  at-3 p h f = record { holds = row-3 h refl; least = go }
+module _ (fm : Form) (s : List ℕ) where
+  at-3 : (p : ℕ) → Misfits fm s p → ((q : ℕ) → Misfits fm s q → p ≤ q) → Least (Inner fm s) 3 p
+  at-3 p h f = record { holds = in-3 h refl; least = go }
     where
-      go : (m q : ℕ) → Row s options works m q → (3 < m) ⊎ ((3 ≡ m) × (p ≤ q))
-      go m q (row-1 w a b) = absurd (omega arith)
-      go m q (row-2 w a b) = absurd (omega arith)
-      go m q (row-3 w a) = inr (sym a, f q w)
-      go m q (row-4 w a) = inl (omega arith)
-      go m q (row-5 w a) = inl (omega arith)
+      go : (m q : ℕ) → Inner fm s m q → (3 < m) ⊎ ((3 ≡ m) × (p ≤ q))
+      go m q (in-3 w a) = inr (sym a, f q w)
+      go m q (in-4 w a) = inl (omega arith)
+      go m q (in-5 w a) = inl (omega arith)
 
-  module _ (no-3 : (q : ℕ) → Misfits s q → ⊥) where
-    at-4 : (p : ℕ) → Returns s p → ((q : ℕ) → Returns s q → p ≤ q) → Least (Row s options works) 4 p
-    at-4 p h f = record { holds = row-4 h refl; least = go }
+  module _ (no-3 : (q : ℕ) → Misfits fm s q → ⊥) where
+    at-4 : (p : ℕ) → Returns fm s p → ((q : ℕ) → Returns fm s q → p ≤ q) → Least (Inner fm s) 4 p
+    at-4 p h f = record { holds = in-4 h refl; least = go }
       where
-        go : (m q : ℕ) → Row s options works m q → (4 < m) ⊎ ((4 ≡ m) × (p ≤ q))
-        go m q (row-1 w a b) = absurd (omega arith)
-        go m q (row-2 w a b) = absurd (omega arith)
-        go m q (row-3 w a) = absurd (no-3 q w)
-        go m q (row-4 w a) = inr (sym a, f q w)
-        go m q (row-5 w a) = inl (omega arith)
+        go : (m q : ℕ) → Inner fm s m q → (4 < m) ⊎ ((4 ≡ m) × (p ≤ q))
+        go m q (in-3 w a) = absurd (no-3 q w)
+        go m q (in-4 w a) = inr (sym a, f q w)
+        go m q (in-5 w a) = inl (omega arith)
 
-    module _ (no-4 : (q : ℕ) → Returns s q → ⊥) where
-      at-5 : (p : ℕ) → Unsound s p → ((q : ℕ) → Unsound s q → p ≤ q) → Least (Row s options works) 5 p
-      at-5 p h f = record { holds = row-5 h refl; least = go }
+    module _ (no-4 : (q : ℕ) → Returns fm s q → ⊥) where
+      at-5 : (p : ℕ) → Unsound fm s p → ((q : ℕ) → Unsound fm s q → p ≤ q) → Least (Inner fm s) 5 p
+      at-5 p h f = record { holds = in-5 h refl; least = go }
         where
-          go : (m q : ℕ) → Row s options works m q → (5 < m) ⊎ ((5 ≡ m) × (p ≤ q))
-          go m q (row-1 w a b) = absurd (omega arith)
-          go m q (row-2 w a b) = absurd (omega arith)
-          go m q (row-3 w a) = absurd (no-3 q w)
-          go m q (row-4 w a) = absurd (no-4 q w)
-          go m q (row-5 w a) = inr (sym a, f q w)
+          go : (m q : ℕ) → Inner fm s m q → (5 < m) ⊎ ((5 ≡ m) × (p ≤ q))
+          go m q (in-3 w a) = absurd (no-3 q w)
+          go m q (in-4 w a) = absurd (no-4 q w)
+          go m q (in-5 w a) = inr (sym a, f q w)
 
-      no-rows : ((q : ℕ) → Unsound s q → ⊥) → (m q : ℕ) → Row s options works m q → ⊥
-      no-rows no-5 m q (row-1 w a b) = omega arith
-      no-rows no-5 m q (row-2 w a b) = omega arith
-      no-rows no-5 m q (row-3 w a) = no-3 q w
-      no-rows no-5 m q (row-4 w a) = no-4 q w
-      no-rows no-5 m q (row-5 w a) = no-5 q w
+      no-rows : ((q : ℕ) → Unsound fm s q → ⊥) → (m q : ℕ) → Inner fm s m q → ⊥
+      no-rows no-5 m q (in-3 w a) = no-3 q w
+      no-rows no-5 m q (in-4 w a) = no-4 q w
+      no-rows no-5 m q (in-5 w a) = no-5 q w
 
       -- row 5, where the record ends with its events
-      module _ (ends : length s ≡ placeOf (documentCount s) (eventCount s)) where
-        by-verdict : {r : Reading} → Verdict s (documentCount s) 0 (eventCount s) (Good (documentCount s) (eventCount s)) r → Found (Row s options works) s r
+      module _ (ends : length s ≡ placeIn fm (documentCountIn fm s) (eventCountIn fm s)) where
+        by-verdict : {r : Reading} → Verdict fm s (documentCountIn fm s) 0 (eventCountIn fm s) (Good (documentCountIn fm s) (eventCountIn fm s)) r → Found fm (Inner fm s) s r
         by-verdict (all-good q f o) =
-            let all : 0 + eventCount s ≡ eventCount s = omega arith in
-            no-row q (no-rows (λ p u. clash (rw all at o) (none-broken s f p u .1)))
+            let all : 0 + eventCountIn fm s ≡ eventCountIn fm s = omega arith in
+            no-row q (no-rows (λ p u. clash (rw all at o) (none-broken fm s f p u .1)))
         by-verdict (one-bad i q h l b f) =
-            least-row 5 (placeOf (documentCount s) i) q (at-5 _ (an-event i (omega arith) b refl) (first-broken s i ends l f))
+            least-row 5 (placeIn fm (documentCountIn fm s) i) q (at-5 _ (an-event i (omega arith) b refl) (first-broken fm s i ends l f))
         by-verdict (some-left q f o) =
-            let all : 0 + eventCount s ≡ eventCount s = omega arith in
+            let all : 0 + eventCountIn fm s ≡ eventCountIn fm s = omega arith in
             least-row 5 (length s) (rw (all, ← ends) at q)
-            (at-5 _ (left-open (rw all at o) refl) (λ p u. let e = none-broken s f p u .0 in omega arith))
+            (at-5 _ (left-open (rw all at o) refl) (λ p u. let e = none-broken fm s f p u .0 in omega arith))
 
-        found-events : Found (Row s options works) s
-            (judge (allStoredAt (eventCount s) s (8 + documentCount s)) (documentCount s) (8 + documentCount s) 0 [] (Good (documentCount s) (eventCount s)))
-        unfolding openNames placeBefore
+        found-events : Found fm (Inner fm s) s
+            (judge (fm .width) (mateIn fm s (documentCountIn fm s)) (allStoredAt (fm .width) (eventCountIn fm s) s (8 + fm .front + documentCountIn fm s)) (documentCountIn fm s) 0 (8 + fm .front + documentCountIn fm s) 0 [] [] (Good (documentCountIn fm s) (eventCountIn fm s)))
+        unfolding openNames openNumbers placeBefore
         found-events =
-            let start : placeOf (documentCount s) 0 ≡ 8 + documentCount s = omega arith in
-            by-verdict (rw start at (verdict (eventCount s) s (documentCount s) 0 (Good (documentCount s) (eventCount s))))
+            let start : placeIn fm (documentCountIn fm s) 0 ≡ 8 + fm .front + documentCountIn fm s = omega arith in
+            by-verdict (rw start at (verdict fm (eventCountIn fm s) s (documentCountIn fm s) 0 (Good (documentCountIn fm s) (eventCountIn fm s))))
 
   -- row 4 and then row 5, where both counts fit and nothing follows
-  module _ (fd : Fitted s 0 16384 1 (documentCount s)) (fe : Fitted s (4 + documentCount s) 2048 8 (eventCount s)) where
-    place-of-misfit : (q : ℕ) → Misfits s q → (q ≡ 8 + documentCount s + 8 * eventCount s) × (q < length s)
-    place-of-misfit q m = go (where-is s q m)
+  module _ (fd : Fitted s (fm .front) 16384 1 (documentCountIn fm s)) (fe : Fitted s (4 + fm .front + documentCountIn fm s) 2048 (fm .width) (eventCountIn fm s)) where
+    place-of-misfit : (q : ℕ) → Misfits fm s q → (q ≡ placeIn fm (documentCountIn fm s) (eventCountIn fm s)) × (q < length s)
+    place-of-misfit q m = go (where-is fm s q m)
       where
-        go : Where s q → (q ≡ 8 + documentCount s + 8 * eventCount s) × (q < length s)
+        go : Where fm s q → (q ≡ placeIn fm (documentCountIn fm s) (eventCountIn fm s)) × (q < length s)
         go (at-document e i) = absurd (fitted-well _ _ _ _ _ fd i)
         go (at-events e i) = absurd (fitted-well _ _ _ _ _ fe i)
         go (at-end e h) = (e, h)
 
-    module _ (ends : length s ≡ 8 + documentCount s + 8 * eventCount s) where
-      no-misfit : (q : ℕ) → Misfits s q → ⊥
+    module _ (ends : length s ≡ placeIn fm (documentCountIn fm s) (eventCountIn fm s)) where
+      no-misfit : (q : ℕ) → Misfits fm s q → ⊥
       no-misfit q m = let w = place-of-misfit q m in omega arith
 
-      returned : (q : ℕ) → Returns s q → firstReturn (documentCount s) s 4 ≤ q
-      returned q r = ⊎-elim (λ h. h) (λ h. absurd (omega (arith, r .to))) (first-least (documentCount s) s 4 q (r .from) (r .there))
+      returned : (q : ℕ) → Returns fm s q → firstReturn (documentCountIn fm s) s (4 + fm .front) ≤ q
+      returned q r = ⊎-elim (λ h. h) (λ h. absurd (omega (arith, r .to))) (first-least (documentCountIn fm s) s (4 + fm .front) q (r .from) (r .there))
 
-      none-there : 4 + documentCount s ≤ firstReturn (documentCount s) s 4 → (q : ℕ) → Returns s q → ⊥
+      none-there : 4 + fm .front + documentCountIn fm s ≤ firstReturn (documentCountIn fm s) s (4 + fm .front) → (q : ℕ) → Returns fm s q → ⊥
       none-there h q r = let l = returned q r in omega (arith, r .to)
 
-      found-inside : Found (Row s options works) s (insideOf s (documentCount s) (eventCount s))
+      found-inside : Found fm (Inner fm s) s (insideOf fm s (documentCountIn fm s) (eventCountIn fm s))
       unfolding insideOf choose
-      found-inside = go (ltb (firstReturn (documentCount s) s 4) (4 + documentCount s)) refl
+      found-inside = go (ltb (firstReturn (documentCountIn fm s) s (4 + fm .front)) (4 + fm .front + documentCountIn fm s)) refl
         where
-          go : (z : Bool) → ltb (firstReturn (documentCount s) s 4) (4 + documentCount s) ≡ z →
-              Found (Row s options works) s (choose z (refuse 4 (firstReturn (documentCount s) s 4))
-              (judge (allStoredAt (eventCount s) s (8 + documentCount s)) (documentCount s) (8 + documentCount s) 0 [] (Good (documentCount s) (eventCount s))))
+          go : (z : Bool) → ltb (firstReturn (documentCountIn fm s) s (4 + fm .front)) (4 + fm .front + documentCountIn fm s) ≡ z →
+              Found fm (Inner fm s) s (choose z (refuse 4 (firstReturn (documentCountIn fm s) s (4 + fm .front)))
+              (judge (fm .width) (mateIn fm s (documentCountIn fm s)) (allStoredAt (fm .width) (eventCountIn fm s) s (8 + fm .front + documentCountIn fm s)) (documentCountIn fm s) 0 (8 + fm .front + documentCountIn fm s) 0 [] [] (Good (documentCountIn fm s) (eventCountIn fm s))))
           go true e =
-              let h : firstReturn (documentCount s) s 4 < 4 + documentCount s = ltb-true _ _ e in
-              least-row 4 (firstReturn (documentCount s) s 4) refl
-              (at-4 no-misfit _ record { from = first-low (documentCount s) s 4; to = h; there = first-there (documentCount s) s 4 h } returned)
+              let h : firstReturn (documentCountIn fm s) s (4 + fm .front) < 4 + fm .front + documentCountIn fm s = ltb-true _ _ e in
+              least-row 4 (firstReturn (documentCountIn fm s) s (4 + fm .front)) refl
+              (at-4 no-misfit _ record { from = first-low (documentCountIn fm s) s (4 + fm .front); to = h; there = first-there (documentCountIn fm s) s (4 + fm .front) h } returned)
           go false e = found-events no-misfit (none-there (ltb-false _ _ e)) ends
 
     -- "bytes follow the last section"
-    found-end : Found (Row s options works) s (endOf s (documentCount s) (eventCount s))
+    found-end : Found fm (Inner fm s) s (endOf fm s (documentCountIn fm s) (eventCountIn fm s))
     unfolding endOf choose
-    found-end = go (eqb (length s) (8 + documentCount s + 8 * eventCount s)) refl
+    found-end = go (eqb (length s) (placeIn fm (documentCountIn fm s) (eventCountIn fm s))) refl
       where
-        go : (z : Bool) → eqb (length s) (8 + documentCount s + 8 * eventCount s) ≡ z →
-            Found (Row s options works) s (choose z (insideOf s (documentCount s) (eventCount s)) (refuse 3 (8 + documentCount s + 8 * eventCount s)))
+        go : (z : Bool) → eqb (length s) (placeIn fm (documentCountIn fm s) (eventCountIn fm s)) ≡ z →
+            Found fm (Inner fm s) s (choose z (insideOf fm s (documentCountIn fm s) (eventCountIn fm s)) (refuse 3 (placeIn fm (documentCountIn fm s) (eventCountIn fm s))))
         go true e = found-inside (eqb-true _ _ e)
         go false e =
-            let ne : length s ≡ 8 + documentCount s + 8 * eventCount s → ⊥ = eqb-false _ _ e in
-            let le : 8 + documentCount s + 8 * eventCount s + 1 ≤ length s = strict _ _ (omega (arith, fe .whole)) (λ x. ne (sym x)) in
+            let ne : length s ≡ placeIn fm (documentCountIn fm s) (eventCountIn fm s) → ⊥ = eqb-false _ _ e in
+            let le : placeIn fm (documentCountIn fm s) (eventCountIn fm s) + 1 ≤ length s = strict _ _ (omega (arith, fe .whole)) (λ x. ne (sym x)) in
             least-row 3 _ refl (at-3 _ (follow refl (omega arith)) (λ q m. let w = place-of-misfit q m in omega arith))
 
   -- the events' count
-  found-second : Fitted s 0 16384 1 (documentCount s) → Found (Row s options works) s (eventCountOf s (documentCount s))
+  found-second : Fitted s (fm .front) 16384 1 (documentCountIn fm s) → Found fm (Inner fm s) s (eventCountOf fm s (documentCountIn fm s))
   unfolding eventCountOf
-  found-second fd = go (countAt s (4 + documentCount s) 2048 8) refl
+  found-second fd = go (countAt s (4 + fm .front + documentCountIn fm s) 2048 (fm .width)) refl
     where
-      there : 4 + documentCount s ≤ length s
+      there : 4 + fm .front + documentCountIn fm s ≤ length s
       there = omega (arith, fd .whole)
 
-      before : (q : ℕ) → Where s q → 4 + documentCount s ≤ q
+      before : (q : ℕ) → Where fm s q → 4 + fm .front + documentCountIn fm s ≤ q
       before q (at-document e i) = absurd (fitted-well _ _ _ _ _ fd i)
       before q (at-events e i) = omega arith
       before q (at-end e h) = omega arith
 
-      go : (c : Count) → countAt s (4 + documentCount s) 2048 8 ≡ c →
-          Found (Row s options works) s (fitting c (refuse 3 (4 + documentCount s)) (λ e. endOf s (documentCount s) e))
+      go : (c : Count) → countAt s (4 + fm .front + documentCountIn fm s) 2048 (fm .width) ≡ c →
+          Found fm (Inner fm s) s (fitting c (refuse 3 (4 + fm .front + documentCountIn fm s)) (λ e. endOf fm s (documentCountIn fm s) e))
       go (Fits e) x =
           let f = fitted _ _ _ _ _ x in
-          let y : e ≡ eventCount s = sym (f .count) in
+          let y : e ≡ eventCountIn fm s = sym (f .count) in
           rw y (found-end fd (rw y at f))
       go Misfit x =
-          least-row 3 _ refl (at-3 _ (misfits s (4 + documentCount s) 2048 8 (the-events there refl refl refl) x) (λ q m. before q (where-is s q m)))
+          least-row 3 _ refl (at-3 _ (misfits fm s (4 + fm .front + documentCountIn fm s) 2048 (fm .width) (the-events there refl refl refl) x) (λ q m. before q (where-is fm s q m)))
 
   -- the document's count
-  found-first : Found (Row s options works) s (checked s)
-  unfolding checked
-  found-first = go (countAt s 0 16384 1) refl
+  pub found-first : Found fm (Inner fm s) s (checkedIn fm s)
+  unfolding checkedIn
+  found-first = go (countAt s (fm .front) 16384 1) refl
     where
-      go : (c : Count) → countAt s 0 16384 1 ≡ c → Found (Row s options works) s (fitting c (refuse 3 0) (λ d. eventCountOf s d))
+      before : (q : ℕ) → Where fm s q → fm .front ≤ q
+      before q (at-document e i) = omega arith
+      before q (at-events e i) = omega arith
+      before q (at-end e h) = omega arith
+
+      go : (c : Count) → countAt s (fm .front) 16384 1 ≡ c → Found fm (Inner fm s) s (fitting c (refuse 3 (fm .front)) (λ d. eventCountOf fm s d))
       go (Fits d) x =
           let f = fitted _ _ _ _ _ x in
-          let y : d ≡ documentCount s = sym (f .count) in
+          let y : d ≡ documentCountIn fm s = sym (f .count) in
           rw y (found-second (rw y at f))
-      go Misfit x = least-row 3 _ refl (at-3 _ (misfits s 0 16384 1 (the-document refl refl refl) x) (λ q m. omega arith))
+      go Misfit x = least-row 3 _ refl (at-3 _ (misfits fm s (fm .front) 16384 1 (the-document refl refl refl) x) (λ q m. before q (where-is fm s q m)))
+
+-- where the front holds, the rows of the whole check are those that follow it
+outward : (s : List ℕ) (options works : ℕ) → 65536 ≤ works → options ≤ 63 → {r : Reading} → Found old (Inner old s) s r → Found old (Row s options works) s r
+outward s options works memory known (least-row n p q l) = least-row n p q record { holds = out (l .holds); least = λ m x y. l .least m x (back y) }
+  where
+    out : {n p : ℕ} → Inner old s n p → Row s options works n p
+    out (in-3 w a) = row-3 w a
+    out (in-4 w a) = row-4 w a
+    out (in-5 w a) = row-5 w a
+
+    back : {n p : ℕ} → Row s options works n p → Inner old s n p
+    back (row-1 w a b) = absurd (omega arith)
+    back (row-2 w a b) = absurd (omega arith)
+    back (row-3 w a) = in-3 w a
+    back (row-4 w a) = in-4 w a
+    back (row-5 w a) = in-5 w a
+outward s options works memory known (no-row q f) = no-row q none-there
+  where
+    none-there : (n p : ℕ) → Row s options works n p → ⊥
+    none-there n p (row-1 w a b) = omega arith
+    none-there n p (row-2 w a b) = omega arith
+    none-there n p (row-3 w a) = f n p (in-3 w a)
+    none-there n p (row-4 w a) = f n p (in-4 w a)
+    none-there n p (row-5 w a) = f n p (in-5 w a)
 
 -- the whole check
-pub found : (s : List ℕ) (options works : ℕ) → Found (Row s options works) s (admitted s options works)
+pub found : (s : List ℕ) (options works : ℕ) → Found old (Row s options works) s (admitted s options works)
 unfolding admitted choose
 found s options works = first (ltb works 65536) refl
   where
-    second : (z : Bool) → ltb 63 options ≡ z → 65536 ≤ works → Found (Row s options works) s (choose z (refuse 2 0) (checked s))
+    second : (z : Bool) → ltb 63 options ≡ z → 65536 ≤ works → Found old (Row s options works) s (choose z (refuse 2 0) (checked s))
     second true e memory = least-row 2 0 refl record { holds = row-2 (ltb-true _ _ e) refl refl; least = go }
       where
         go : (m q : ℕ) → Row s options works m q → (2 < m) ⊎ ((2 ≡ m) × (0 ≤ q))
@@ -302,9 +327,9 @@ found s options works = first (ltb works 65536) refl
         go m q (row-3 w a) = inl (omega arith)
         go m q (row-4 w a) = inl (omega arith)
         go m q (row-5 w a) = inl (omega arith)
-    second false e memory = found-first s options works memory (ltb-false _ _ e)
+    second false e memory = outward s options works memory (ltb-false _ _ e) (found-first old s)
 
-    first : (z : Bool) → ltb works 65536 ≡ z → Found (Row s options works) s (choose z (refuse 1 0) (choose (ltb 63 options) (refuse 2 0) (checked s)))
+    first : (z : Bool) → ltb works 65536 ≡ z → Found old (Row s options works) s (choose z (refuse 1 0) (choose (ltb 63 options) (refuse 2 0) (checked s)))
     first true e = least-row 1 0 refl record { holds = row-1 (ltb-true _ _ e) refl refl; least = go }
       where
         go : (m q : ℕ) → Row s options works m q → (1 < m) ⊎ ((1 ≡ m) × (0 ≤ q))
@@ -315,22 +340,22 @@ found s options works = first (ltb works 65536) refl
         go m q (row-5 w a) = inl (omega arith)
     first false e = second (ltb 63 options) refl (ltb-false _ _ e)
 
-same-refusal : (n p m q : ℕ) → refuse n p ≡ refuse m q → (n ≡ m) × (p ≡ q)
+pub same-refusal : (n p m q : ℕ) → refuse n p ≡ refuse m q → (n ≡ m) × (p ≡ q)
 same-refusal n p m q e =
     let r : _≡_ {A = Refusal} (record { number = n; place = p }) (record { number = m; place = q }) = cc in
     (ap (λ (x : Refusal). x .number) r, ap (λ (x : Refusal). x .place) r)
 
-apart : (n p d e : ℕ) → refuse n p ≡ Good d e → ⊥
+pub apart : (n p d e : ℕ) → refuse n p ≡ Good d e → ⊥
 apart n p d e q = let z : _≡_ {A = ℕ} 0 1 = cc in omega arith
 
-same-good : (d e m n : ℕ) → Good d e ≡ Good m n → (d ≡ m) × (e ≡ n)
+pub same-good : (d e m n : ℕ) → Good d e ≡ Good m n → (d ≡ m) × (e ≡ n)
 same-good d e m n q = (cc, cc)
 
 -- "Given exactly when"
 pub exactly : (s : List ℕ) (options works : ℕ) → Exactly s options works
 exactly s options works = by (found s options works)
   where
-    by : Found (Row s options works) s (admitted s options works) → Exactly s options works
+    by : Found old (Row s options works) s (admitted s options works) → Exactly s options works
     by (least-row n p r l) =
         record {
           refused = λ m q e. let x = same-refusal n p m q (sym r ∙ e) in rw (x .0, x .1) at l;

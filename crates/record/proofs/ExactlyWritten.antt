@@ -11,7 +11,8 @@ use lib.Dec.{ltb}
 use borrow.Author.Tests.{ltb-true, ltb-false}
 use Rattle.record.specs.Choice.{choose}
 use Rattle.record.specs.Check.{admitted}
-use Rattle.record.specs.Rows.{Least, Row, row-1, row-2, row-3, row-4, row-5, placeOf, documentCount, eventCount}
+use Rattle.record.specs.Form.{old, placeIn}
+use Rattle.record.specs.Rows.{Least, Row, row-1, row-2, row-3, row-4, row-5, documentCount, eventCount}
 use Rattle.record.specs.Outcome.{Resolution, offends, gives, Outcome, accepted, refused, refusing, sized, settled, outcome}
 use Rattle.record.specs.Written.{Judges, WrittenRow, by-check, row-6, row-7, row-8, ExactlyWritten}
 use Rattle.record.specs.declared.event.Event.{Event}
@@ -36,10 +37,10 @@ same-gives : (es fs : List Event) → gives es ≡ gives fs → es ≡ fs
 same-gives es fs e = cc
 
 module _ (s : List ℕ) (options works : ℕ) (none : (n p : ℕ) → Row s options works n p → ⊥) (Offends : ℕ → Type 0) (outs : ℕ) where
-  came-offends : (k : ℕ) → Judges Offends (offends k) → Came (WrittenRow s options works Offends (offends k) outs) (offends k) (refusing 6 (placeOf (documentCount s) k))
+  came-offends : (k : ℕ) → Judges Offends (offends k) → Came (WrittenRow s options works Offends (offends k) outs) (offends k) (refusing 6 (placeIn old (documentCount s) k))
   came-offends k j = least-row′ 6 _ refl record { holds = row-6 k (j .earliest k refl .0) refl refl; least = go }
     where
-      go : (m q : ℕ) → WrittenRow s options works Offends (offends k) outs m q → (6 < m) ⊎ ((6 ≡ m) × (placeOf (documentCount s) k ≤ q))
+      go : (m q : ℕ) → WrittenRow s options works Offends (offends k) outs m q → (6 < m) ⊎ ((6 ≡ m) × (placeIn old (documentCount s) k ≤ q))
       go m q (by-check r) = absurd (none m q r)
       go m q (row-6 i e a b) =
           let x : k ≤ i = j .earliest k refl .1 i e in
@@ -97,7 +98,7 @@ came s options works Offends resolve outs j = by (found s options works)
     made : Resolution
     made = resolve (documentCount s) (eventCount s)
 
-    by : Found (Row s options works) s (admitted s options works) → Came (WrittenRow s options works Offends made outs) made (outcome (admitted s options works) resolve outs)
+    by : Found old (Row s options works) s (admitted s options works) → Came (WrittenRow s options works Offends made outs) made (outcome (admitted s options works) resolve outs)
     by (least-row n p r l) = least-row′ n p (rw r) record { holds = by-check (l .holds); least = go }
       where
         go : (m q : ℕ) → WrittenRow s options works Offends made outs m q → (n < m) ⊎ ((n ≡ m) × (p ≤ q))

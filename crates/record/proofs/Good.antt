@@ -5,15 +5,17 @@ use mathlib.Core.Bool.{Bool, true, false}
 use mathlib.Core.List.{List, [], _∷_}
 use Prim.Native.Nat.{ℕ, zero, suc, _+_, _*_, _≤_, _<_}
 use native.Mathlib.Omega.{arith}
-use lib.ListN.{length, getD}
+use lib.ListN.{length, getD, take}
 use lib.Dec.{eqb}
-use borrow.Author.Tests.{eqb-true, eqb-false, ltb-false}
-use Rattle.record.specs.Choice.{choose}
+use borrow.Author.Tests.{ne-eqb, le-ltb, eqb-true, eqb-false, ltb-false}
+use Rattle.record.specs.Choice.{choose, and}
 use Rattle.record.specs.Bytes.{u32At}
-use Rattle.record.specs.Event.{Stored, storedAt, allStoredAt, eventsAt, eventsOf}
-use Rattle.record.specs.Stack.{after}
+use Rattle.record.specs.Form.{Form, old, placeIn, mateIn}
+use Rattle.record.specs.Event.{Stored, storedAt, allStoredAt, eventAt, eventsBy, eventsAt, eventsIn, eventsOf}
+use Rattle.record.specs.Stack.{innermostOf, after, openAfter, openAt}
 use Rattle.record.specs.Sound.{soundFrom, sound}
-use Rattle.record.specs.Check.{refuse, countAt, fitting, firstReturn, formed, judge, insideOf, endOf, eventCountOf, checked, admitted}
+use Rattle.record.specs.Check.{refuse, countAt, fitting, firstReturn, formed, paired, truly, judge, insideOf, endOf, eventCountOf, checkedIn, checked, admitted}
+use Rattle.record.specs.declared.event.Event.{Event}
 use Rattle.record.specs.declared.check.Count.{Count}
 use Rattle.record.specs.declared.check.Count.the-variants.{Fits, Misfit}
 use Rattle.record.specs.declared.check.Reading.{Reading}
@@ -47,35 +49,64 @@ other-side true x n p d e q = absurd (never n p d e q)
 other-side false x n p d e q = q
 
 -- the judgement, where it is good, gives the answer that it was handed
-same-good : (vs : List Stored) (d at last : ℕ) (held : List ℕ) (good : Reading) (a b : ℕ) → judge vs d at last held good ≡ Good a b → good ≡ Good a b
+same-good : (w : ℕ) (mates : ℕ → ℕ) (vs : List Stored) (d k at last : ℕ) (held opens : List ℕ) (good : Reading) (a b : ℕ) → judge w mates vs d k at last held opens good ≡ Good a b → good ≡ Good a b
 unfolding judge
-same-good [] d at last held good a b q = held-side _ _ _ _ _ _ q
-same-good (v ∷ vs) d at last held good a b q =
-    same-good vs d (at + 8) (v .what .place) (after (v .what) (v .what .name) held) good a b (held-side _ _ _ _ _ _ q)
+same-good w mates [] d k at last held opens good a b q = held-side _ _ _ _ _ _ q
+same-good w mates (v ∷ vs) d k at last held opens good a b q =
+    same-good w mates vs d (k + 1) (at + w) (v .what .place) (after (v .what) (v .what .name) held) (after (v .what) k opens) good a b (held-side _ _ _ _ _ _ q)
 
 -- and then the events are sound
-judged-sound : (n : ℕ) (s : List ℕ) (d at last : ℕ) (held : List ℕ) (good : Reading) (a b : ℕ) →
-    judge (allStoredAt n s at) d at last held good ≡ Good a b → soundFrom 64 d last held (eventsAt n s at) ≡ true
-unfolding judge allStoredAt eventsAt soundFrom formed
-judged-sound zero s d at last held good a b q = held-test _ _ _ _ _ _ q
-judged-sound (suc n) s d at last held good a b q =
+judged-sound : (w : ℕ) (mates : ℕ → ℕ) (n : ℕ) (s : List ℕ) (d k at last : ℕ) (held opens : List ℕ) (good : Reading) (a b : ℕ) →
+    judge w mates (allStoredAt w n s at) d k at last held opens good ≡ Good a b → soundFrom 64 d last held (eventsBy w n s at) ≡ true
+unfolding judge allStoredAt eventsBy soundFrom formed
+judged-sound w mates zero s d k at last held opens good a b q = held-test _ _ _ _ _ _ q
+judged-sound w mates (suc n) s d k at last held opens good a b q =
     let t = held-test _ _ _ _ _ _ q in
     and-both _ _ (and-right _ _ (and-left _ _ t))
-    (and-both _ _ (and-right _ _ t)
-    (judged-sound n s d (at + 8) (u32At s (at + 4)) (after (storedAt s at .what) (getD s (at + 1) 0) held) good a b (held-side _ _ _ _ _ _ q)))
+    (and-both _ _ (and-left _ _ (and-right _ _ t))
+    (judged-sound w mates n s d (k + 1) (at + w) (u32At s (at + 4)) (after (storedAt s at .what) (getD s (at + 1) 0) held) (after (storedAt s at .what) k opens) good a b (held-side _ _ _ _ _ _ q)))
 
 -- and each event's two bytes are zero
-judged-zeros : (n : ℕ) (s : List ℕ) (d at last : ℕ) (held : List ℕ) (good : Reading) (a b : ℕ) →
-    judge (allStoredAt n s at) d at last held good ≡ Good a b → (k : ℕ) → k < n → storedAt s (at + 8 * k) .zeros ≡ 0
+judged-zeros : (w : ℕ) (mates : ℕ → ℕ) (n : ℕ) (s : List ℕ) (d i at last : ℕ) (held opens : List ℕ) (good : Reading) (a b : ℕ) →
+    judge w mates (allStoredAt w n s at) d i at last held opens good ≡ Good a b → (k : ℕ) → k < n → storedAt s (at + w * k) .zeros ≡ 0
 unfolding judge allStoredAt formed
-judged-zeros zero s d at last held good a b q k h = absurd (omega arith)
-judged-zeros (suc n) s d at last held good a b q zero h =
-    let z : at + 8 * 0 ≡ at = omega arith in
+judged-zeros w mates zero s d i at last held opens good a b q k h = absurd (omega arith)
+judged-zeros w mates (suc n) s d i at last held opens good a b q zero h =
+    let z : at + w * 0 ≡ at = omega arith in
     rw z (eqb-true _ _ (and-left _ _ (and-left _ _ (held-test _ _ _ _ _ _ q))))
-judged-zeros (suc n) s d at last held good a b q (suc k) h =
-    let z : at + 8 * suc k ≡ at + 8 + 8 * k = omega arith in
+judged-zeros w mates (suc n) s d i at last held opens good a b q (suc k) h =
+    let z : at + w * suc k ≡ at + w + w * k = omega arith in
     rw z
-    (judged-zeros n s d (at + 8) (u32At s (at + 4)) (after (storedAt s at .what) (getD s (at + 1) 0) held) good a b (held-side _ _ _ _ _ _ q) k (omega arith))
+    (judged-zeros w mates n s d (i + 1) (at + w) (u32At s (at + 4)) (after (storedAt s at .what) (getD s (at + 1) 0) held) (after (storedAt s at .what) i opens) good a b (held-side _ _ _ _ _ _ q) k (omega arith))
+
+-- and each exit and its enter carry each other's number, where events carry any
+true-mates : (w a b i k : ℕ) → paired w a b i k ≡ true → 12 ≤ w → (a ≡ i) × (b ≡ k)
+unfolding paired choose
+true-mates w a b i k q h =
+    let t : and (eqb a i) (eqb b k) ≡ true = rw (le-ltb w 12 h) at q in
+    (eqb-true _ _ (and-left _ _ t), eqb-true _ _ (and-right _ _ t))
+
+truly-mates : (w : ℕ) (mates : ℕ → ℕ) (e : Event) (k : ℕ) (opens : List ℕ) → truly w mates e k opens ≡ true → 12 ≤ w → (e .kind ≡ 0 → ⊥) →
+    (mates k ≡ innermostOf opens) × (mates (innermostOf opens) ≡ k)
+unfolding truly choose
+truly-mates w mates e k opens q h z = true-mates w (mates k) (mates (innermostOf opens)) (innermostOf opens) k (rw (ne-eqb (e .kind) 0 z) at q) h
+
+judged-pairs : (w : ℕ) (mates : ℕ → ℕ) (n : ℕ) (s : List ℕ) (d i at last : ℕ) (held opens : List ℕ) (good : Reading) (a b : ℕ) →
+    judge w mates (allStoredAt w n s at) d i at last held opens good ≡ Good a b → 12 ≤ w → (k : ℕ) → k < n → (eventAt s (at + w * k) .kind ≡ 0 → ⊥) →
+    (mates (i + k) ≡ innermostOf (openAfter (take k (eventsBy w n s at)) i opens)) × (mates (innermostOf (openAfter (take k (eventsBy w n s at)) i opens)) ≡ i + k)
+unfolding judge allStoredAt eventsBy openAfter
+judged-pairs w mates zero s d i at last held opens good a b q h k l z = absurd (omega arith)
+judged-pairs w mates (suc n) s d i at last held opens good a b q h zero l z =
+    let y : at + w * 0 ≡ at = omega arith in
+    let x : i + 0 ≡ i = omega arith in
+    let z′ : eventAt s at .kind ≡ 0 → ⊥ = λ g. z (ap (λ (m : ℕ). eventAt s m .kind) y ∙ g) in
+    rw x (truly-mates w mates (storedAt s at .what) i opens (and-right _ _ (and-right _ _ (held-test _ _ _ _ _ _ q))) h z′)
+judged-pairs w mates (suc n) s d i at last held opens good a b q h (suc k) l z =
+    let y : at + w * suc k ≡ at + w + w * k = omega arith in
+    let x : i + suc k ≡ i + 1 + k = omega arith in
+    let z′ : eventAt s (at + w + w * k) .kind ≡ 0 → ⊥ = λ g. z (ap (λ (m : ℕ). eventAt s m .kind) y ∙ g) in
+    rw x
+    (judged-pairs w mates n s d (i + 1) (at + w) (u32At s (at + 4)) (after (storedAt s at .what) (getD s (at + 1) 0) held) (after (storedAt s at .what) i opens) good a b (held-side _ _ _ _ _ _ q) h k (omega arith) z′)
 
 -- a scan that finds none passes every byte
 none-by : (z : Bool) (at n f : ℕ) → at + suc n ≤ choose z at f → (z ≡ false) × (at + 1 + n ≤ f)
@@ -94,7 +125,64 @@ none-returned (suc n) s at h (suc k) l e =
     let z : at + suc k ≡ at + 1 + k = omega arith in
     none-returned n s (at + 1) (none-by _ _ _ _ h .1) k (omega arith) (ap (λ (m : ℕ). getD s m 0) (sym z) ∙ e)
 
--- what a good record is
+-- what a good record of a form is
+pub record ToldIn (f : Form) (s : List ℕ) (d e : ℕ) : Type 0 where
+  pub document-count : u32At s (f .front) ≡ d
+  pub event-count : u32At s (4 + f .front + d) ≡ e
+  pub small : d ≤ 16384
+  pub few : e ≤ 2048
+  pub whole : length s ≡ placeIn f d e
+  pub no-return : (k : ℕ) → k < d → getD s (4 + f .front + k) 0 ≡ 13 → ⊥
+  pub sound-events : sound 64 d (eventsIn f s d e) ≡ true
+  pub zero-bytes : (k : ℕ) → k < e → storedAt s (placeIn f d k) .zeros ≡ 0
+  pub true-pairs : 12 ≤ f .width → (k : ℕ) → k < e → (eventAt s (placeIn f d k) .kind ≡ 0 → ⊥) →
+      (mateIn f s d k ≡ innermostOf (openAt (eventsIn f s d e) k)) × (mateIn f s d (innermostOf (openAt (eventsIn f s d e) k)) ≡ k)
+
+told-end : (f : Form) (s : List ℕ) (d′ e′ d e : ℕ) → Fitted s (f .front) 16384 1 d′ → Fitted s (4 + f .front + d′) 2048 (f .width) e′ → endOf f s d′ e′ ≡ Good d e → ToldIn f s d e
+unfolding endOf insideOf eventsIn
+told-end f s d′ e′ d e fd fe q =
+    let r₁ = held-side _ _ _ _ _ _ q in
+    let r₂ = other-side _ _ _ _ _ _ r₁ in
+    let g : Good d′ e′ ≡ Good d e = same-good _ _ _ _ _ _ _ _ _ _ _ _ r₂ in
+    let gd : d′ ≡ d = cc in
+    let ge : e′ ≡ e = cc in
+    let whole′ : length s ≡ placeIn f d′ e′ = eqb-true _ _ (held-test _ _ _ _ _ _ q) in
+    let none′ : 4 + f .front + d′ ≤ firstReturn d′ s (4 + f .front) = ltb-false _ _ (other-test _ _ _ _ _ _ r₁) in
+    let sound′ : soundFrom 64 d′ 0 [] (eventsBy (f .width) e′ s (8 + f .front + d′)) ≡ true = judged-sound _ _ _ _ _ _ _ _ _ _ _ _ _ r₂ in
+    let zeros′ : (k : ℕ) → k < e′ → storedAt s (placeIn f d′ k) .zeros ≡ 0 = judged-zeros _ _ _ _ _ _ _ _ _ _ _ _ _ r₂ in
+    let pairs′ : 12 ≤ f .width → (k : ℕ) → k < e′ → (eventAt s (placeIn f d′ k) .kind ≡ 0 → ⊥) →
+    (mateIn f s d′ k ≡ innermostOf (openAt (eventsBy (f .width) e′ s (8 + f .front + d′)) k))
+    × (mateIn f s d′ (innermostOf (openAt (eventsBy (f .width) e′ s (8 + f .front + d′)) k)) ≡ k) =
+    λ h k l z. let x : 0 + k ≡ k = omega arith in rw x at (judged-pairs (f .width) (mateIn f s d′) e′ s d′ 0 (8 + f .front + d′) 0 [] [] (Good d′ e′) d e r₂ h k l z) in
+    let count-d : u32At s (f .front) ≡ d′ = fd .count in
+    let count-e : u32At s (4 + f .front + d′) ≡ e′ = fe .count in
+    let small′ : d′ ≤ 16384 = fd .within in
+    let few′ : e′ ≤ 2048 = fe .within in
+    record {
+      document-count = count-d ∙ gd;
+      event-count = rw gd at count-e ∙ ge;
+      small = rw gd at small′;
+      few = rw ge at few′;
+      whole = rw (gd, ge) at whole′;
+      no-return = none-returned d s (4 + f .front) (rw gd at none′);
+      sound-events = rw (gd, ge) at sound′;
+      zero-bytes = rw (gd, ge) at zeros′;
+      true-pairs = rw (gd, ge) at pairs′;
+    }
+
+-- which count it was
+fitting-fits : (c : Count) (x : Reading) (f : ℕ → Reading) (n p d e : ℕ) → x ≡ refuse n p → fitting c x f ≡ Good d e → (m : ℕ) × (c ≡ Fits m) × (f m ≡ Good d e)
+fitting-fits (Fits m) x f n p d e r q = (m, refl, q)
+fitting-fits Misfit x f n p d e r q = absurd (never n p d e (sym r ∙ q))
+
+pub told-in : (f : Form) (s : List ℕ) (d e : ℕ) → checkedIn f s ≡ Good d e → ToldIn f s d e
+unfolding checkedIn eventCountOf
+told-in f s d e q =
+    let a = fitting-fits (countAt s (f .front) 16384 1) (refuse 3 (f .front)) (λ n. eventCountOf f s n) 3 (f .front) d e refl q in
+    let b = fitting-fits (countAt s (4 + f .front + a .0) 2048 (f .width)) (refuse 3 (4 + f .front + a .0)) (λ n. endOf f s (a .0) n) 3 (4 + f .front + a .0) d e refl (a .2) in
+    told-end f s (a .0) (b .0) d e (fitted _ _ _ _ _ (a .1)) (fitted _ _ _ _ _ (b .1)) (b .2)
+
+-- what a good record of the old form is
 pub record Told (s : List ℕ) (d e : ℕ) : Type 0 where
   pub document-count : u32At s 0 ≡ d
   pub event-count : u32At s (4 + d) ≡ e
@@ -105,44 +193,26 @@ pub record Told (s : List ℕ) (d e : ℕ) : Type 0 where
   pub sound-events : sound 64 d (eventsOf s d e) ≡ true
   pub zero-bytes : (k : ℕ) → k < e → storedAt s (8 + d + 8 * k) .zeros ≡ 0
 
-told-end : (s : List ℕ) (d′ e′ d e : ℕ) → Fitted s 0 16384 1 d′ → Fitted s (4 + d′) 2048 8 e′ → endOf s d′ e′ ≡ Good d e → Told s d e
-unfolding endOf insideOf eventsOf
-told-end s d′ e′ d e fd fe q =
-    let r₁ = held-side _ _ _ _ _ _ q in
-    let r₂ = other-side _ _ _ _ _ _ r₁ in
-    let g : Good d′ e′ ≡ Good d e = same-good _ _ _ _ _ _ _ _ r₂ in
-    let gd : d′ ≡ d = cc in
-    let ge : e′ ≡ e = cc in
-    let whole′ : length s ≡ 8 + d′ + 8 * e′ = eqb-true _ _ (held-test _ _ _ _ _ _ q) in
-    let none′ : 4 + d′ ≤ firstReturn d′ s 4 = ltb-false _ _ (other-test _ _ _ _ _ _ r₁) in
-    let sound′ : soundFrom 64 d′ 0 [] (eventsAt e′ s (8 + d′)) ≡ true = judged-sound _ _ _ _ _ _ _ _ _ r₂ in
-    let zeros′ : (k : ℕ) → k < e′ → storedAt s (8 + d′ + 8 * k) .zeros ≡ 0 = judged-zeros _ _ _ _ _ _ _ _ _ r₂ in
-    let count-d : u32At s 0 ≡ d′ = fd .count in
-    let count-e : u32At s (4 + d′) ≡ e′ = fe .count in
-    let small′ : d′ ≤ 16384 = fd .within in
-    let few′ : e′ ≤ 2048 = fe .within in
-    record {
-      document-count = count-d ∙ gd;
-      event-count = rw gd at count-e ∙ ge;
-      small = rw gd at small′;
-      few = rw ge at few′;
-      whole = rw (gd, ge) at whole′;
-      no-return = none-returned d s 4 (rw gd at none′);
-      sound-events = rw (gd, ge) at sound′;
-      zero-bytes = rw (gd, ge) at zeros′;
-    }
-
--- which count it was
-fitting-fits : (c : Count) (x : Reading) (f : ℕ → Reading) (n p d e : ℕ) → x ≡ refuse n p → fitting c x f ≡ Good d e → (m : ℕ) × (c ≡ Fits m) × (f m ≡ Good d e)
-fitting-fits (Fits m) x f n p d e r q = (m, refl, q)
-fitting-fits Misfit x f n p d e r q = absurd (never n p d e (sym r ∙ q))
+-- events of eight bytes
+events-by : (n : ℕ) (s : List ℕ) (at : ℕ) → eventsBy 8 n s at ≡ eventsAt n s at
+unfolding eventsBy eventsAt
+events-by zero s at = refl
+events-by (suc n) s at = ap (λ (l : List Event). eventAt s at ∷ l) (events-by n s (at + 8))
 
 pub told : (s : List ℕ) (d e : ℕ) → checked s ≡ Good d e → Told s d e
-unfolding checked eventCountOf
+unfolding eventsOf eventsIn
 told s d e q =
-    let a = fitting-fits (countAt s 0 16384 1) (refuse 3 0) (λ n. eventCountOf s n) 3 0 d e refl q in
-    let b = fitting-fits (countAt s (4 + a .0) 2048 8) (refuse 3 (4 + a .0)) (λ n. endOf s (a .0) n) 3 (4 + a .0) d e refl (a .2) in
-    told-end s (a .0) (b .0) d e (fitted _ _ _ _ _ (a .1)) (fitted _ _ _ _ _ (b .1)) (b .2)
+    let t = told-in old s d e q in
+    record {
+      document-count = t .document-count;
+      event-count = t .event-count;
+      small = t .small;
+      few = t .few;
+      whole = t .whole;
+      no-return = t .no-return;
+      sound-events = ap (λ (l : List Event). sound 64 d l) (sym (events-by e s (8 + d))) ∙ t .sound-events;
+      zero-bytes = t .zero-bytes;
+    }
 
 -- the same of a call's whole check, with the work memory and the options
 pub record Admitted (s : List ℕ) (options works d e : ℕ) : Type 0 where

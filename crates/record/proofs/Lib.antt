@@ -14,5 +14,6 @@ pub mod Pairs
 pub mod Output
 pub mod Verdict
 pub mod Exactly
+pub mod Second
 pub mod ExactlyWritten
 pub mod Parts

@@ -8,7 +8,7 @@ use Rattle.record.specs.Bytes.{u32Bytes}
 use Rattle.record.specs.Event.{enter, exit, flat, allStoredAt}
 use Rattle.record.specs.Stack.{fitsOpen, after}
 use Rattle.record.specs.Sound.{placed}
-use Rattle.record.specs.Check.{refuse, countAt, firstReturn, formed, judge, insideOf, endOf, eventCountOf, checked}
+use Rattle.record.specs.Check.{refuse, countAt, firstReturn, formed, paired, truly, judge, insideOf, endOf, eventCountOf, checkedIn, checked}
 use Rattle.record.specs.declared.check.Reading.{Reading}
 use Rattle.record.specs.declared.check.Reading.the-variants.{Good}
 
@@ -40,5 +40,5 @@ cases =
     ∷ []
 
 pub computed : map (λ (c : Case). checked (c .bytes)) cases ≡ map (λ (c : Case). c .found) cases
-unfolding cases flat checked countAt eventCountOf endOf insideOf firstReturn allStoredAt judge formed placed fitsOpen after choose and
+unfolding cases flat checkedIn countAt eventCountOf endOf insideOf firstReturn allStoredAt judge paired truly formed placed fitsOpen after choose and
 computed = refl

@@ -1,15 +1,17 @@
 -- What a check of a record finds: document 01's numbers 1 to 5 in their order. specs/Rows.antt says the same as the table has it, row by row.
 -- Assumes nothing.
 use Prim.Native.Nat.{ℕ, zero, suc, _+_, _*_}
-use mathlib.Core.Bool.{Bool}
+use mathlib.Core.Bool.{Bool, true}
 use mathlib.Core.List.{List, [], _∷_}
 use lib.ListN.{length, getD}
 use lib.Dec.{leb, ltb, eqb}
 use Rattle.record.specs.Choice.{choose, and}
 use Rattle.record.specs.Bytes.{u32At}
+use Rattle.record.specs.Form.{Form, old, placeIn, mateIn}
 use Rattle.record.specs.Event.{Stored, allStoredAt}
-use Rattle.record.specs.Stack.{none, fitsOpen, after}
+use Rattle.record.specs.Stack.{innermostOf, none, fitsOpen, after}
 use Rattle.record.specs.Sound.{placed}
+use Rattle.record.specs.declared.event.Event.{Event}
 use Rattle.record.specs.declared.check.Count.{Count}
 use Rattle.record.specs.declared.check.Count.the-variants.{Fits, Misfit}
 use Rattle.record.specs.declared.check.Reading.{Reading}
@@ -40,33 +42,45 @@ firstReturn (suc n) s at = choose (eqb (getD s at 0) 13) at (firstReturn n s (at
 unfoldable pub formed : Stored → ℕ → ℕ → Bool
 formed v d last = and (eqb (v .zeros) 0) (placed (v .what) d last)
 
+-- form 2: "5 also, at a pair's exit, .. when either partner number of the pair is untrue": a and b are the numbers that the exit k and its
+-- enter i carry. Events of fewer than 12 bytes carry none
+unfoldable pub paired : ℕ → ℕ → ℕ → ℕ → ℕ → Bool
+paired width a b i k = choose (ltb width 12) true (and (eqb a i) (eqb b k))
+
+-- of event k, where the enters `opens` are open
+unfoldable pub truly : ℕ → (ℕ → ℕ) → Event → ℕ → List ℕ → Bool
+truly width mates e k opens = choose (eqb (e .kind) 0) true (paired width (mates k) (mates (innermostOf opens)) (innermostOf opens) k)
+
 -- the events one by one, the first of them at a place of the record: the first that breaks a rule is refused there, and where none does,
 -- events left open are refused at the record's end. Amendment D18: the standard sets no limit to depth
-unfoldable pub judge : List Stored → ℕ → ℕ → ℕ → List ℕ → Reading → Reading
-judge [] d at last held good = choose (none held) good (refuse 5 at)
-judge (v ∷ vs) d at last held good =
-    choose (and (formed v d last) (fitsOpen 64 (v .what) held))
-    (judge vs d (at + 8) (v .what .place) (after (v .what) (v .what .name) held) good)
+unfoldable pub judge : ℕ → (ℕ → ℕ) → List Stored → ℕ → ℕ → ℕ → ℕ → List ℕ → List ℕ → Reading → Reading
+judge width mates [] d k at last held opens good = choose (none held) good (refuse 5 at)
+judge width mates (v ∷ vs) d k at last held opens good =
+    choose (and (formed v d last) (and (fitsOpen 64 (v .what) held) (truly width mates (v .what) k opens)))
+    (judge width mates vs d (k + 1) (at + width) (v .what .place) (after (v .what) (v .what .name) held) (after (v .what) k opens) good)
     (refuse 5 at)
 
 -- numbers 4 and 5, where both counts fit and nothing follows
-unfoldable pub insideOf : List ℕ → ℕ → ℕ → Reading
-insideOf s d e =
-    choose (ltb (firstReturn d s 4) (4 + d))
-    (refuse 4 (firstReturn d s 4))
-    (judge (allStoredAt e s (8 + d)) d (8 + d) 0 [] (Good d e))
+unfoldable pub insideOf : Form → List ℕ → ℕ → ℕ → Reading
+insideOf f s d e =
+    choose (ltb (firstReturn d s (4 + f .front)) (4 + f .front + d))
+    (refuse 4 (firstReturn d s (4 + f .front)))
+    (judge (f .width) (mateIn f s d) (allStoredAt (f .width) e s (8 + f .front + d)) d 0 (8 + f .front + d) 0 [] [] (Good d e))
 
 -- "bytes follow the last section"
-unfoldable pub endOf : List ℕ → ℕ → ℕ → Reading
-endOf s d e = choose (eqb (length s) (8 + d + 8 * e)) (insideOf s d e) (refuse 3 (8 + d + 8 * e))
+unfoldable pub endOf : Form → List ℕ → ℕ → ℕ → Reading
+endOf f s d e = choose (eqb (length s) (placeIn f d e)) (insideOf f s d e) (refuse 3 (placeIn f d e))
 
 -- Amendment D18 here and in `checked`: the standard sets no limit to a document or its events
-unfoldable pub eventCountOf : List ℕ → ℕ → Reading
-eventCountOf s d = fitting (countAt s (4 + d) 2048 8) (refuse 3 (4 + d)) (λ e. endOf s d e)
+unfoldable pub eventCountOf : Form → List ℕ → ℕ → Reading
+eventCountOf f s d = fitting (countAt s (4 + f .front + d) 2048 (f .width)) (refuse 3 (4 + f .front + d)) (λ e. endOf f s d e)
 
 -- "First the document: count D, D bytes. Then the events: count E, E events of 8 bytes"
-unfoldable pub checked : List ℕ → Reading
-checked s = fitting (countAt s 0 16384 1) (refuse 3 0) (λ d. eventCountOf s d)
+unfoldable pub checkedIn : Form → List ℕ → Reading
+checkedIn f s = fitting (countAt s (f .front) 16384 1) (refuse 3 (f .front)) (λ d. eventCountOf f s d)
+
+abbrev pub checked : List ℕ → Reading
+checked s = checkedIn old s
 
 -- "work memory under 65,536 bytes", "options over 63", then the record
 unfoldable pub admitted : List ℕ → ℕ → ℕ → Reading

@@ -4,6 +4,7 @@ use Prim.Native.Nat.{ℕ, zero, suc, _+_, _*_}
 use mathlib.Core.List.{List, [], _∷_, _++_}
 use lib.ListN.{length, getD, take, drop}
 use Rattle.record.specs.Bytes.{u32At, u32Bytes}
+use Rattle.record.specs.Form.{Form}
 use Rattle.record.specs.declared.event.Event.{Event}
 
 abbrev pub event : ℕ → ℕ → ℕ → Event
@@ -32,9 +33,14 @@ pub record Stored : Type 0 where
 abbrev pub storedAt : List ℕ → ℕ → Stored
 storedAt s at = record { what = eventAt s at; zeros = getD s (at + 2) 0 + 256 * getD s (at + 3) 0 }
 
-unfoldable pub allStoredAt : ℕ → List ℕ → ℕ → List Stored
-allStoredAt zero s at = []
-allStoredAt (suc n) s at = storedAt s at ∷ allStoredAt n s (at + 8)
+-- n events from a place on, each `width` bytes after the one before
+unfoldable pub allStoredAt : ℕ → ℕ → List ℕ → ℕ → List Stored
+allStoredAt width zero s at = []
+allStoredAt width (suc n) s at = storedAt s at ∷ allStoredAt width n s (at + width)
+
+unfoldable pub eventsBy : ℕ → ℕ → List ℕ → ℕ → List Event
+eventsBy width zero s at = []
+eventsBy width (suc n) s at = eventAt s at ∷ eventsBy width n s (at + width)
 
 -- an event's eight bytes
 abbrev pub eventBytes : ℕ → ℕ → ℕ → List ℕ
@@ -54,6 +60,9 @@ sectionBytes es = u32Bytes (length es) ++ flat es
 -- the parts of a good record, whose counts are d and e
 unfoldable pub documentOf : List ℕ → ℕ → List ℕ
 documentOf s d = take d (drop 4 s)
+
+unfoldable pub eventsIn : Form → List ℕ → ℕ → ℕ → List Event
+eventsIn f s d e = eventsBy (f .width) e s (8 + f .front + d)
 
 unfoldable pub eventsOf : List ℕ → ℕ → ℕ → List Event
 eventsOf s d e = eventsAt e s (8 + d)

@@ -1,11 +1,13 @@
 pub mod Choice
 pub mod Options
 pub mod Bytes
+pub mod Form
 pub mod Event
 pub mod Stack
 pub mod Sound
 pub mod Check
 pub mod Rows
+pub mod Second
 pub mod Outcome
 pub mod Written
 pub mod Promise

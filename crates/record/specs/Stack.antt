@@ -23,6 +23,11 @@ abbrev pub innermost : ℕ → List ℕ → Bool
 innermost name [] = false
 innermost name (top ∷ held) = eqb top name
 
+-- the innermost
+abbrev pub innermostOf : List ℕ → ℕ
+innermostOf [] = 0
+innermostOf (top ∷ held) = top
+
 abbrev pub none : List ℕ → Bool
 none [] = true
 none (top ∷ held) = false

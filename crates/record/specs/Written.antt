@@ -6,7 +6,8 @@ use mathlib.Core.Path.{_≡_}
 use mathlib.Core.List.{List}
 use lib.ListN.{length}
 use Rattle.record.specs.Check.{admitted}
-use Rattle.record.specs.Rows.{Least, Row, placeOf, documentCount, eventCount}
+use Rattle.record.specs.Form.{old, placeIn}
+use Rattle.record.specs.Rows.{Least, Row, documentCount, eventCount}
 use Rattle.record.specs.Outcome.{Resolution, offends, gives, accepted, refusing, outcome}
 use Rattle.record.specs.declared.event.Event.{Event}
 
@@ -19,7 +20,7 @@ pub record Judges (Offends : ℕ → Type 0) (made : Resolution) : Type 0 where
 -- the output's length. Amendment D18: row 7, since the standard sets no limit
 pub data WrittenRow (s : List ℕ) (options works : ℕ) (Offends : ℕ → Type 0) (made : Resolution) (outs n p : ℕ) : Type 0 where
   by-check : Row s options works n p → WrittenRow s options works Offends made outs n p
-  row-6 : (k : ℕ) → Offends k → n ≡ 6 → p ≡ placeOf (documentCount s) k → WrittenRow s options works Offends made outs n p
+  row-6 : (k : ℕ) → Offends k → n ≡ 6 → p ≡ placeIn old (documentCount s) k → WrittenRow s options works Offends made outs n p
   row-7 : (es : List Event) → made ≡ gives es → 8000 < length es → n ≡ 7 → p ≡ 0 → WrittenRow s options works Offends made outs n p
   row-8 : (es : List Event) → made ≡ gives es → outs < 4 + 8 * length es → n ≡ 8 → p ≡ 0 → WrittenRow s options works Offends made outs n p
 

@@ -14,8 +14,11 @@ ghost use mathlib.Core.Path.{_≡_};
 ghost use mathlib.Core.List.{[]};
 ghost use Prim.Native.Nat.{_+_, _*_, _≤_};
 ghost use lib.ListN.{length};
+ghost use Rattle.record.specs.Form.{form, mateIn};
+ghost use Rattle.record.specs.Bytes.{u32At};
 ghost use Rattle.record.specs.Event.{storedAt, allStoredAt};
-ghost use Rattle.record.specs.Check.{countAt, firstReturn, formed, judge, checked, admitted};
+ghost use Rattle.record.specs.Second.{admittedSecond};
+ghost use Rattle.record.specs.Check.{countAt, firstReturn, formed, paired, judge, checkedIn, admitted};
 
 // A refusal: document 01's number, and the place that it names.
 pub struct Refusal {
@@ -104,13 +107,41 @@ pub fn well_formed(s: &[u8], d: usize, last: usize, at: usize) -> bool
     true
 }
 
-// Number 5: the e events after a document of d bytes, each by itself and against the names that are open.
-pub fn check_events(s: &[u8], d: usize, e: usize) -> Reading
-    requires { ⌜ (d ≤ 16384) × (e ≤ 2048) × (8 + d + 8 * e ≤ length (now s)) ⌝ }
-    ensures { λ r. ⌜ r ≡ judge (allStoredAt e (now (s .entry)) (8 + d)) d (8 + d) 0 [] (Reading.Good d e) ⌝ }
+// Whether an exit, number `number`, and its enter, number `mate`, carry each other's number; events of fewer than 12 bytes carry none.
+pub fn pair_true(
+    s: &[u8],
+    width: usize,
+    at: usize,
+    there: usize,
+    number: usize,
+    mate: usize,
+) -> bool
+    requires { ⌜ (at + width ≤ length (now s)) × (there + width ≤ length (now s)) ⌝ }
+    ensures { λ r. ⌜ r ≡ paired width (u32At (now (s .entry)) (at + 8)) (u32At (now (s .entry)) (there + 8)) mate number ⌝ }
+{
+    if width < 12 {
+        return true;
+    }
+    let back = u32_at(s, at + 8);
+    if back != mate {
+        return false;
+    }
+    let forth = u32_at(s, there + 8);
+    if forth != number {
+        return false;
+    }
+    true
+}
+
+// Number 5: the e events of `width` bytes after a document of d bytes, each by itself and against the names that are open.
+pub fn check_events(s: &[u8], front: usize, width: usize, d: usize, e: usize) -> Reading
+    requires { ⌜ (8 ≤ width) × (width ≤ 256) × (8 + front + d + width * e ≤ length (now s)) ⌝ }
+    ensures { λ r. ⌜ r ≡ judge width (mateIn (form front width) (now (s .entry)) d) (allStoredAt width e (now (s .entry)) (8 + front + d)) d 0 (8 + front + d) 0 [] [] (Reading.Good d e) ⌝ }
 {
     let mut held = Open::new();
-    let mut at = 8 + d;
+    let first = 8 + front + d;
+    let mut at = first;
+    let mut number = 0;
     let mut last = 0;
     let mut left = e;
     while left > 0 {
@@ -123,6 +154,7 @@ pub fn check_events(s: &[u8], d: usize, e: usize) -> Reading
                 return refused(5, at);
             }
             held.names[depth] = s[at + 1];
+            held.numbers[depth] = number;
             held.depth = depth + 1;
         } else {
             if depth == 0 {
@@ -132,10 +164,16 @@ pub fn check_events(s: &[u8], d: usize, e: usize) -> Reading
             if held.names[top] != s[at + 1] {
                 return refused(5, at);
             }
+            let mate = held.numbers[top];
+            let there = first + width * mate;
+            if !pair_true(s, width, at, there, number, mate) {
+                return refused(5, at);
+            }
             held.depth = top;
         }
         last = u32_at(s, at + 4);
-        at += 8;
+        at += width;
+        number += 1;
         left -= 1;
     }
     if held.depth != 0 {
@@ -147,25 +185,26 @@ pub fn check_events(s: &[u8], d: usize, e: usize) -> Reading
     }
 }
 
-// Numbers 3, 4 and 5.
-pub fn check(s: &[u8]) -> Reading
-    ensures { λ r. ⌜ r ≡ checked (now (s .entry)) ⌝ }
+// Numbers 3, 4 and 5, of a record with `front` bytes before the document's count and events of `width` bytes.
+pub fn check(s: &[u8], front: usize, width: usize) -> Reading
+    requires { ⌜ (front ≤ length (now s)) × (8 ≤ width) × (width ≤ 256) ⌝ }
+    ensures { λ r. ⌜ r ≡ checkedIn (form front width) (now (s .entry)) ⌝ }
 {
-    let Count::Fits(d) = count_at(s, 0, MAX_DOCUMENT, 1) else {
-        return refused(3, 0);
+    let Count::Fits(d) = count_at(s, front, MAX_DOCUMENT, 1) else {
+        return refused(3, front);
     };
-    let Count::Fits(e) = count_at(s, 4 + d, MAX_EVENTS, 8) else {
-        return refused(3, 4 + d);
+    let Count::Fits(e) = count_at(s, 4 + front + d, MAX_EVENTS, width) else {
+        return refused(3, 4 + front + d);
     };
-    let end = 8 + d + 8 * e;
+    let end = 8 + front + d + width * e;
     if s.len() != end {
         return refused(3, end);
     }
-    let returned = first_return(s, 4, d);
-    if returned < 4 + d {
+    let returned = first_return(s, 4 + front, d);
+    if returned < 4 + front + d {
         return refused(4, returned);
     }
-    check_events(s, d, e)
+    check_events(s, front, width, d, e)
 }
 
 // Numbers 1 to 5: what every call on a record begins with. Of the work memory only its length matters.
@@ -178,5 +217,28 @@ pub fn admit(s: &[u8], options: u32, works: usize) -> Reading
     if options > MAX_OPTIONS {
         return refused(2, 0);
     }
-    check(s)
+    check(s, 0, 8)
+}
+
+// The same of a record of form 2: what every call on one begins with. The options are read from the record.
+pub fn admit_second(s: &[u8], works: usize) -> Reading
+    ensures { λ r. ⌜ r ≡ admittedSecond (now (s .entry)) works ⌝ }
+{
+    if works < MIN_WORK {
+        return refused(1, 0);
+    }
+    if s.len() < 4 {
+        return refused(3, 0);
+    }
+    let count = u32_at(s, 0);
+    if count != 1 {
+        return refused(2, 0);
+    }
+    if s.len() < 5 {
+        return refused(3, 0);
+    }
+    if s[4] > 63 {
+        return refused(2, 0);
+    }
+    check(s, 5, 12)
 }

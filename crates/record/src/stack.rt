@@ -8,16 +8,18 @@ ghost use lib.ListN.{replicate};
 
 pub struct Open {
     pub names: [u8; 64],
+    pub numbers: [usize; 64],
     pub depth: usize,
 }
 
 impl Open {
     // None open.
     pub fn new() -> Open
-        ensures { λ r. ⌜ (r .depth ≡ 0) × (r .names ≡ replicate 64 0) ⌝ }
+        ensures { λ r. ⌜ (r .depth ≡ 0) × (r .names ≡ replicate 64 0) × (r .numbers ≡ replicate 64 0) ⌝ }
     {
         Open {
             names: [0u8; 64],
+            numbers: [0usize; 64],
             depth: 0,
         }
     }
