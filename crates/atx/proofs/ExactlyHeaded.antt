@@ -11,9 +11,10 @@ use lib.ListN.{length}
 use lib.Dec.{ltb}
 use borrow.Author.Tests.{ltb-true, ltb-false}
 use Rattle.record.specs.Choice.{choose}
-use Rattle.record.specs.Rows.{Least}
+use Rattle.record.specs.Order.{rank, Least}
 use Rattle.record.specs.Outcome.{sized, accepted, refusing}
 use Rattle.record.specs.declared.check.Refusal.{Refusal}
+use Rattle.record.proofs.Order.{lower-first}
 use Rattle.scan.specs.Line.{lineOf, reading}
 use Rattle.scan.specs.Rows.{Row, row-2, row-3, row-4, Exactly}
 use Rattle.scan.specs.declared.line.Checked.{Checked}
@@ -29,19 +30,19 @@ heading-apart l options a q =
     neither _ _ _ (HeadedRefused a) (λ e. let z : _≡_ {A = ℕ} 0 1 = cc in omega arith) (λ e. let z : _≡_ {A = ℕ} 0 1 = cc in omega arith) q
 
 module _ (s : List ℕ) (options outs : ℕ) where
-  low : (n p : ℕ) → Row s options n p → n < 7
-  low n p (row-2 w a b) = omega arith
-  low n p (row-3 w a b) = omega arith
-  low n p (row-4 w v a) = omega arith
+  low : (n p : ℕ) → Row s options n p → (0 < n) × (n < 7)
+  low n p (row-2 w a b) = (omega arith, omega arith)
+  low n p (row-3 w a b) = (omega arith, omega arith)
+  low n p (row-4 w v a) = (omega arith, omega arith)
 
   -- the least row of the check is the least of all
   lifted : {n p : ℕ} → Least (Row s options) n p → Least (WritingRow s options outs) n p
   lifted {n} {p} l = record { holds = by-reading (l .holds); least = go }
     where
-      go : (m q : ℕ) → WritingRow s options outs m q → (n < m) ⊎ ((n ≡ m) × (p ≤ q))
+      go : (m q : ℕ) → WritingRow s options outs m q → (rank n < rank m) ⊎ ((n ≡ m) × (p ≤ q))
       go m q (by-reading r) = l .least m q r
-      go m q (row-7 h w a b) = inl (omega (arith, low n p (l .holds)))
-      go m q (row-8 h w a b) = inl (omega (arith, low n p (l .holds)))
+      go m q (row-7 h w a b) = let y = low n p (l .holds) in inl (lower-first _ _ (omega arith) (omega arith) (omega arith))
+      go m q (row-8 h w a b) = let y = low n p (l .holds) in inl (lower-first _ _ (omega arith) (omega arith) (omega arith))
 
   module _ (clear : (n p : ℕ) → Row s options n p → ⊥) where
     no-heading : isHeading (lineOf s) options ≡ false → (n p : ℕ) → WritingRow s options outs n p → ⊥
@@ -53,16 +54,16 @@ module _ (s : List ℕ) (options outs : ℕ) where
       at-7 : 8000 < length (headingEvents (lineOf s)) → Least (WritingRow s options outs) 7 0
       at-7 h = record { holds = row-7 is h refl refl; least = go }
         where
-          go : (m q : ℕ) → WritingRow s options outs m q → (7 < m) ⊎ ((7 ≡ m) × (0 ≤ q))
+          go : (m q : ℕ) → WritingRow s options outs m q → (rank 7 < rank m) ⊎ ((7 ≡ m) × (0 ≤ q))
           go m q (by-reading r) = absurd (clear m q r)
           go m q (row-7 i w a b) = inr (sym a, omega arith)
-          go m q (row-8 i w a b) = inl (omega arith)
+          go m q (row-8 i w a b) = inl (lower-first _ _ (omega arith) (omega arith) (omega arith))
 
       module _ (few : length (headingEvents (lineOf s)) ≤ 8000) where
         at-8 : outs < 4 + 8 * length (headingEvents (lineOf s)) → Least (WritingRow s options outs) 8 0
         at-8 h = record { holds = row-8 is h refl refl; least = go }
           where
-            go : (m q : ℕ) → WritingRow s options outs m q → (8 < m) ⊎ ((8 ≡ m) × (0 ≤ q))
+            go : (m q : ℕ) → WritingRow s options outs m q → (rank 8 < rank m) ⊎ ((8 ≡ m) × (0 ≤ q))
             go m q (by-reading r) = absurd (clear m q r)
             go m q (row-7 i w a b) = absurd (omega arith)
             go m q (row-8 i w a b) = inr (sym a, omega arith)

@@ -2,7 +2,7 @@
 -- Assumes nothing.
 use Prim.Native.Nat.{ℕ, _<_}
 use mathlib.Core.Path.{_≡_}
-use Rattle.record.specs.Rows.{Least}
+use Rattle.record.specs.Order.{Least}
 
 -- r is the answer of a call, R the rows of document 01's table that it can give, and `refusal n p` the answer "number n, place p, all else zero".
 -- A refusal is given where it is the least row that holds, and only there; the number is 0 where no row holds, and only there; and what has a

@@ -17,7 +17,8 @@ use Rattle.record.specs.Form.{Form, old, placeIn, mateIn}
 use Rattle.record.specs.Event.{allStoredAt}
 use Rattle.record.specs.Stack.{none}
 use Rattle.record.specs.Check.{refuse, countAt, fitting, firstReturn, judge, insideOf, endOf, eventCountOf, checkedIn, checked, admitted}
-use Rattle.record.specs.Rows.{Least, documentCountIn, eventCountIn, documentCount, eventCount, Section, the-document, the-events, Misfits, no-room, over, past, follow, Returns, openNames, openNumbers, placeBefore, Broken, Unsound, an-event, left-open, Inner, in-3, in-4, in-5, Row, row-1, row-2, row-3, row-4, row-5, Exactly}
+use Rattle.record.specs.Order.{rank, Least}
+use Rattle.record.specs.Rows.{documentCountIn, eventCountIn, documentCount, eventCount, Section, the-document, the-events, Misfits, no-room, over, past, follow, Returns, openNames, openNumbers, placeBefore, Broken, Unsound, an-event, left-open, Inner, in-3, in-4, in-5, Row, row-1, row-2, row-3, row-4, row-5, Exactly}
 use Rattle.record.specs.declared.check.Count.{Count}
 use Rattle.record.specs.declared.check.Count.the-variants.{Fits, Misfit}
 use Rattle.record.specs.declared.check.Refusal.{Refusal}
@@ -25,15 +26,8 @@ use Rattle.record.specs.declared.check.Reading.{Reading}
 use Rattle.record.specs.declared.check.Reading.the-variants.{Good}
 use Rattle.record.proofs.Bools.{and-split, clash}
 use Rattle.record.proofs.Counts.{Fitted, fitted}
+use Rattle.record.proofs.Order.{lower-first, least-only}
 use Rattle.record.proofs.Verdict.{Verdict, all-good, one-bad, some-left, verdict}
-
--- the least row is one only
-pub least-only : {R : ℕ → ℕ → Type 0} {n p m q : ℕ} → Least R n p → Least R m q → (n ≡ m) × (p ≡ q)
-least-only {R} {n} {p} {m} {q} a b =
-    ⊎-elim
-    (λ x. ⊎-elim (λ y. absurd (omega arith)) (λ y. absurd (omega arith)) (b .least n p (a .holds)))
-    (λ x. ⊎-elim (λ y. absurd (omega arith)) (λ y. (omega arith, omega arith)) (b .least n p (a .holds)))
-    (a .least m q (b .holds))
 
 -- what a check comes to, of the rows R
 pub data Found (fm : Form) (R : ℕ → ℕ → Type 0) (s : List ℕ) (r : Reading) : Type 0 where
@@ -156,25 +150,25 @@ module _ (fm : Form) (s : List ℕ) where
   at-3 : (p : ℕ) → Misfits fm s p → ((q : ℕ) → Misfits fm s q → p ≤ q) → Least (Inner fm s) 3 p
   at-3 p h f = record { holds = in-3 h refl; least = go }
     where
-      go : (m q : ℕ) → Inner fm s m q → (3 < m) ⊎ ((3 ≡ m) × (p ≤ q))
+      go : (m q : ℕ) → Inner fm s m q → (rank 3 < rank m) ⊎ ((3 ≡ m) × (p ≤ q))
       go m q (in-3 w a) = inr (sym a, f q w)
-      go m q (in-4 w a) = inl (omega arith)
-      go m q (in-5 w a) = inl (omega arith)
+      go m q (in-4 w a) = inl (lower-first _ _ (omega arith) (omega arith) (omega arith))
+      go m q (in-5 w a) = inl (lower-first _ _ (omega arith) (omega arith) (omega arith))
 
   module _ (no-3 : (q : ℕ) → Misfits fm s q → ⊥) where
     at-4 : (p : ℕ) → Returns fm s p → ((q : ℕ) → Returns fm s q → p ≤ q) → Least (Inner fm s) 4 p
     at-4 p h f = record { holds = in-4 h refl; least = go }
       where
-        go : (m q : ℕ) → Inner fm s m q → (4 < m) ⊎ ((4 ≡ m) × (p ≤ q))
+        go : (m q : ℕ) → Inner fm s m q → (rank 4 < rank m) ⊎ ((4 ≡ m) × (p ≤ q))
         go m q (in-3 w a) = absurd (no-3 q w)
         go m q (in-4 w a) = inr (sym a, f q w)
-        go m q (in-5 w a) = inl (omega arith)
+        go m q (in-5 w a) = inl (lower-first _ _ (omega arith) (omega arith) (omega arith))
 
     module _ (no-4 : (q : ℕ) → Returns fm s q → ⊥) where
       at-5 : (p : ℕ) → Unsound fm s p → ((q : ℕ) → Unsound fm s q → p ≤ q) → Least (Inner fm s) 5 p
       at-5 p h f = record { holds = in-5 h refl; least = go }
         where
-          go : (m q : ℕ) → Inner fm s m q → (5 < m) ⊎ ((5 ≡ m) × (p ≤ q))
+          go : (m q : ℕ) → Inner fm s m q → (rank 5 < rank m) ⊎ ((5 ≡ m) × (p ≤ q))
           go m q (in-3 w a) = absurd (no-3 q w)
           go m q (in-4 w a) = absurd (no-4 q w)
           go m q (in-5 w a) = inr (sym a, f q w)
@@ -321,23 +315,23 @@ found s options works = first (ltb works 65536) refl
     second : (z : Bool) → ltb 63 options ≡ z → 65536 ≤ works → Found old (Row s options works) s (choose z (refuse 2 0) (checked s))
     second true e memory = least-row 2 0 refl record { holds = row-2 (ltb-true _ _ e) refl refl; least = go }
       where
-        go : (m q : ℕ) → Row s options works m q → (2 < m) ⊎ ((2 ≡ m) × (0 ≤ q))
+        go : (m q : ℕ) → Row s options works m q → (rank 2 < rank m) ⊎ ((2 ≡ m) × (0 ≤ q))
         go m q (row-1 w a b) = absurd (omega arith)
         go m q (row-2 w a b) = inr (sym a, omega arith)
-        go m q (row-3 w a) = inl (omega arith)
-        go m q (row-4 w a) = inl (omega arith)
-        go m q (row-5 w a) = inl (omega arith)
+        go m q (row-3 w a) = inl (lower-first _ _ (omega arith) (omega arith) (omega arith))
+        go m q (row-4 w a) = inl (lower-first _ _ (omega arith) (omega arith) (omega arith))
+        go m q (row-5 w a) = inl (lower-first _ _ (omega arith) (omega arith) (omega arith))
     second false e memory = outward s options works memory (ltb-false _ _ e) (found-first old s)
 
     first : (z : Bool) → ltb works 65536 ≡ z → Found old (Row s options works) s (choose z (refuse 1 0) (choose (ltb 63 options) (refuse 2 0) (checked s)))
     first true e = least-row 1 0 refl record { holds = row-1 (ltb-true _ _ e) refl refl; least = go }
       where
-        go : (m q : ℕ) → Row s options works m q → (1 < m) ⊎ ((1 ≡ m) × (0 ≤ q))
+        go : (m q : ℕ) → Row s options works m q → (rank 1 < rank m) ⊎ ((1 ≡ m) × (0 ≤ q))
         go m q (row-1 w a b) = inr (sym a, omega arith)
-        go m q (row-2 w a b) = inl (omega arith)
-        go m q (row-3 w a) = inl (omega arith)
-        go m q (row-4 w a) = inl (omega arith)
-        go m q (row-5 w a) = inl (omega arith)
+        go m q (row-2 w a b) = inl (lower-first _ _ (omega arith) (omega arith) (omega arith))
+        go m q (row-3 w a) = inl (lower-first _ _ (omega arith) (omega arith) (omega arith))
+        go m q (row-4 w a) = inl (lower-first _ _ (omega arith) (omega arith) (omega arith))
+        go m q (row-5 w a) = inl (lower-first _ _ (omega arith) (omega arith) (omega arith))
     first false e = second (ltb 63 options) refl (ltb-false _ _ e)
 
 pub same-refusal : (n p m q : ℕ) → refuse n p ≡ refuse m q → (n ≡ m) × (p ≡ q)

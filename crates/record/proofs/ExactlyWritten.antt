@@ -12,21 +12,23 @@ use borrow.Author.Tests.{ltb-true, ltb-false}
 use Rattle.record.specs.Choice.{choose}
 use Rattle.record.specs.Check.{admitted}
 use Rattle.record.specs.Form.{old, placeIn}
-use Rattle.record.specs.Rows.{Least, Row, row-1, row-2, row-3, row-4, row-5, documentCount, eventCount}
+use Rattle.record.specs.Order.{rank, Least}
+use Rattle.record.specs.Rows.{Row, row-1, row-2, row-3, row-4, row-5, documentCount, eventCount}
 use Rattle.record.specs.Outcome.{Resolution, offends, gives, Outcome, accepted, refused, refusing, sized, settled, outcome}
 use Rattle.record.specs.Written.{Judges, WrittenRow, by-check, row-6, row-7, row-8, ExactlyWritten}
 use Rattle.record.specs.declared.event.Event.{Event}
 use Rattle.record.specs.declared.check.Refusal.{Refusal}
 use Rattle.record.specs.declared.check.Reading.the-variants.{Good}
-use Rattle.record.proofs.Exactly.{Found, least-row, no-row, found, least-only}
+use Rattle.record.proofs.Order.{lower-first, least-only}
+use Rattle.record.proofs.Exactly.{Found, least-row, no-row, found}
 
 -- the check's numbers end at 5
-low : {s : List ℕ} {options works n p : ℕ} → Row s options works n p → n ≤ 5
-low (row-1 w a b) = omega arith
-low (row-2 w a b) = omega arith
-low (row-3 w a) = omega arith
-low (row-4 w a) = omega arith
-low (row-5 w a) = omega arith
+low : {s : List ℕ} {options works n p : ℕ} → Row s options works n p → (0 < n) × (n ≤ 5)
+low (row-1 w a b) = (omega arith, omega arith)
+low (row-2 w a b) = (omega arith, omega arith)
+low (row-3 w a) = (omega arith, omega arith)
+low (row-4 w a) = (omega arith, omega arith)
+low (row-5 w a) = (omega arith, omega arith)
 
 -- what a call comes to
 data Came (R : ℕ → ℕ → Type 0) (made : Resolution) (o : Outcome) : Type 0 where
@@ -40,13 +42,13 @@ module _ (s : List ℕ) (options works : ℕ) (none : (n p : ℕ) → Row s opti
   came-offends : (k : ℕ) → Judges Offends (offends k) → Came (WrittenRow s options works Offends (offends k) outs) (offends k) (refusing 6 (placeIn old (documentCount s) k))
   came-offends k j = least-row′ 6 _ refl record { holds = row-6 k (j .earliest k refl .0) refl refl; least = go }
     where
-      go : (m q : ℕ) → WrittenRow s options works Offends (offends k) outs m q → (6 < m) ⊎ ((6 ≡ m) × (placeIn old (documentCount s) k ≤ q))
+      go : (m q : ℕ) → WrittenRow s options works Offends (offends k) outs m q → (rank 6 < rank m) ⊎ ((6 ≡ m) × (placeIn old (documentCount s) k ≤ q))
       go m q (by-check r) = absurd (none m q r)
       go m q (row-6 i e a b) =
           let x : k ≤ i = j .earliest k refl .1 i e in
           inr (sym a, omega arith)
-      go m q (row-7 es e h a b) = inl (omega arith)
-      go m q (row-8 es e h a b) = inl (omega arith)
+      go m q (row-7 es e h a b) = inl (lower-first _ _ (omega arith) (omega arith) (omega arith))
+      go m q (row-8 es e h a b) = inl (lower-first _ _ (omega arith) (omega arith) (omega arith))
 
   came-gives : (es : List Event) → Judges Offends (gives es) → Came (WrittenRow s options works Offends (gives es) outs) (gives es) (sized es outs)
   unfolding sized choose
@@ -59,7 +61,7 @@ module _ (s : List ℕ) (options works : ℕ) (none : (n p : ℕ) → Row s opti
           Came (WrittenRow s options works Offends (gives es) outs) (gives es) (choose z (refusing 8 0) (accepted es))
       second true t few = least-row′ 8 0 refl record { holds = row-8 es refl (ltb-true _ _ t) refl refl; least = go }
         where
-          go : (m q : ℕ) → WrittenRow s options works Offends (gives es) outs m q → (8 < m) ⊎ ((8 ≡ m) × (0 ≤ q))
+          go : (m q : ℕ) → WrittenRow s options works Offends (gives es) outs m q → (rank 8 < rank m) ⊎ ((8 ≡ m) × (0 ≤ q))
           go m q (by-check r) = absurd (none m q r)
           go m q (row-6 i e a b) = absurd (j .none es refl i e)
           go m q (row-7 fs e h a b) = let l = same-length fs e in absurd (omega arith)
@@ -79,11 +81,11 @@ module _ (s : List ℕ) (options works : ℕ) (none : (n p : ℕ) → Row s opti
           Came (WrittenRow s options works Offends (gives es) outs) (gives es) (choose z (refusing 7 0) (choose (ltb outs (4 + 8 * length es)) (refusing 8 0) (accepted es)))
       first true t = least-row′ 7 0 refl record { holds = row-7 es refl (ltb-true _ _ t) refl refl; least = go }
         where
-          go : (m q : ℕ) → WrittenRow s options works Offends (gives es) outs m q → (7 < m) ⊎ ((7 ≡ m) × (0 ≤ q))
+          go : (m q : ℕ) → WrittenRow s options works Offends (gives es) outs m q → (rank 7 < rank m) ⊎ ((7 ≡ m) × (0 ≤ q))
           go m q (by-check r) = absurd (none m q r)
           go m q (row-6 i e a b) = absurd (j .none es refl i e)
           go m q (row-7 fs e h a b) = inr (sym a, omega arith)
-          go m q (row-8 fs e h a b) = inl (omega arith)
+          go m q (row-8 fs e h a b) = inl (lower-first _ _ (omega arith) (omega arith) (omega arith))
       first false t = second (ltb outs (4 + 8 * length es)) refl (ltb-false _ _ t)
 
   came-settled : (made : Resolution) → Judges Offends made → Came (WrittenRow s options works Offends made outs) made (settled (documentCount s) made outs)
@@ -101,11 +103,11 @@ came s options works Offends resolve outs j = by (found s options works)
     by : Found old (Row s options works) s (admitted s options works) → Came (WrittenRow s options works Offends made outs) made (outcome (admitted s options works) resolve outs)
     by (least-row n p r l) = least-row′ n p (rw r) record { holds = by-check (l .holds); least = go }
       where
-        go : (m q : ℕ) → WrittenRow s options works Offends made outs m q → (n < m) ⊎ ((n ≡ m) × (p ≤ q))
+        go : (m q : ℕ) → WrittenRow s options works Offends made outs m q → (rank n < rank m) ⊎ ((n ≡ m) × (p ≤ q))
         go m q (by-check x) = l .least m q x
-        go m q (row-6 i e a b) = let y = low (l .holds) in inl (omega arith)
-        go m q (row-7 fs e h a b) = let y = low (l .holds) in inl (omega arith)
-        go m q (row-8 fs e h a b) = let y = low (l .holds) in inl (omega arith)
+        go m q (row-6 i e a b) = let y = low (l .holds) in inl (lower-first _ _ (omega arith) (omega arith) (omega arith))
+        go m q (row-7 fs e h a b) = let y = low (l .holds) in inl (lower-first _ _ (omega arith) (omega arith) (omega arith))
+        go m q (row-8 fs e h a b) = let y = low (l .holds) in inl (lower-first _ _ (omega arith) (omega arith) (omega arith))
     by (no-row r f) = rw r (came-settled s options works f Offends outs made (j r))
 
 same-refusing : (n p m q : ℕ) → refusing n p ≡ refusing m q → (n ≡ m) × (p ≡ q)

@@ -13,6 +13,7 @@ pub mod Soundness
 pub mod Pairs
 pub mod Output
 pub mod Verdict
+pub mod Order
 pub mod Exactly
 pub mod Second
 pub mod ExactlyWritten

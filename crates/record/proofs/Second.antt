@@ -13,11 +13,13 @@ use Rattle.record.specs.Choice.{choose}
 use Rattle.record.specs.Bytes.{u32At}
 use Rattle.record.specs.Form.{second}
 use Rattle.record.specs.Check.{refuse, checkedIn}
-use Rattle.record.specs.Rows.{Least, Inner, in-3, in-4, in-5, documentCountIn, eventCountIn}
+use Rattle.record.specs.Order.{rank, Least}
+use Rattle.record.specs.Rows.{Inner, in-3, in-4, in-5, documentCountIn, eventCountIn}
 use Rattle.record.specs.Second.{checkedSecond, admittedSecond, SecondRow, memory, other-count, over-options, no-count, runs-past, inner, ExactlySecond}
 use Rattle.record.specs.declared.check.Reading.{Reading}
 use Rattle.record.specs.declared.check.Reading.the-variants.{Good}
-use Rattle.record.proofs.Exactly.{Found, least-row, no-row, least-only, same-refusal, apart, same-good, found-first}
+use Rattle.record.proofs.Order.{lower-first, least-only}
+use Rattle.record.proofs.Exactly.{Found, least-row, no-row, same-refusal, apart, same-good, found-first}
 
 module _ (s : List ℕ) (works : ℕ) where
   pub short-work : works < 65536 → refuse 1 0 ≡ admittedSecond s works
@@ -47,46 +49,46 @@ module _ (s : List ℕ) (works : ℕ) where
         unfolding admittedSecond checkedSecond choose
         rest-checked h o = rw (le-ltb _ _ m, le-ltb _ _ r, ← e, eq-eqb _ _ one, le-ltb _ _ h, le-ltb _ _ o)
 
--- the rows that follow the front have no number under 3
-inner-low : {s : List ℕ} {n p : ℕ} → Inner second s n p → 3 ≤ n
-inner-low (in-3 w a) = omega arith
-inner-low (in-4 w a) = omega arith
-inner-low (in-5 w a) = omega arith
+-- the rows that follow the front have numbers from 3 to 5
+inner-low : {s : List ℕ} {n p : ℕ} → Inner second s n p → (3 ≤ n) × (n ≤ 5)
+inner-low (in-3 w a) = (omega arith, omega arith)
+inner-low (in-4 w a) = (omega arith, omega arith)
+inner-low (in-5 w a) = (omega arith, omega arith)
 
 module _ (s : List ℕ) (works : ℕ) where
   -- a row of the front that is the least
   at-1 : works < 65536 → Least (SecondRow s works) 1 0
   at-1 h = record { holds = memory h refl refl; least = go }
     where
-      go : (m q : ℕ) → SecondRow s works m q → (1 < m) ⊎ ((1 ≡ m) × (0 ≤ q))
+      go : (m q : ℕ) → SecondRow s works m q → (rank 1 < rank m) ⊎ ((1 ≡ m) × (0 ≤ q))
       go m q (memory w a b) = inr (sym a, omega arith)
-      go m q (other-count r w a b) = inl (omega arith)
-      go m q (over-options r w a b) = inl (omega arith)
-      go m q (no-count w a b) = inl (omega arith)
-      go m q (runs-past w a b) = inl (omega arith)
-      go m q (inner i) = let l = inner-low i in inl (omega arith)
+      go m q (other-count r w a b) = inl (lower-first _ _ (omega arith) (omega arith) (omega arith))
+      go m q (over-options r w a b) = inl (lower-first _ _ (omega arith) (omega arith) (omega arith))
+      go m q (no-count w a b) = inl (lower-first _ _ (omega arith) (omega arith) (omega arith))
+      go m q (runs-past w a b) = inl (lower-first _ _ (omega arith) (omega arith) (omega arith))
+      go m q (inner i) = let l = inner-low i in inl (lower-first _ _ (omega arith) (omega arith) (omega arith))
 
   module _ (mem : 65536 ≤ works) where
     at-2 : SecondRow s works 2 0 → Least (SecondRow s works) 2 0
     at-2 h = record { holds = h; least = go }
       where
-        go : (m q : ℕ) → SecondRow s works m q → (2 < m) ⊎ ((2 ≡ m) × (0 ≤ q))
+        go : (m q : ℕ) → SecondRow s works m q → (rank 2 < rank m) ⊎ ((2 ≡ m) × (0 ≤ q))
         go m q (memory w a b) = absurd (omega arith)
         go m q (other-count r w a b) = inr (sym a, omega arith)
         go m q (over-options r w a b) = inr (sym a, omega arith)
-        go m q (no-count w a b) = inl (omega arith)
-        go m q (runs-past w a b) = inl (omega arith)
-        go m q (inner i) = let l = inner-low i in inl (omega arith)
+        go m q (no-count w a b) = inl (lower-first _ _ (omega arith) (omega arith) (omega arith))
+        go m q (runs-past w a b) = inl (lower-first _ _ (omega arith) (omega arith) (omega arith))
+        go m q (inner i) = let l = inner-low i in inl (lower-first _ _ (omega arith) (omega arith) (omega arith))
 
-    inner-3 : (m q : ℕ) → Inner second s m q → (3 < m) ⊎ ((3 ≡ m) × (0 ≤ q))
+    inner-3 : (m q : ℕ) → Inner second s m q → (rank 3 < rank m) ⊎ ((3 ≡ m) × (0 ≤ q))
     inner-3 m q (in-3 w a) = inr (sym a, omega arith)
-    inner-3 m q (in-4 w a) = inl (omega arith)
-    inner-3 m q (in-5 w a) = inl (omega arith)
+    inner-3 m q (in-4 w a) = inl (lower-first _ _ (omega arith) (omega arith) (omega arith))
+    inner-3 m q (in-5 w a) = inl (lower-first _ _ (omega arith) (omega arith) (omega arith))
 
     at-3 : SecondRow s works 3 0 → (4 ≤ length s → u32At s 0 ≡ 1) → length s < 5 → Least (SecondRow s works) 3 0
     at-3 h one short = record { holds = h; least = go }
       where
-        go : (m q : ℕ) → SecondRow s works m q → (3 < m) ⊎ ((3 ≡ m) × (0 ≤ q))
+        go : (m q : ℕ) → SecondRow s works m q → (rank 3 < rank m) ⊎ ((3 ≡ m) × (0 ≤ q))
         go m q (memory w a b) = absurd (omega arith)
         go m q (other-count r w a b) = absurd (w (one r))
         go m q (over-options r w a b) = absurd (omega arith)

@@ -1,10 +1,9 @@
 -- Document 01's table of the numbers given back, rows 1 to 5, said a second time: each row in the table's words, with its place, and not as a
--- cascade. "Several at once: lowest number first, and within 3, 4 and 5 the earliest place": the refusal given is the least of the rows that hold.
+-- cascade. Of several that hold the least is given: specs/Order.antt says which that is.
 -- Assumes nothing.
 use Prim.Native.Nat.{ℕ, zero, suc, _+_, _*_, _≤_, _<_}
 use mathlib.Core.Path.{_≡_}
 use mathlib.Core.Bool.{false}
-use mathlib.Core.Logic.{_⊎_}
 use mathlib.Core.List.{List, []}
 use lib.ListN.{length, getD}
 use Rattle.record.specs.Bytes.{u32At}
@@ -12,12 +11,8 @@ use Rattle.record.specs.Form.{Form, old, placeIn, mateIn}
 use Rattle.record.specs.Event.{storedAt, eventAt}
 use Rattle.record.specs.Stack.{innermost, innermostOf, none, after}
 use Rattle.record.specs.Check.{refuse, admitted}
+use Rattle.record.specs.Order.{Least}
 use Rattle.record.specs.declared.check.Reading.the-variants.{Good}
-
--- of the rows that hold, the least: the lowest number, and of its places the earliest
-pub record Least (R : ℕ → ℕ → Type 0) (n p : ℕ) : Type 0 where
-  pub holds : R n p
-  pub least : (m q : ℕ) → R m q → (n < m) ⊎ ((n ≡ m) × (p ≤ q))
 
 -- D and E, wherever the record has them
 abbrev pub documentCountIn : Form → List ℕ → ℕ

@@ -10,7 +10,8 @@ use Rattle.record.specs.Choice.{choose}
 use Rattle.record.specs.Bytes.{u32At}
 use Rattle.record.specs.Form.{second}
 use Rattle.record.specs.Check.{refuse, checkedIn}
-use Rattle.record.specs.Rows.{Least, Inner, documentCountIn, eventCountIn}
+use Rattle.record.specs.Order.{Least}
+use Rattle.record.specs.Rows.{Inner, documentCountIn, eventCountIn}
 use Rattle.record.specs.declared.check.Reading.{Reading}
 use Rattle.record.specs.declared.check.Reading.the-variants.{Good}
 

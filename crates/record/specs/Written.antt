@@ -7,7 +7,8 @@ use mathlib.Core.List.{List}
 use lib.ListN.{length}
 use Rattle.record.specs.Check.{admitted}
 use Rattle.record.specs.Form.{old, placeIn}
-use Rattle.record.specs.Rows.{Least, Row, documentCount, eventCount}
+use Rattle.record.specs.Order.{Least}
+use Rattle.record.specs.Rows.{Row, documentCount, eventCount}
 use Rattle.record.specs.Outcome.{Resolution, offends, gives, accepted, refusing, outcome}
 use Rattle.record.specs.declared.event.Event.{Event}
 

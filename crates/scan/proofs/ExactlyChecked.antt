@@ -12,9 +12,10 @@ use lib.Dec.{ltb}
 use borrow.Author.Tests.{ltb-true, ltb-false}
 use Rattle.record.specs.Choice.{choose}
 use Rattle.record.specs.Check.{firstReturn}
-use Rattle.record.specs.Rows.{Least}
+use Rattle.record.specs.Order.{rank, Least}
 use Rattle.record.specs.declared.check.Refusal.{Refusal}
-use Rattle.record.proofs.Exactly.{least-only, first-there, first-least}
+use Rattle.record.proofs.Order.{lower-first, least-only}
+use Rattle.record.proofs.Exactly.{first-there, first-least}
 use Rattle.scan.specs.Line.{endOf, refusal, checkedLine, reading}
 use Rattle.scan.specs.Rows.{Row, row-2, row-3, row-4, Exactly}
 use Rattle.scan.specs.declared.line.Checked.{Checked}
@@ -51,19 +52,19 @@ module _ (s : List ℕ) (options : ℕ) where
   at-2 : 63 < options → Least (Row s options) 2 0
   at-2 h = record { holds = row-2 h refl refl; least = go }
     where
-      go : (m q : ℕ) → Row s options m q → (2 < m) ⊎ ((2 ≡ m) × (0 ≤ q))
+      go : (m q : ℕ) → Row s options m q → (rank 2 < rank m) ⊎ ((2 ≡ m) × (0 ≤ q))
       go m q (row-2 w a b) = inr (sym a, omega arith)
-      go m q (row-3 w a b) = inl (omega arith)
-      go m q (row-4 w v a) = inl (omega arith)
+      go m q (row-3 w a b) = inl (lower-first _ _ (omega arith) (omega arith) (omega arith))
+      go m q (row-4 w v a) = inl (lower-first _ _ (omega arith) (omega arith) (omega arith))
 
   module _ (known : options ≤ 63) where
     at-3 : 16384 < length s → Least (Row s options) 3 16384
     at-3 h = record { holds = row-3 h refl refl; least = go }
       where
-        go : (m q : ℕ) → Row s options m q → (3 < m) ⊎ ((3 ≡ m) × (16384 ≤ q))
+        go : (m q : ℕ) → Row s options m q → (rank 3 < rank m) ⊎ ((3 ≡ m) × (16384 ≤ q))
         go m q (row-2 w a b) = absurd (omega arith)
         go m q (row-3 w a b) = inr (sym a, omega arith)
-        go m q (row-4 w v a) = inl (omega arith)
+        go m q (row-4 w v a) = inl (lower-first _ _ (omega arith) (omega arith) (omega arith))
 
     module _ (short : length s ≤ 16384) where
       first-before : (q : ℕ) → q < length s → getD s q 0 ≡ 13 → firstReturn (length s) s 0 ≤ q
@@ -72,7 +73,7 @@ module _ (s : List ℕ) (options : ℕ) where
       at-4 : firstReturn (length s) s 0 < length s → Least (Row s options) 4 (firstReturn (length s) s 0)
       at-4 h = record { holds = row-4 h (first-there (length s) s 0 (omega arith)) refl; least = go }
         where
-          go : (m q : ℕ) → Row s options m q → (4 < m) ⊎ ((4 ≡ m) × (firstReturn (length s) s 0 ≤ q))
+          go : (m q : ℕ) → Row s options m q → (rank 4 < rank m) ⊎ ((4 ≡ m) × (firstReturn (length s) s 0 ≤ q))
           go m q (row-2 w a b) = absurd (omega arith)
           go m q (row-3 w a b) = absurd (omega arith)
           go m q (row-4 w v a) = inr (sym a, first-before q w v)

@@ -5,7 +5,7 @@ use Prim.Native.Nat.{ℕ, _<_}
 use mathlib.Core.Path.{_≡_}
 use mathlib.Core.List.{List}
 use lib.ListN.{length, getD}
-use Rattle.record.specs.Rows.{Least}
+use Rattle.record.specs.Order.{Least}
 use Rattle.record.specs.declared.check.Refusal.{Refusal}
 use Rattle.scan.specs.Line.{refusal}
 
