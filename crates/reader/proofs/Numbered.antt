@@ -14,22 +14,26 @@ use Rattle.record.specs.declared.event.Event.{Event}
 use Rattle.record.specs.declared.check.Reading.the-variants.{Good}
 use Rattle.record.proofs.Good.{told}
 use Rattle.record.proofs.Parts.{nth-event}
-use Rattle.reader.specs.Read.{foundOf, foundAt, eventNumber}
+use Rattle.reader.specs.Read.{foundOf, foundAt, standingAt, countOf, eventNumber}
 use Rattle.reader.specs.declared.Found.the-variants.{End}
-use Rattle.reader.proofs.Places.{found-event, found-end}
+use Rattle.reader.proofs.Places.{found-event, count-after, number-counted, number-past}
+
+counted : (s : List ℕ) (d e : ℕ) → checked s ≡ Good d e → countOf s ≡ e
+counted s d e q =
+    let t = told s d e q in
+    let w : length s ≡ 8 + d + 8 * e = t .whole in
+    count-after s d (sym (t .document-count)) (omega arith) ∙ t .event-count
 
 pub event-of-number : (s : List ℕ) (d e k : ℕ) → checked s ≡ Good d e → k < e → eventNumber s k ≡ foundOf (nth (eventsOf s d e) k)
-unfolding eventNumber eventsOf
+unfolding standingAt eventsOf
 event-of-number s d e k q h =
     let t = told s d e q in
     let w : length s ≡ 8 + d + 8 * e = t .whole in
+    let n : countOf s ≡ e = counted s d e q in
     let p : 8 + u32At s 0 + 8 * k ≡ 8 + d + 8 * k = ap (λ (m : ℕ). 8 + m + 8 * k) (t .document-count) in
-    ap (foundAt s) p ∙ found-event s (8 + d + 8 * k) (omega arith) ∙ ap (λ (v : Event). foundOf v) (sym (nth-event e k s (8 + d) h))
+    number-counted s k (omega arith) ∙ ap (foundAt s) p ∙ found-event s (8 + d + 8 * k) (omega arith) ∙ ap (λ (v : Event). foundOf v) (sym (nth-event e k s (8 + d) h))
 
 pub end-of-numbers : (s : List ℕ) (d e k : ℕ) → checked s ≡ Good d e → e ≤ k → eventNumber s k ≡ End
-unfolding eventNumber
 end-of-numbers s d e k q h =
-    let t = told s d e q in
-    let w : length s ≡ 8 + d + 8 * e = t .whole in
-    let p : 8 + u32At s 0 + 8 * k ≡ 8 + d + 8 * k = ap (λ (m : ℕ). 8 + m + 8 * k) (t .document-count) in
-    ap (foundAt s) p ∙ found-end s (8 + d + 8 * k) (omega arith)
+    let n : countOf s ≡ e = counted s d e q in
+    number-past s k (omega arith)

@@ -1,4 +1,4 @@
--- Laws of places: what `within` and `foundAt` are on either side of the record's end, and that a place held back to the end makes no
+-- Laws of places: what `within`, `foundAt` and `countOf` are on either side of the record's end, and that a place held back to the end makes no
 -- difference to what is found there or further on.
 -- Assumes nothing.
 use mathlib.Core.Path.{_≡_, refl, sym, ap, _∙_}
@@ -7,12 +7,12 @@ use mathlib.Core.List.{List}
 use Prim.Native.Nat.{ℕ, zero, suc, _+_, _*_, _≤_, _<_}
 use native.Mathlib.Omega.{arith}
 use lib.ListN.{length}
-use lib.Dec.{leb}
-use borrow.Author.Tests.{le-leb, lt-leb, leb-true, leb-false}
+use lib.Dec.{leb, ltb}
+use borrow.Author.Tests.{le-leb, lt-leb, leb-true, leb-false, lt-ltb, le-ltb}
 use Rattle.record.specs.Choice.{choose}
 use Rattle.record.specs.Bytes.{u32At}
 use Rattle.record.specs.Event.{eventAt}
-use Rattle.reader.specs.Read.{foundOf, foundAt, within, pastEvents, firstEvent, eventNumber}
+use Rattle.reader.specs.Read.{foundOf, foundAt, within, pastEvents, firstEvent, standingAt, countOf, eventNumber}
 use Rattle.reader.specs.declared.Found.the-variants.{End}
 
 pub within-record : (s : List ℕ) (at : ℕ) → at ≤ length s → within s at ≡ at
@@ -66,7 +66,27 @@ past-past s at j k =
     let z : at + 8 * j + 8 * k ≡ at + 8 * (j + k) = omega arith in
     past-within s (at + 8 * j) k ∙ ap (within s) z
 
--- what stands k events past the first one is event k
-pub number-found : (s : List ℕ) (k : ℕ) → foundAt s (pastEvents s (firstEvent s) k) ≡ eventNumber s k
-unfolding firstEvent pastEvents eventNumber
-number-found s k = ap (foundAt s) (past-within s (8 + u32At s 0) k) ∙ found-within s (8 + u32At s 0 + 8 * k)
+-- what stands k events past the first one is what stands where event k would
+pub standing-found : (s : List ℕ) (k : ℕ) → foundAt s (pastEvents s (firstEvent s) k) ≡ standingAt s k
+unfolding firstEvent pastEvents standingAt
+standing-found s k = ap (foundAt s) (past-within s (8 + u32At s 0) k) ∙ found-within s (8 + u32At s 0 + 8 * k)
+
+count-there : (s : List ℕ) → 8 + u32At s 0 ≤ length s → countOf s ≡ u32At s (4 + u32At s 0)
+unfolding countOf choose
+count-there s h = rw (le-leb (8 + u32At s 0) (length s) h)
+
+-- the count stands after a document of d bytes
+pub count-after : (s : List ℕ) (d : ℕ) → d ≡ u32At s 0 → 8 + d ≤ length s → countOf s ≡ u32At s (4 + d)
+count-after s d e h = count-there s (omega arith) ∙ ap (λ (m : ℕ). u32At s (4 + m)) (sym e)
+
+pub count-cut : (s : List ℕ) → length s < 8 + u32At s 0 → countOf s ≡ 0
+unfolding countOf choose
+count-cut s h = rw (lt-leb (8 + u32At s 0) (length s) h)
+
+pub number-counted : (s : List ℕ) (k : ℕ) → k < countOf s → eventNumber s k ≡ standingAt s k
+unfolding eventNumber choose
+number-counted s k h = rw (lt-ltb k (countOf s) h)
+
+pub number-past : (s : List ℕ) (k : ℕ) → countOf s ≤ k → eventNumber s k ≡ End
+unfolding eventNumber choose
+number-past s k h = rw (le-ltb k (countOf s) h)

@@ -4,7 +4,7 @@
 use Prim.Native.Nat.{ℕ, _+_, _*_}
 use mathlib.Core.List.{List}
 use lib.ListN.{length}
-use lib.Dec.{leb}
+use lib.Dec.{leb, ltb}
 use Rattle.record.specs.Choice.{choose}
 use Rattle.record.specs.Bytes.{u32At}
 use Rattle.record.specs.Event.{eventAt}
@@ -32,6 +32,14 @@ pastEvents s at events = within s (at + 8 * events)
 unfoldable pub firstEvent : List ℕ → ℕ
 firstEvent s = within s (8 + u32At s 0)
 
--- event k of a record, the first being event 0
+-- what stands where event k would, the first being event 0, whatever the count says
+unfoldable pub standingAt : List ℕ → ℕ → Found
+standingAt s k = foundAt s (8 + u32At s 0 + 8 * k)
+
+-- E, or 0 where the record ends before that count does
+unfoldable pub countOf : List ℕ → ℕ
+countOf s = choose (leb (8 + u32At s 0) (length s)) (u32At s (4 + u32At s 0)) 0
+
+-- event k of a record: its count says that it has one, and its bytes are there
 unfoldable pub eventNumber : List ℕ → ℕ → Found
-eventNumber s k = foundAt s (8 + u32At s 0 + 8 * k)
+eventNumber s k = choose (ltb k (countOf s)) (standingAt s k) End

@@ -3,12 +3,12 @@
 // It reads any bytes, good record or not, and never past their end. The work is done over a slice and a number, in `first_event`,
 // `past_events` and `event_or_end`, which the borrow checker covers. The functions over the reader are thin: each takes it apart or makes one,
 // and leaves the rest to one of those three. The checker covers no function that has to do with a struct that holds a slice, so each of
-// these is proved by a walk of its MIR, by hand. `event_number` hides the reader again: its callers are covered.
+// these is proved by a walk of its MIR, by hand. `standing` hides the reader again: its callers are covered.
 
 use record::bytes::u32_at;
 use record::event::event_at;
 ghost use mathlib.Core.Path.{_≡_};
-ghost use Rattle.reader.specs.Read.{firstEvent, pastEvents, foundAt, eventNumber};
+ghost use Rattle.reader.specs.Read.{firstEvent, pastEvents, foundAt, standingAt, countOf, eventNumber};
 
 // A lent record, and a place in it: the number of bytes before it.
 pub struct Reader<'a> {
@@ -79,13 +79,6 @@ pub fn at_events<'a>(s: &'a [u8]) -> Reader<'a>
     }
 }
 
-// The reader's place.
-pub fn place<'a>(reader: Reader<'a>) -> usize
-    ensures { λ r. ⌜ r ≡ reader .entry .at ⌝ }
-{
-    reader.at
-}
-
 // The event at the reader's place, or the end.
 pub fn next_event<'a>(reader: Reader<'a>) -> Found
     ensures { λ r. ⌜ r ≡ foundAt (now (reader .entry .record)) (reader .entry .at) ⌝ }
@@ -103,9 +96,34 @@ pub fn skip<'a>(reader: Reader<'a>, events: usize) -> Reader<'a>
     }
 }
 
+// What stands where a record's event of a number would, or the end, whatever the record's count says.
+pub fn standing(s: &[u8], number: usize) -> Found
+    ensures { λ r. ⌜ r ≡ standingAt (now (s .entry)) number ⌝ }
+{
+    next_event(skip(at_events(s), number))
+}
+
+// How many events a record says that it has, or 0 if it ends before that count does.
+pub fn event_count(s: &[u8]) -> usize
+    ensures { λ r. ⌜ r ≡ countOf (now (s .entry)) ⌝ }
+{
+    let end = s.len();
+    if end < 8 {
+        return 0;
+    }
+    let document = u32_at(s, 0);
+    if end - 8 < document {
+        return 0;
+    }
+    u32_at(s, 4 + document)
+}
+
 // A record's event of a number, the first being 0, or the end if there is none of that number.
 pub fn event_number(s: &[u8], number: usize) -> Found
     ensures { λ r. ⌜ r ≡ eventNumber (now (s .entry)) number ⌝ }
 {
-    next_event(skip(at_events(s), number))
+    if number < event_count(s) {
+        return standing(s, number);
+    }
+    Found::End
 }
