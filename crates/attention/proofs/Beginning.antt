@@ -9,7 +9,7 @@ use lib.Dec.{eqb}
 use lib.ListN.{length, getD, length-map}
 use Rattle.record.specs.declared.event.Event.{Event}
 use Rattle.runs.specs.Runs.{runsOf}
-use Rattle.runs.specs.Rule.{crate}
+use Rattle.runs.specs.Rule.{Profile}
 use Rattle.runs.specs.Plain.{at}
 use Rattle.runs.specs.Pieces.{standing}
 use Rattle.slots.specs.Words.{get16}
@@ -20,7 +20,7 @@ use Rattle.loading.specs.Promise.{Ready as Loaded}
 use Rattle.matcher.specs.State.{Fresh}
 use Rattle.attention.specs.Start.{Cleared}
 
-module _ {options : ℕ} {doc : List ℕ} {es : List Event} {n : ℕ} {w w′ : List ℕ} (room : Room w) (l : Loaded doc es options n w) (c : Cleared w 6147 w′) where
+module _ {profile : Profile} {options : ℕ} {doc : List ℕ} {es : List Event} {n : ℕ} {w w′ : List ℕ} (room : Room w) (l : Loaded profile doc es options n w) (c : Cleared w 6147 w′) where
   pair-kept : (b : ℕ) → b + 1 < 16384 → get16 w′ b ≡ get16 w b
   unfolding get16
   pair-kept b h =
@@ -31,16 +31,16 @@ module _ {options : ℕ} {doc : List ℕ} {es : List Event} {n : ℕ} {w w′ : 
   flag-kept : (b : ℕ) → b < 16384 → not (eqb (getD w′ b 0) 0) ≡ not (eqb (getD w b 0) 0)
   flag-kept b h = ap (λ (x : ℕ). not (eqb x 0)) (c .slots b h)
 
-  long : length (begin crate options doc es) ≡ n
-  long = length-map (runsOf doc es) (standing crate options) ∙ sym (l .count)
+  long : length (begin profile options doc es) ≡ n
+  long = length-map (runsOf doc es) (standing profile options) ∙ sym (l .count)
 
-  slot : (j : ℕ) → j < n → Slotted w j (at (begin crate options doc es) j)
+  slot : (j : ℕ) → j < n → Slotted w j (at (begin profile options doc es) j)
   slot j h = l .holds .slots j (omega (arith, long))
 
   low : (j : ℕ) → j < n → j < 1024
   low j h = omega (arith, l .few)
 
-  pub begins : Fresh w′ (begin crate options doc es) n
+  pub begins : Fresh w′ (begin profile options doc es) n
   begins =
       let small = l .few in
       let same = c .same-length in

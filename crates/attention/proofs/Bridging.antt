@@ -13,7 +13,7 @@ use borrow.Author.Tests.{leb-true, leb-false}
 use Rattle.record.specs.Choice.{choose}
 use Rattle.record.specs.declared.event.Event.{Event}
 use Rattle.runs.specs.Runs.{runsOf}
-use Rattle.runs.specs.Rule.{crate}
+use Rattle.runs.specs.Rule.{Profile}
 use Rattle.runs.specs.Plain.{Standing, at, Group, group, groupAt as nthGroup}
 use Rattle.runs.specs.Pieces.{standing, outcome, closed, opened}
 use Rattle.runs.specs.Output.{noRun}
@@ -90,24 +90,24 @@ module _ {w : List ℕ} {gs : List Group} {n : ℕ} (m : Grouped w gs n) where
       ∙ ap (λ (hs : List Group). lastOpened hs q 0 0) (sym (take-suc gs k (group 0 0 0) l))
 
 -- what the matcher leaves on the runs of a record, said as a writer asks it
-module _ (options : ℕ) (doc : List ℕ) (es : List Event) {w : List ℕ} {n groups tried : ℕ} (room : Room w) (count : n ≡ length (runsOf doc es)) (few : n ≤ 1024)
-    (m : GroupsOf (outcome crate options doc es) n groups tried w) where
+module _ (profile : Profile) (options : ℕ) (doc : List ℕ) (es : List Event) {w : List ℕ} {n groups tried : ℕ} (room : Room w) (count : n ≡ length (runsOf doc es)) (few : n ≤ 1024)
+    (m : GroupsOf (outcome profile options doc es) n groups tried w) where
   gs : List Group
-  gs = outcome crate options doc es .groups
+  gs = outcome profile options doc es .groups
 
-  pub kept-groups : groupsIn w groups ≡ outcome crate options doc es .groups
+  pub kept-groups : groupsIn w groups ≡ outcome profile options doc es .groups
   kept-groups = ap (λ (k : ℕ). groupsIn w k) (m .made) ∙ groups-same (m .grouped)
 
   rises : (i j : ℕ) → i ≤ j → j < groups → groupCloser w i ≤ groupCloser w j
   rises i j h l = go (leb (i + 1) j) refl
     where
-      e : groups ≡ length (outcome crate options doc es .groups)
+      e : groups ≡ length (outcome profile options doc es .groups)
       e = m .made
 
-      lj : j < length (outcome crate options doc es .groups)
+      lj : j < length (outcome profile options doc es .groups)
       lj = omega (arith, e)
 
-      li : i < length (outcome crate options doc es .groups)
+      li : i < length (outcome profile options doc es .groups)
       li = omega (arith, e)
 
       go : (z : Bool) → leb (i + 1) j ≡ z → groupCloser w i ≤ groupCloser w j
@@ -115,7 +115,7 @@ module _ (options : ℕ) (doc : List ℕ) (es : List Event) {w : List ℕ} {n gr
           let f : i + 1 ≤ j = leb-true _ _ t in
           let a = m .grouped .closer i li in
           let b = m .grouped .closer j lj in
-          let c = closers-in-order crate options doc es i j (omega arith) lj in
+          let c = closers-in-order profile options doc es i j (omega arith) lj in
           omega arith
       go false t =
           let f : j < i + 1 = leb-false _ _ t in
@@ -128,36 +128,36 @@ module _ (options : ℕ) (doc : List ℕ) (es : List Event) {w : List ℕ} {n gr
   unfolding standing
   whole-size q h =
       let l : q < length (runsOf doc es) = omega arith in
-      m .reads .whole q h ∙ outcome-account crate options doc es .whole q ∙ ap (λ (r : Standing). r .whole) (at-begin crate options (runsOf doc es) q l)
+      m .reads .whole q h ∙ outcome-account profile options doc es .whole q ∙ ap (λ (r : Standing). r .whole) (at-begin profile options (runsOf doc es) q l)
 
-  pub left-of-run : (q : ℕ) → q < n → leftOf w q + closed (outcome crate options doc es .groups) q + opened (outcome crate options doc es .groups) q ≡ getD (runsOf doc es) q noRun .size
+  pub left-of-run : (q : ℕ) → q < n → leftOf w q + closed (outcome profile options doc es .groups) q + opened (outcome profile options doc es .groups) q ≡ getD (runsOf doc es) q noRun .size
   unfolding standing
   left-of-run q h =
       let l : q < length (runsOf doc es) = omega arith in
-      let a : leftOf w q ≡ at (outcome crate options doc es .runs) q .left = m .reads .left q h in
+      let a : leftOf w q ≡ at (outcome profile options doc es .runs) q .left = m .reads .left q h in
       rw a
-      (outcome-account crate options doc es .spent q ∙ ap (λ (r : Standing). r .left) (at-begin crate options (runsOf doc es) q l))
+      (outcome-account profile options doc es .spent q ∙ ap (λ (r : Standing). r .left) (at-begin profile options (runsOf doc es) q l))
 
   pub kept : Kept w groups n
   kept =
-      let e : groups ≡ length (outcome crate options doc es .groups) = m .made in
-      let fits : length (outcome crate options doc es .groups) ≤ 1000 = m .fits in
+      let e : groups ≡ length (outcome profile options doc es .groups) = m .made in
+      let fits : length (outcome profile options doc es .groups) ≤ 1000 = m .fits in
       record {
         room = room;
         few = omega arith;
         many = few;
         rising = rises;
         first = λ q h.
-            m .grouped .first q h ∙ sym (first-on (m .grouped) (length (outcome crate options doc es .groups)) 0 q (omega arith)) ∙ ap (λ (k : ℕ). firstClosing k w 0 q) (sym e);
+            m .grouped .first q h ∙ sym (first-on (m .grouped) (length (outcome profile options doc es .groups)) 0 q (omega arith)) ∙ ap (λ (k : ℕ). firstClosing k w 0 q) (sym e);
         latest = λ q h.
             m .grouped .latest q h
-            ∙ ap (λ (hs : List Group). lastOpened hs q 0 0) (sym (take-length (outcome crate options doc es .groups)))
-            ∙ sym (latest-on (m .grouped) (length (outcome crate options doc es .groups)) q (omega arith))
+            ∙ ap (λ (hs : List Group). lastOpened hs q 0 0) (sym (take-length (outcome profile options doc es .groups)))
+            ∙ sym (latest-on (m .grouped) (length (outcome profile options doc es .groups)) q (omega arith))
             ∙ ap (λ (k : ℕ). latestOpening k w q) (sym e);
         earlier = λ i h.
-            let l : i < length (outcome crate options doc es .groups) = omega arith in
+            let l : i < length (outcome profile options doc es .groups) = omega arith in
             m .grouped .earlier i l
-            ∙ ap (λ (o : ℕ). lastOpened (take i (outcome crate options doc es .groups)) o 0 0) (sym (m .grouped .opener i l))
+            ∙ ap (λ (o : ℕ). lastOpened (take i (outcome profile options doc es .groups)) o 0 0) (sym (m .grouped .opener i l))
             ∙ sym (latest-on (m .grouped) i (groupOpener w i) (omega arith));
         accounts = λ q h.
             let a : wholeOf w q ≡ getD (runsOf doc es) q noRun .size = whole-size q h in
@@ -173,5 +173,5 @@ module _ (options : ℕ) (doc : List ℕ) (es : List Event) {w : List ℕ} {n gr
         size = whole-size;
         marker = λ q h.
             let l : q < length (runsOf doc es) = omega arith in
-            m .reads .marker q h ∙ outcome-account crate options doc es .marker q ∙ ap (λ (r : Standing). r .marker) (at-begin crate options (runsOf doc es) q l);
+            m .reads .marker q h ∙ outcome-account profile options doc es .marker q ∙ ap (λ (r : Standing). r .marker) (at-begin profile options (runsOf doc es) q l);
       }

@@ -19,7 +19,7 @@ use Rattle.record.proofs.Good.{admission}
 use Rattle.record.proofs.Parts.{length-document}
 use Rattle.record.proofs.Sections.{length-eventsAt}
 use Rattle.runs.specs.Runs.{offender}
-use Rattle.runs.specs.Rule.{Rule, ruleFor, crate}
+use Rattle.runs.specs.Rule.{Rule, ruleFor, Profile, crate}
 use Rattle.runs.specs.Plain.{Standing, plain}
 use Rattle.groups.specs.Matches.{begin}
 use Rattle.runs.specs.Pieces.{outcome as matching}
@@ -36,7 +36,7 @@ use Rattle.matcher.specs.declared.closers.Found.the-variants.{Groups, TooMany}
 use Rattle.attention.specs.Start.{Cleared}
 use Rattle.attention.specs.Attention.{attention}
 use Rattle.attention.specs.Result.{Matched, resultOf, Ended}
-use Rattle.attention.specs.Promise.{answerAt, answerOf, resolution, Made}
+use Rattle.attention.specs.Promise.{answerAt, answerOf, outcomeOf, Made}
 use Rattle.attention.specs.declared.result.Written.{Written}
 use Rattle.attention.specs.declared.result.Written.the-variants.{Events}
 use Rattle.attention.specs.declared.call.Answer.{Answer}
@@ -46,42 +46,42 @@ use Rattle.attention.proofs.Offenders.{earliest-offender}
 use Rattle.attention.proofs.Endings.{sized-long}
 
 -- where no run offends, the call comes to what the result comes to
-unoffended : (s : List ℕ) (d e options outs : ℕ) → offender (documentOf s d) options (eventsOf s d e) ≡ none →
-    settled d (attention options (documentOf s d) (eventsOf s d e)) outs ≡ resultOf s d e options outs
+unoffended : (profile : Profile) (s : List ℕ) (d e options outs : ℕ) → offender (documentOf s d) options (eventsOf s d e) ≡ none →
+    settled d (attention profile options (documentOf s d) (eventsOf s d e)) outs ≡ resultOf profile s d e options outs
 unfolding attention
-unoffended s d e options outs q = rw q
+unoffended profile s d e options outs q = rw q
 
-offended : (s : List ℕ) (d e options outs k : ℕ) → offender (documentOf s d) options (eventsOf s d e) ≡ some k →
-    settled d (attention options (documentOf s d) (eventsOf s d e)) outs ≡ refusing 6 (8 + d + 8 * k)
+offended : (profile : Profile) (s : List ℕ) (d e options outs k : ℕ) → offender (documentOf s d) options (eventsOf s d e) ≡ some k →
+    settled d (attention profile options (documentOf s d) (eventsOf s d e)) outs ≡ refusing 6 (8 + d + 8 * k)
 unfolding attention
-offended s d e options outs k q = rw q
+offended profile s d e options outs k q = rw q
 
 -- a refusal, with the output as it was
-module _ (s : List ℕ) (d e options : ℕ) (out : List ℕ) (n p : ℕ) where
-  refuses : settled d (attention options (documentOf s d) (eventsOf s d e)) (length out) ≡ refusing n p →
-      (r : Answer) (out′ : List ℕ) → r ≡ Refused (record { number = n; place = p }) → out′ ≡ onto (bytesWritten (refusing n p)) out → Made s d e options out r out′
+module _ (profile : Profile) (s : List ℕ) (d e options : ℕ) (out : List ℕ) (n p : ℕ) where
+  refuses : settled d (attention profile options (documentOf s d) (eventsOf s d e)) (length out) ≡ refusing n p →
+      (r : Answer) (out′ : List ℕ) → r ≡ Refused (record { number = n; place = p }) → out′ ≡ onto (bytesWritten (refusing n p)) out → Made profile s d e options out r out′
   refuses q r out′ er eo =
       record {
-        answer = er ∙ sym (ap (λ (o : Outcome). answerAt options (documentOf s d) (eventsOf s d e) o) q);
+        answer = er ∙ sym (ap (λ (o : Outcome). answerAt profile options (documentOf s d) (eventsOf s d e) o) q);
         output = eo ∙ sym (ap (λ (o : Outcome). onto (bytesWritten o) out) q);
       }
 
 -- the last step
-module _ {s : List ℕ} {d e options n groups tried : ℕ} {w out out′ : List ℕ} (m : Matched s d e options n groups tried w) {written : Written} (f : Ended s d e options out written out′) where
-  pub finished-refused : (k p : ℕ) → resultOf s d e options (length out) ≡ refusing k p → (r : Answer) → r ≡ Refused (record { number = k; place = p }) → Made s d e options out r out′
+module _ {profile : Profile} {s : List ℕ} {d e options n groups tried : ℕ} {w out out′ : List ℕ} (m : Matched profile s d e options n groups tried w) {written : Written} (f : Ended profile s d e options out written out′) where
+  pub finished-refused : (k p : ℕ) → resultOf profile s d e options (length out) ≡ refusing k p → (r : Answer) → r ≡ Refused (record { number = k; place = p }) → Made profile s d e options out r out′
   finished-refused k p q r er =
-      refuses s d e options out k p (unoffended s d e options (length out) (m .none-offends) ∙ q) r out′ er
+      refuses profile s d e options out k p (unoffended profile s d e options (length out) (m .none-offends) ∙ q) r out′ er
       (f .output ∙ ap (λ (o : Outcome). onto (bytesWritten o) out) q)
 
-  pub finished-written : (events : ℕ) → written ≡ Events events → Made s d e options out (Resolved events groups tried) out′
+  pub finished-written : (events : ℕ) → written ≡ Events events → Made profile s d e options out (Resolved events groups tried) out′
   finished-written events q =
       let a = f .events events q in
-      let u = unoffended s d e options (length out) (m .none-offends) in
-      let g : groups ≡ length (matching crate options (documentOf s d) (eventsOf s d e) .groups) = m .made .made in
-      let t : tried ≡ matching crate options (documentOf s d) (eventsOf s d e) .tried = m .made .count in
-      let z : events ≡ length (output crate options (documentOf s d) (eventsOf s d e)) = a .1 in
+      let u = unoffended profile s d e options (length out) (m .none-offends) in
+      let g : groups ≡ length (matching profile options (documentOf s d) (eventsOf s d e) .groups) = m .made .made in
+      let t : tried ≡ matching profile options (documentOf s d) (eventsOf s d e) .tried = m .made .count in
+      let z : events ≡ length (output profile options (documentOf s d) (eventsOf s d e)) = a .1 in
       record {
-        answer = rw (z, g, t) (sym (ap (λ (o : Outcome). answerAt options (documentOf s d) (eventsOf s d e) o) (u ∙ a .0)));
+        answer = rw (z, g, t) (sym (ap (λ (o : Outcome). answerAt profile options (documentOf s d) (eventsOf s d e) o) (u ∙ a .0)));
         output = f .output ∙ sym (ap (λ (o : Outcome). onto (bytesWritten o) out) u);
       }
 
@@ -93,18 +93,21 @@ of-groups rule rs n groups tried found w q a = rw q at a
 of-many : (rule : Rule) (rs : List Standing) (n : ℕ) (found : Found) (w : List ℕ) → found ≡ TooMany → Matching rule rs n found w → 1000 < length (plain rule rs .groups)
 of-many rule rs n found w q a = rw q at a
 
+-- the matcher goes by the crate's rule
+pub by-crate : (options : ℕ) {n : ℕ} {w w′ : List ℕ} {single : Bool} {found : Found} → single ≡ optionOn options 4 → Answers (ruleFor single) w n found w′ →
+    Answers (crate .rule options) w n found w′
+by-crate options q a = rw q at a
+
 -- the runs in their slots, the chains emptied, and what the matcher then answers
-module _ {s : List ℕ} {d e options n : ℕ} {w w′ : List ℕ} (g : Loadable s d e w) (l : Ready (documentOf s d) (eventsOf s d e) options n w) (c : Cleared w 6147 w′) where
+module _ {profile : Profile} {s : List ℕ} {d e options n : ℕ} {w w′ : List ℕ} (g : Loadable s d e w) (l : Ready profile (documentOf s d) (eventsOf s d e) options n w) (c : Cleared w 6147 w′) where
   pub begun : Begun w′ n
-  begun = record { runs = begin crate options (documentOf s d) (eventsOf s d e); fresh = begins (g .room) l c }
+  begun = record { runs = begin profile options (documentOf s d) (eventsOf s d e); fresh = begins (g .room) l c }
 
-  module _ (single : Bool) (found : Found) (w″ : List ℕ) (single-is : single ≡ optionOn options 4) (a : Answers (ruleFor single) w′ n found w″) where
-    answered : Matching (ruleFor (optionOn options 4)) (begin crate options (documentOf s d) (eventsOf s d e)) n found w″
-    answered =
-        let b : Answers (ruleFor (optionOn options 4)) w′ n found w″ = rw single-is at a in
-        b .of (begin crate options (documentOf s d) (eventsOf s d e)) (begins (g .room) l c)
+  module _ (found : Found) (w″ : List ℕ) (a : Answers (profile .rule options) w′ n found w″) where
+    answered : Matching (profile .rule options) (begin profile options (documentOf s d) (eventsOf s d e)) n found w″
+    answered = a .of (begin profile options (documentOf s d) (eventsOf s d e)) (begins (g .room) l c)
 
-    pub matched : (groups tried : ℕ) → found ≡ Groups groups tried → length w″ ≡ length w′ → Matched s d e options n groups tried w″
+    pub matched : (groups tried : ℕ) → found ≡ Groups groups tried → length w″ ≡ length w′ → Matched profile s d e options n groups tried w″
     unfolding matching
     matched groups tried q k =
         let same = c .same-length in
@@ -118,33 +121,33 @@ module _ {s : List ℕ} {d e options n : ℕ} {w w′ : List ℕ} (g : Loadable 
           count = l .count;
           few = l .few;
           room = omega arith;
-          made = of-groups (ruleFor (optionOn options 4)) (begin crate options (documentOf s d) (eventsOf s d e)) n groups tried found w″ q answered;
+          made = of-groups (profile .rule options) (begin profile options (documentOf s d) (eventsOf s d e)) n groups tried found w″ q answered;
         }
 
     -- more than 1,000 groups make more than 8,000 events
-    pub too-many : found ≡ TooMany → (out : List ℕ) (r : Answer) → r ≡ Refused (record { number = 7; place = 0 }) → Made s d e options out r out
+    pub too-many : found ≡ TooMany → (out : List ℕ) (r : Answer) → r ≡ Refused (record { number = 7; place = 0 }) → Made profile s d e options out r out
     unfolding matching onto
     too-many q out r er =
         let whole = g .whole in
         let x : length (documentOf s d) ≡ d = length-document s d (omega arith) in
         let ok : Accepted 64 options (documentOf s d) (eventsOf s d e) = record { events = rw x (g .sound-events); shapes = l .none-offends } in
-        let many : 1000 < length (matching crate options (documentOf s d) (eventsOf s d e) .groups) =
-        of-many (ruleFor (optionOn options 4)) (begin crate options (documentOf s d) (eventsOf s d e)) n found w″ q answered in
-        let long = many-groups-too-long crate options (documentOf s d) (eventsOf s d e) many in
-        let size = size-of-output crate options (documentOf s d) (eventsOf s d e) 64 ok in
-        refuses s d e options out 7 0 (unoffended s d e options (length out) (l .none-offends) ∙ sized-long _ _ (omega arith)) r out er refl
+        let many : 1000 < length (matching profile options (documentOf s d) (eventsOf s d e) .groups) =
+        of-many (profile .rule options) (begin profile options (documentOf s d) (eventsOf s d e)) n found w″ q answered in
+        let long = many-groups-too-long profile options (documentOf s d) (eventsOf s d e) many in
+        let size = size-of-output profile options (documentOf s d) (eventsOf s d e) 64 ok in
+        refuses profile s d e options out 7 0 (unoffended profile s d e options (length out) (l .none-offends) ∙ sized-long _ _ (omega arith)) r out er refl
 
 -- the load pass found an offender
-module _ {s : List ℕ} {d e options : ℕ} {w w′ : List ℕ} {loaded : Loaded} (g : Loadable s d e w) (l : Loads s d e options w loaded w′) where
+module _ {profile : Profile} {s : List ℕ} {d e options : ℕ} {w w′ : List ℕ} {loaded : Loaded} (g : Loadable s d e w) (l : Loads profile s d e options w loaded w′) where
   pub offender-low : (k : ℕ) → loaded ≡ Offends k → k < e
   unfolding eventsOf
   offender-low k q =
       let f = earliest-offender (documentOf s d) options (eventsOf s d e) k (l .offends k q) in
       omega (arith, f .0 .within, length-eventsAt e s (8 + d))
 
-  pub offended-call : (k : ℕ) → loaded ≡ Offends k → (out : List ℕ) (r : Answer) → r ≡ Refused (record { number = 6; place = 8 + d + 8 * k }) → Made s d e options out r out
+  pub offended-call : (k : ℕ) → loaded ≡ Offends k → (out : List ℕ) (r : Answer) → r ≡ Refused (record { number = 6; place = 8 + d + 8 * k }) → Made profile s d e options out r out
   unfolding onto
-  offended-call k q out r er = refuses s d e options out 6 (8 + d + 8 * k) (offended s d e options (length out) k (l .offends k q)) r out er refl
+  offended-call k q out r er = refuses profile s d e options out 6 (8 + d + 8 * k) (offended profile s d e options (length out) k (l .offends k q)) r out er refl
 
   -- or none, and then all is as it was but for the memory
   pub loaded-still : Loadable s d e w′
@@ -161,19 +164,19 @@ good-loadable s options works d e w q k =
     loadable s d e w (f .good) (omega arith)
 
 -- the whole call
-module _ (s : List ℕ) (options works : ℕ) (out : List ℕ) where
+module _ (profile : Profile) (s : List ℕ) (options works : ℕ) (out : List ℕ) where
   pub refused-call : (r : Refusal) → admitted s options works ≡ readings.Refused r →
-      Answered (resolution s options (length out) works) (answerOf s options) out (Refused r) out
-  unfolding resolution onto
+      Answered (outcomeOf profile s options (length out) works) (answerOf profile s options) out (Refused r) out
+  unfolding outcomeOf onto
   refused-call r q =
       record {
         answer = rw q;
         output = rw q;
       }
 
-  pub good-call : (d e : ℕ) (r : Answer) (out′ : List ℕ) → admitted s options works ≡ readings.Good d e → Made s d e options out r out′ →
-      Answered (resolution s options (length out) works) (answerOf s options) out r out′
-  unfolding resolution
+  pub good-call : (d e : ℕ) (r : Answer) (out′ : List ℕ) → admitted s options works ≡ readings.Good d e → Made profile s d e options out r out′ →
+      Answered (outcomeOf profile s options (length out) works) (answerOf profile s options) out r out′
+  unfolding outcomeOf
   good-call d e r out′ q m =
       let f = admission s options works d e q .good in
       let dc : u32At s 0 ≡ d = f .document-count in

@@ -15,7 +15,7 @@ use Rattle.record.specs.Written.{Judges, ExactlyWritten}
 use Rattle.record.specs.declared.event.Event.{Event}
 use Rattle.record.proofs.ExactlyWritten.{exactly-written}
 use Rattle.runs.specs.Runs.{offender}
-use Rattle.runs.specs.Rule.{crate}
+use Rattle.runs.specs.Rule.{Profile}
 use Rattle.runs.specs.Output.{output}
 use Rattle.attention.specs.Shape.{Offends}
 use Rattle.attention.specs.Attention.{unlessOffended, attention}
@@ -36,20 +36,20 @@ not-before P k j f b = go (leb k j) refl
     go true e = leb-true _ _ e
     go false e = absurd (f j (leb-false _ _ e) b)
 
-pub judges : (options : ℕ) (doc : List ℕ) (es : List Event) → Judges (Offends doc options es) (attention options doc es)
+pub judges : (profile : Profile) (options : ℕ) (doc : List ℕ) (es : List Event) → Judges (Offends doc options es) (attention profile options doc es)
 unfolding attention
-judges options doc es =
+judges profile options doc es =
     record {
       earliest = λ k q.
-          let f = earliest-offender doc options es k (named (offender doc options es) (output crate options doc es) k q) in
+          let f = earliest-offender doc options es k (named (offender doc options es) (output profile options doc es) k q) in
           (f .0, λ j b. not-before (Offends doc options es) k j (f .1) b);
-      none = λ rs q j b. none-offends doc options es (unnamed (offender doc options es) (output crate options doc es) rs q) j b;
+      none = λ rs q j b. none-offends doc options es (unnamed (offender doc options es) (output profile options doc es) rs q) j b;
     }
 
-pub exactly-resolved : (s : List ℕ) (options works outs : ℕ) →
+pub exactly-resolved : (profile : Profile) (s : List ℕ) (options works outs : ℕ) →
     ExactlyWritten s options works (Offends (documentOf s (documentCount s)) options (eventsOf s (documentCount s) (eventCount s)))
-    (λ d e. attention options (documentOf s d) (eventsOf s d e)) outs
-exactly-resolved s options works outs =
+    (λ d e. attention profile options (documentOf s d) (eventsOf s d e)) outs
+exactly-resolved profile s options works outs =
     exactly-written s options works (Offends (documentOf s (documentCount s)) options (eventsOf s (documentCount s) (eventCount s)))
-    (λ d e. attention options (documentOf s d) (eventsOf s d e)) outs
-    (λ q. judges options (documentOf s (documentCount s)) (eventsOf s (documentCount s) (eventCount s)))
+    (λ d e. attention profile options (documentOf s d) (eventsOf s d e)) outs
+    (λ q. judges profile options (documentOf s (documentCount s)) (eventsOf s (documentCount s) (eventCount s)))

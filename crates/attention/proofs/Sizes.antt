@@ -15,7 +15,7 @@ use Rattle.record.specs.Event.{documentOf, eventsOf}
 use Rattle.record.proofs.Parts.{length-document}
 use Rattle.record.proofs.Sections.{length-eventsAt}
 use Rattle.runs.specs.Runs.{Run, runsOf}
-use Rattle.runs.specs.Rule.{crate}
+use Rattle.runs.specs.Rule.{Profile}
 use Rattle.runs.specs.Plain.{Group}
 use Rattle.runs.specs.Pieces.{outcome, closed, opened, remains}
 use Rattle.runs.specs.Output.{noRun, output, emptied, resultSize}
@@ -66,7 +66,7 @@ emptied-on w gs rs (suc m) q h f =
     one-counted gs q (getD rs q noRun) (leftOf w q) (emptiedFrom m w (q + 1)) (emptied gs (q + 1) (drop (suc q) rs)) (f q l) on
     ∙ ap (λ (k : List Run). emptied gs q k) (sym (drop-cons rs q noRun l))
 
-module _ {s : List ℕ} {d e options n groups tried : ℕ} {w : List ℕ} (m : Matched s d e options n groups tried w) where
+module _ {profile : Profile} {s : List ℕ} {d e options n groups tried : ℕ} {w : List ℕ} (m : Matched profile s d e options n groups tried w) where
   doc : List ℕ
   doc = documentOf s d
 
@@ -76,11 +76,11 @@ module _ {s : List ℕ} {d e options n groups tried : ℕ} {w : List ℕ} (m : M
       let l : length (documentOf s d) ≡ d = length-document s d (omega arith) in
       record { events = rw l (m .sound-events); shapes = m .none-offends }
 
-  pub emptied-same : emptiedFrom n w 0 ≡ emptied (outcome crate options (documentOf s d) (eventsOf s d e) .groups) 0 (runsOf (documentOf s d) (eventsOf s d e))
+  pub emptied-same : emptiedFrom n w 0 ≡ emptied (outcome profile options (documentOf s d) (eventsOf s d e) .groups) 0 (runsOf (documentOf s d) (eventsOf s d e))
   emptied-same =
       let count = m .count in
-      emptied-on w (outcome crate options (documentOf s d) (eventsOf s d e) .groups) (runsOf (documentOf s d) (eventsOf s d e)) n 0 (omega arith)
-      (λ j h. left-of-run options (documentOf s d) (eventsOf s d e) (m .room) (m .count) (m .few) (m .made) j (omega arith))
+      emptied-on w (outcome profile options (documentOf s d) (eventsOf s d e) .groups) (runsOf (documentOf s d) (eventsOf s d e)) n 0 (omega arith)
+      (λ j h. left-of-run profile options (documentOf s d) (eventsOf s d e) (m .room) (m .count) (m .few) (m .made) j (omega arith))
 
   events-long : length (eventsOf s d e) ≡ e
   unfolding eventsOf
@@ -89,14 +89,14 @@ module _ {s : List ℕ} {d e options n groups tried : ℕ} {w : List ℕ} (m : M
   -- twice the emptied runs are no more than the events
   pub emptied-within : 2 * emptiedFrom n w 0 ≤ e
   emptied-within =
-      let a = emptied-few crate options (documentOf s d) (eventsOf s d e) 64 accepted-record in
+      let a = emptied-few profile options (documentOf s d) (eventsOf s d e) 64 accepted-record in
       omega (arith, emptied-same, events-long)
 
   -- document 01's formula
-  pub size-same : e - 2 * emptiedFrom n w 0 + 8 * groups ≡ length (output crate options (documentOf s d) (eventsOf s d e))
+  pub size-same : e - 2 * emptiedFrom n w 0 + 8 * groups ≡ length (output profile options (documentOf s d) (eventsOf s d e))
   unfolding resultSize
   size-same =
-      let a : length (output crate options (documentOf s d) (eventsOf s d e)) ≡ resultSize crate options (documentOf s d) (eventsOf s d e) =
-      size-of-output crate options (documentOf s d) (eventsOf s d e) 64 accepted-record in
-      let b : groups ≡ length (outcome crate options (documentOf s d) (eventsOf s d e) .groups) = m .made .made in
+      let a : length (output profile options (documentOf s d) (eventsOf s d e)) ≡ resultSize profile options (documentOf s d) (eventsOf s d e) =
+      size-of-output profile options (documentOf s d) (eventsOf s d e) 64 accepted-record in
+      let b : groups ≡ length (outcome profile options (documentOf s d) (eventsOf s d e) .groups) = m .made .made in
       omega (arith, emptied-same, events-long)

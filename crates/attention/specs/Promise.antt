@@ -1,4 +1,4 @@
--- What the public call promises.
+-- What the public call promises, in any profile; its contract says in which.
 -- Assumes nothing.
 use Prim.Native.Nat.{ℕ}
 use mathlib.Core.List.{List}
@@ -9,34 +9,34 @@ use Rattle.record.specs.Rows.{documentCount, eventCount}
 use Rattle.record.specs.Outcome.{Outcome, accepted, refused, settled, outcome}
 use Rattle.record.specs.declared.event.Event.{Event}
 use Rattle.record.specs.Promise.{Answered, Writes}
-use Rattle.runs.specs.Rule.{crate}
+use Rattle.runs.specs.Rule.{Profile}
 use Rattle.runs.specs.Pieces.{outcome as matching}
 use Rattle.attention.specs.Attention.{attention}
 use Rattle.attention.specs.declared.call.Answer.{Answer}
 use Rattle.attention.specs.declared.call.Answer.the-variants.{Resolved, Refused}
 
 -- what a call comes to, of the record, the options and the lengths of the output and of the work memory
-unfoldable pub resolution : List ℕ → ℕ → ℕ → ℕ → Outcome
-resolution s options outs works = outcome (admitted s options works) (λ d e. attention options (documentOf s d) (eventsOf s d e)) outs
+unfoldable pub outcomeOf : Profile → List ℕ → ℕ → ℕ → ℕ → Outcome
+outcomeOf profile s options outs works = outcome (admitted s options works) (λ d e. attention profile options (documentOf s d) (eventsOf s d e)) outs
 
 -- what it then answers, of the document and the events: the events written, the groups of the plain rule, and "exactly the candidates that
 -- rule counts as tried"
-abbrev pub answerAt : ℕ → List ℕ → List Event → Outcome → Answer
-answerAt options doc es (accepted rs) = Resolved (length rs) (length (matching crate options doc es .groups)) (matching crate options doc es .tried)
-answerAt options doc es (refused r) = Refused r
+abbrev pub answerAt : Profile → ℕ → List ℕ → List Event → Outcome → Answer
+answerAt profile options doc es (accepted rs) = Resolved (length rs) (length (matching profile options doc es .groups)) (matching profile options doc es .tried)
+answerAt profile options doc es (refused r) = Refused r
 
 -- the same of the record
-abbrev pub answerOf : List ℕ → ℕ → Outcome → Answer
-answerOf s options = answerAt options (documentOf s (documentCount s)) (eventsOf s (documentCount s) (eventCount s))
+abbrev pub answerOf : Profile → List ℕ → ℕ → Outcome → Answer
+answerOf profile s options = answerAt profile options (documentOf s (documentCount s)) (eventsOf s (documentCount s) (eventCount s))
 
 -- the answer and the output, of a good record with the counts d and e
-abbrev pub Made : List ℕ → ℕ → ℕ → ℕ → List ℕ → Answer → List ℕ → Type 0
-Made s d e options out r out′ =
-    Answered (settled d (attention options (documentOf s d) (eventsOf s d e)) (length out)) (answerAt options (documentOf s d) (eventsOf s d e)) out r out′
+abbrev pub Made : Profile → List ℕ → ℕ → ℕ → ℕ → List ℕ → Answer → List ℕ → Type 0
+Made profile s d e options out r out′ =
+    Answered (settled d (attention profile options (documentOf s d) (eventsOf s d e)) (length out)) (answerAt profile options (documentOf s d) (eventsOf s d e)) out r out′
 
 -- the whole promise, that of every call that writes: r is answered, and out′ and work′ are what the two buffers then hold
-abbrev pub Promise : List ℕ → ℕ → List ℕ → List ℕ → Answer → List ℕ → List ℕ → Type 0
-Promise s options out work r out′ work′ = Writes (resolution s options) (answerOf s options) out work r out′ work′
+abbrev pub Promise : Profile → List ℕ → ℕ → List ℕ → List ℕ → Answer → List ℕ → List ℕ → Type 0
+Promise profile s options out work r out′ work′ = Writes (outcomeOf profile s options) (answerOf profile s options) out work r out′ work′
 
 -- document 01's numbers of an answer: "A refusal returns its number and place, all else zero"
 pub record Numbers : Type 0 where

@@ -12,7 +12,7 @@ use Rattle.record.specs.Event.{documentOf, eventsOf}
 use Rattle.record.specs.Sound.{sound}
 use Rattle.record.specs.Outcome.{Outcome, accepted, refusing, sized, onto, bytesWritten}
 use Rattle.runs.specs.Runs.{offender, runsOf}
-use Rattle.runs.specs.Rule.{crate}
+use Rattle.runs.specs.Rule.{Profile}
 use Rattle.runs.specs.Pieces.{outcome}
 use Rattle.runs.specs.Output.{output}
 use Rattle.slots.specs.Layout.{Room, leftOf}
@@ -28,7 +28,7 @@ emptiedFrom (suc m) w q =
     choose (eqb (leftOf w q) 0) (rest + 1) rest
 
 -- a good record none of whose runs offends, with the plain rule's groups in the memory
-pub record Matched (s : List ℕ) (d e options n groups tried : ℕ) (w : List ℕ) : Type 0 where
+pub record Matched (profile : Profile) (s : List ℕ) (d e options n groups tried : ℕ) (w : List ℕ) : Type 0 where
   pub small : d ≤ 16384
   pub few-events : e ≤ 2048
   pub whole : length s ≡ 8 + d + 8 * e
@@ -37,16 +37,16 @@ pub record Matched (s : List ℕ) (d e options n groups tried : ℕ) (w : List �
   pub count : n ≡ length (runsOf (documentOf s d) (eventsOf s d e))
   pub few : n ≤ 1024
   pub room : Room w
-  pub made : GroupsOf (outcome crate options (documentOf s d) (eventsOf s d e)) n groups tried w
+  pub made : GroupsOf (outcome profile options (documentOf s d) (eventsOf s d e)) n groups tried w
 
 -- what the result comes to, of the output's length
-abbrev pub resultOf : List ℕ → ℕ → ℕ → ℕ → ℕ → Outcome
-resultOf s d e options outs = sized (output crate options (documentOf s d) (eventsOf s d e)) outs
+abbrev pub resultOf : Profile → List ℕ → ℕ → ℕ → ℕ → ℕ → Outcome
+resultOf profile s d e options outs = sized (output profile options (documentOf s d) (eventsOf s d e)) outs
 
 -- the answer, and the output afterwards
-pub record Ended (s : List ℕ) (d e options : ℕ) (out : List ℕ) (r : Written) (out′ : List ℕ) : Type 0 where
+pub record Ended (profile : Profile) (s : List ℕ) (d e options : ℕ) (out : List ℕ) (r : Written) (out′ : List ℕ) : Type 0 where
   pub events : (n : ℕ) → r ≡ Events n →
-      (resultOf s d e options (length out) ≡ accepted (output crate options (documentOf s d) (eventsOf s d e))) × (n ≡ length (output crate options (documentOf s d) (eventsOf s d e)))
-  pub long : r ≡ Long → resultOf s d e options (length out) ≡ refusing 7 0
-  pub short : r ≡ Short → resultOf s d e options (length out) ≡ refusing 8 0
-  pub output : out′ ≡ onto (bytesWritten (resultOf s d e options (length out))) out
+      (resultOf profile s d e options (length out) ≡ accepted (output profile options (documentOf s d) (eventsOf s d e))) × (n ≡ length (output profile options (documentOf s d) (eventsOf s d e)))
+  pub long : r ≡ Long → resultOf profile s d e options (length out) ≡ refusing 7 0
+  pub short : r ≡ Short → resultOf profile s d e options (length out) ≡ refusing 8 0
+  pub output : out′ ≡ onto (bytesWritten (resultOf profile s d e options (length out))) out

@@ -17,9 +17,10 @@ ghost use mathlib.Core.Path.{_≡_};
 ghost use lib.ListN.{length};
 ghost use Rattle.record.specs.Event.{documentOf, eventsOf};
 ghost use Rattle.record.specs.Promise.{Answered};
+ghost use Rattle.runs.specs.Rule.{crate};
 ghost use Rattle.loading.specs.Promise.{Loadable, Ready};
 ghost use Rattle.attention.specs.Result.{Matched};
-ghost use Rattle.attention.specs.Promise.{resolution, answerOf, Made, Promise};
+ghost use Rattle.attention.specs.Promise.{outcomeOf, answerOf, Made, Promise};
 
 // What a call answers: how many events the section that it wrote has, how many groups it made and how many candidates it tried; or a refusal.
 pub enum Answer {
@@ -50,8 +51,8 @@ fn finish(
     tried: usize,
     out: &mut [u8],
 ) -> Answer
-    requires { ⌜ Matched (now s) d e options n groups tried (now w) ⌝ }
-    ensures { λ r. ⌜ Made (now (s .entry)) d e options (now (out .entry)) r (now (out .exit)) ⌝ }
+    requires { ⌜ Matched crate (now s) d e options n groups tried (now w) ⌝ }
+    ensures { λ r. ⌜ Made crate (now (s .entry)) d e options (now (out .entry)) r (now (out .exit)) ⌝ }
 {
     match write_result(s, d, e, options, w, n, groups, tried, out) {
         Written::Long => {
@@ -80,8 +81,8 @@ fn match_runs(
     n: usize,
     out: &mut [u8],
 ) -> Answer
-    requires { ⌜ Loadable (now s) d e (now w) × Ready (documentOf (now s) d) (eventsOf (now s) d e) options n (now w) ⌝ }
-    ensures { λ r. ⌜ Made (now (s .entry)) d e options (now (out .entry)) r (now (out .exit)) ⌝ }
+    requires { ⌜ Loadable (now s) d e (now w) × Ready crate (documentOf (now s) d) (eventsOf (now s) d e) options n (now w) ⌝ }
+    ensures { λ r. ⌜ Made crate (now (s .entry)) d e options (now (out .entry)) r (now (out .exit)) ⌝ }
 {
     let single = option_on(options, OPTION_SINGLE_TILDE);
     clear_heads(w);
@@ -98,7 +99,7 @@ fn match_runs(
 // Numbers 6 to 8, or the section: of a good record with these two counts.
 fn resolve_good(s: &[u8], d: usize, e: usize, options: u32, w: &mut [u8], out: &mut [u8]) -> Answer
     requires { ⌜ Loadable (now s) d e (now w) ⌝ }
-    ensures { λ r. ⌜ Made (now (s .entry)) d e options (now (out .entry)) r (now (out .exit)) ⌝ }
+    ensures { λ r. ⌜ Made crate (now (s .entry)) d e options (now (out .entry)) r (now (out .exit)) ⌝ }
 {
     match load(s, d, e, options, w) {
         Loaded::Offends(k) => {
@@ -112,7 +113,7 @@ fn resolve_good(s: &[u8], d: usize, e: usize, options: u32, w: &mut [u8], out: &
 
 // The answer and the output; work memory is left in any state.
 fn answer_attention(s: &[u8], options: u32, out: &mut [u8], work: &mut [u8]) -> Answer
-    ensures { λ r. ⌜ Answered (resolution (now (s .entry)) options (length (now (out .entry))) (length (now (work .entry)))) (answerOf (now (s .entry)) options) (now (out .entry)) r (now (out .exit)) ⌝ }
+    ensures { λ r. ⌜ Answered (outcomeOf crate (now (s .entry)) options (length (now (out .entry))) (length (now (work .entry)))) (answerOf crate (now (s .entry)) options) (now (out .entry)) r (now (out .exit)) ⌝ }
 {
     match admit(s, options, work.len()) {
         Reading::Refused(refusal) => {
@@ -127,7 +128,7 @@ fn answer_attention(s: &[u8], options: u32, out: &mut [u8], work: &mut [u8]) -> 
 // Resolves the attention runs of a record into an output; the whole of the work memory is zero afterwards, whatever it held and whatever is
 // answered.
 pub fn resolve_attention(s: &[u8], options: u32, out: &mut [u8], work: &mut [u8]) -> Answer
-    ensures { λ r. ⌜ Promise (now (s .entry)) options (now (out .entry)) (now (work .entry)) r (now (out .exit)) (now (work .exit)) ⌝ }
+    ensures { λ r. ⌜ Promise crate (now (s .entry)) options (now (out .entry)) (now (work .entry)) r (now (out .exit)) (now (work .exit)) ⌝ }
 {
     let found = answer_attention(s, options, out, work);
     wipe(work);

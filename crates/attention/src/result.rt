@@ -6,6 +6,7 @@ use slots::layout::left;
 use writing::write_events;
 ghost use mathlib.Core.Path.{_≡_};
 ghost use Prim.Native.Nat.{_≤_};
+ghost use Rattle.runs.specs.Rule.{crate};
 ghost use Rattle.slots.specs.Layout.{Room};
 ghost use Rattle.attention.specs.Result.{emptiedFrom, Matched, Ended};
 
@@ -44,8 +45,8 @@ pub fn write_result(
     tried: usize,
     out: &mut [u8],
 ) -> Written
-    requires { ⌜ Matched (now s) d e options n groups tried (now w) ⌝ }
-    ensures { λ r. ⌜ Ended (now (s .entry)) d e options (now (out .entry)) r (now (out .exit)) ⌝ }
+    requires { ⌜ Matched crate (now s) d e options n groups tried (now w) ⌝ }
+    ensures { λ r. ⌜ Ended crate (now (s .entry)) d e options (now (out .entry)) r (now (out .exit)) ⌝ }
 {
     let emptied = count_emptied(w, n);
     let size = e - 2 * emptied + 8 * groups;

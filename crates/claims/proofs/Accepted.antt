@@ -8,7 +8,6 @@ use lib.ListN.{length}
 use Rattle.record.specs.Rows.{documentCount}
 use Rattle.record.specs.Sound.{sound}
 use Rattle.record.specs.Written.{by-check}
-use Rattle.runs.specs.Rule.{crate}
 use Rattle.runs.specs.Output.{output}
 use Rattle.output.proofs.SoundOutput.{output-sound}
 use Rattle.output.proofs.OthersStay.{others-kept}
@@ -22,16 +21,16 @@ use Rattle.claims.proofs.Records.{no-row-sound, attention-claim, headin
 use Rattle.claims.proofs.Matcher.{made-output, accepted-as-the-plain-rule}
 
 pub accepted-attention : AcceptedAttention
-accepted-attention s options out work r out′ work′ p z =
-    let a = attention-claim s options .accepts out work r out′ work′ p z in
-    let none = attention-claim s options .exactly out work r out′ work′ p .none-holds z in
+accepted-attention profile s options out work r out′ work′ p z =
+    let a = attention-claim profile s options .accepts out work r out′ work′ p z in
+    let none = attention-claim profile s options .exactly out work r out′ work′ p .none-holds z in
     let long = no-row-sound s options (length work) (λ n q x. none n q (by-check x)) .0 in
-    let good = accepted-as-the-plain-rule s options out work r out′ work′ p z .record-good in
-    let same = made-output s options (a .events) (a .made-so) in
-    let whole : length (output crate options (docOf s) (allEvents s)) ≤ length (output crate options (docOf s) (allEvents s)) = omega arith in
-    let over = output-sound crate options (docOf s) (allEvents s) 64 good (length (output crate options (docOf s) (allEvents s))) whole in
-    let nests : sound (length (output crate options (docOf s) (allEvents s))) (documentCount s) (output crate options (docOf s) (allEvents s)) ≡ true = rw long at over in
-    record { accepted = a; nests = rw same nests; kept = rw same (others-kept crate options (docOf s) (allEvents s)) }
+    let good = accepted-as-the-plain-rule profile s options out work r out′ work′ p z .record-good in
+    let same = made-output profile s options (a .events) (a .made-so) in
+    let whole : length (output profile options (docOf s) (allEvents s)) ≤ length (output profile options (docOf s) (allEvents s)) = omega arith in
+    let over = output-sound profile options (docOf s) (allEvents s) 64 good (length (output profile options (docOf s) (allEvents s))) whole in
+    let nests : sound (length (output profile options (docOf s) (allEvents s))) (documentCount s) (output profile options (docOf s) (allEvents s)) ≡ true = rw long at over in
+    record { accepted = a; nests = rw same nests; kept = rw same (others-kept profile options (docOf s) (allEvents s)) }
 
 pub accepted-headings : AcceptedHeadings
 accepted-headings s options out work r out′ work′ p z =

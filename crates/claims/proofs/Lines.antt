@@ -35,7 +35,7 @@ use Rattle.atx.specs.declared.Headed.{Headed}
 use Rattle.atx.specs.declared.Headed.the-variants.{Heading, NotHeading, Refused as HeadedRefused}
 use Rattle.lines.proofs.ExactlyRead.{spaces-exactly, start-exactly, going-exactly}
 use Rattle.atx.proofs.ExactlyHeaded.{heading-exactly}
-use Rattle.ledgerlark.specs.Answers.{flagged, containerOf, spacesOf as spacesNumbers, itemOf, goingOf as goingNumbers, headedOf as headedNumbers}
+use Rattle.ledgerlark.specs.Answers.{flagged, containerOf, larkSpaces, larkItem, larkGoing, larkHeaded}
 use Rattle.ledgerlark.specs.declared.line.LarkSpaces.{LarkSpaces}
 use Rattle.ledgerlark.specs.declared.line.LarkItem.{LarkItem}
 use Rattle.ledgerlark.specs.declared.line.LarkGoing.{LarkGoing}
@@ -78,7 +78,7 @@ row-number (row-4 h g e) = omega arith
 
 -- lark_space_or_tab
 
-spaces-back : (a : Spaces) (n p : ℕ) → 0 < n → spacesNumbers a ≡ spacesRefusal n p → a ≡ SpacesRefused (refusal n p)
+spaces-back : (a : Spaces) (n p : ℕ) → 0 < n → larkSpaces a ≡ spacesRefusal n p → a ≡ SpacesRefused (refusal n p)
 spaces-back (Taken k) n p h q = let z : 0 ≡ n = ap (λ (x : LarkSpaces). x .number) q in absurd (omega arith)
 spaces-back TooFew n p h q = let z : 0 ≡ n = ap (λ (x : LarkSpaces). x .number) q in absurd (omega arith)
 spaces-back (SpacesRefused x) n p h q =
@@ -87,12 +87,12 @@ spaces-back (SpacesRefused x) n p h q =
     let e₃ : SpacesRefused (refusal (x .number) (x .place)) ≡ SpacesRefused (refusal n p) = cc in
     e₃
 
-spaces-zero : (a : Spaces) → ((n p : ℕ) → a ≡ SpacesRefused (refusal n p) → ⊥) → spacesNumbers a .number ≡ 0
+spaces-zero : (a : Spaces) → ((n p : ℕ) → a ≡ SpacesRefused (refusal n p) → ⊥) → larkSpaces a .number ≡ 0
 spaces-zero (Taken k) f = refl
 spaces-zero TooFew f = refl
 spaces-zero (SpacesRefused x) f = absurd (f (x .number) (x .place) refl)
 
-spaces-whole : (a : Spaces) → 0 < spacesNumbers a .number → spacesNumbers a ≡ spacesRefusal (spacesNumbers a .number) (spacesNumbers a .place)
+spaces-whole : (a : Spaces) → 0 < larkSpaces a .number → larkSpaces a ≡ spacesRefusal (larkSpaces a .number) (larkSpaces a .place)
 spaces-whole (Taken k) h = absurd (omega arith)
 spaces-whole TooFew h = absurd (omega arith)
 spaces-whole (SpacesRefused x) h = refl
@@ -100,12 +100,12 @@ spaces-whole (SpacesRefused x) h = refl
 pub spaces-claim : (s : List ℕ) (options min max : ℕ) → SpacesClaim s options min max
 spaces-claim s options min max =
     let a = spacesOf s options min max in
-    claimed (λ (x : LarkSpaces). x .number) (λ (x : LarkSpaces). x .place) spacesRefusal spacesNumbers SpacesRefused (Row s options) (spacesIn (lineOf s) min max) a (spaces-exactly s options min max) (λ n p. refl)
+    claimed (λ (x : LarkSpaces). x .number) (λ (x : LarkSpaces). x .place) spacesRefusal larkSpaces SpacesRefused (Row s options) (spacesIn (lineOf s) min max) a (spaces-exactly s options min max) (λ n p. refl)
     (λ n p. refl) (spaces-back a) (spaces-zero a) (spaces-whole a) (λ n p. row-number)
 
 -- lark_list_item
 
-item-back : (a : Start) (n p : ℕ) → 0 < n → itemOf a ≡ itemRefusal n p → a ≡ StartRefused (refusal n p)
+item-back : (a : Start) (n p : ℕ) → 0 < n → larkItem a ≡ itemRefusal n p → a ≡ StartRefused (refusal n p)
 item-back (Item taken held) n p h q = let z : 0 ≡ n = ap (λ (x : LarkItem). x .number) q in absurd (omega arith)
 item-back NotItem n p h q = let z : 0 ≡ n = ap (λ (x : LarkItem). x .number) q in absurd (omega arith)
 item-back (StartRefused x) n p h q =
@@ -114,12 +114,12 @@ item-back (StartRefused x) n p h q =
     let e₃ : StartRefused (refusal (x .number) (x .place)) ≡ StartRefused (refusal n p) = cc in
     e₃
 
-item-zero : (a : Start) → ((n p : ℕ) → a ≡ StartRefused (refusal n p) → ⊥) → itemOf a .number ≡ 0
+item-zero : (a : Start) → ((n p : ℕ) → a ≡ StartRefused (refusal n p) → ⊥) → larkItem a .number ≡ 0
 item-zero (Item taken held) f = refl
 item-zero NotItem f = refl
 item-zero (StartRefused x) f = absurd (f (x .number) (x .place) refl)
 
-item-whole : (a : Start) → 0 < itemOf a .number → itemOf a ≡ itemRefusal (itemOf a .number) (itemOf a .place)
+item-whole : (a : Start) → 0 < larkItem a .number → larkItem a ≡ itemRefusal (larkItem a .number) (larkItem a .place)
 item-whole (Item taken held) h = absurd (omega arith)
 item-whole NotItem h = absurd (omega arith)
 item-whole (StartRefused x) h = refl
@@ -127,12 +127,12 @@ item-whole (StartRefused x) h = refl
 pub item-claim : (s : List ℕ) (options interrupting : ℕ) → ItemClaim s options interrupting
 item-claim s options interrupting =
     let a = startOf s options (flagged interrupting) in
-    claimed (λ (x : LarkItem). x .number) (λ (x : LarkItem). x .place) itemRefusal itemOf StartRefused (Row s options) (startIn (lineOf s) options (flagged interrupting)) a (start-exactly s options (flagged interrupting)) (λ n p. refl)
+    claimed (λ (x : LarkItem). x .number) (λ (x : LarkItem). x .place) itemRefusal larkItem StartRefused (Row s options) (startIn (lineOf s) options (flagged interrupting)) a (start-exactly s options (flagged interrupting)) (λ n p. refl)
     (λ n p. refl) (item-back a) (item-zero a) (item-whole a) (λ n p. row-number)
 
 -- lark_continuation
 
-going-back : (a : Going) (n p : ℕ) → 0 < n → goingNumbers a ≡ goingRefusal n p → a ≡ GoingRefused (refusal n p)
+going-back : (a : Going) (n p : ℕ) → 0 < n → larkGoing a ≡ goingRefusal n p → a ≡ GoingRefused (refusal n p)
 going-back (Goes taken held) n p h q = let z : 0 ≡ n = ap (λ (x : LarkGoing). x .number) q in absurd (omega arith)
 going-back (Stops held) n p h q = let z : 0 ≡ n = ap (λ (x : LarkGoing). x .number) q in absurd (omega arith)
 going-back (GoingRefused x) n p h q =
@@ -141,12 +141,12 @@ going-back (GoingRefused x) n p h q =
     let e₃ : GoingRefused (refusal (x .number) (x .place)) ≡ GoingRefused (refusal n p) = cc in
     e₃
 
-going-zero : (a : Going) → ((n p : ℕ) → a ≡ GoingRefused (refusal n p) → ⊥) → goingNumbers a .number ≡ 0
+going-zero : (a : Going) → ((n p : ℕ) → a ≡ GoingRefused (refusal n p) → ⊥) → larkGoing a .number ≡ 0
 going-zero (Goes taken held) f = refl
 going-zero (Stops held) f = refl
 going-zero (GoingRefused x) f = absurd (f (x .number) (x .place) refl)
 
-going-whole : (a : Going) → 0 < goingNumbers a .number → goingNumbers a ≡ goingRefusal (goingNumbers a .number) (goingNumbers a .place)
+going-whole : (a : Going) → 0 < larkGoing a .number → larkGoing a ≡ goingRefusal (larkGoing a .number) (larkGoing a .place)
 going-whole (Goes taken held) h = absurd (omega arith)
 going-whole (Stops held) h = absurd (omega arith)
 going-whole (GoingRefused x) h = refl
@@ -154,15 +154,15 @@ going-whole (GoingRefused x) h = refl
 pub going-claim : (s : List ℕ) (options size blank mark : ℕ) → GoingClaim s options size blank mark
 going-claim s options size blank mark =
     let a = goingOf s options (containerOf size blank mark) in
-    claimed (λ (x : LarkGoing). x .number) (λ (x : LarkGoing). x .place) goingRefusal goingNumbers GoingRefused (Row s options) (goingIn (lineOf s) (containerOf size blank mark)) a (going-exactly s options (containerOf size blank mark)) (λ n p. refl)
+    claimed (λ (x : LarkGoing). x .number) (λ (x : LarkGoing). x .place) goingRefusal larkGoing GoingRefused (Row s options) (goingIn (lineOf s) (containerOf size blank mark)) a (going-exactly s options (containerOf size blank mark)) (λ n p. refl)
     (λ n p. refl) (going-back a) (going-zero a) (going-whole a) (λ n p. row-number)
 
 same-going : (c : Checked) (line-blank flag-set enough : Bool) (size blank₁ n m₁ m₂ : ℕ) →
-    goingNumbers
+    larkGoing
     (reading c GoingRefused
     (choose line-blank (choose flag-set (Stops (containerOf size blank₁ m₁)) (Goes n (containerOf size blank₁ m₁)))
     (choose enough (Goes size (cleared (containerOf size blank₁ m₁))) (Stops (cleared (containerOf size blank₁ m₁))))))
-    ≡ goingNumbers
+    ≡ larkGoing
     (reading c GoingRefused
     (choose line-blank (choose flag-set (Stops (containerOf size blank₁ m₂)) (Goes n (containerOf size blank₁ m₂)))
     (choose enough (Goes size (cleared (containerOf size blank₁ m₂))) (Stops (cleared (containerOf size blank₁ m₂))))))
@@ -181,7 +181,7 @@ mark-does-not-show s options size blank₁ m₁ m₂ r a =
 
 -- lark_heading
 
-headed-back : (a : Headed) (n p : ℕ) → 0 < n → headedNumbers a ≡ headedRefusal n p → a ≡ HeadedRefused (refusal n p)
+headed-back : (a : Headed) (n p : ℕ) → 0 < n → larkHeaded a ≡ headedRefusal n p → a ≡ HeadedRefused (refusal n p)
 headed-back (Heading events) n p h q = let z : 0 ≡ n = ap (λ (x : LarkHeaded). x .number) q in absurd (omega arith)
 headed-back NotHeading n p h q = let z : 0 ≡ n = ap (λ (x : LarkHeaded). x .number) q in absurd (omega arith)
 headed-back (HeadedRefused x) n p h q =
@@ -190,12 +190,12 @@ headed-back (HeadedRefused x) n p h q =
     let e₃ : HeadedRefused (refusal (x .number) (x .place)) ≡ HeadedRefused (refusal n p) = cc in
     e₃
 
-headed-zero : (a : Headed) → ((n p : ℕ) → a ≡ HeadedRefused (refusal n p) → ⊥) → headedNumbers a .number ≡ 0
+headed-zero : (a : Headed) → ((n p : ℕ) → a ≡ HeadedRefused (refusal n p) → ⊥) → larkHeaded a .number ≡ 0
 headed-zero (Heading events) f = refl
 headed-zero NotHeading f = refl
 headed-zero (HeadedRefused x) f = absurd (f (x .number) (x .place) refl)
 
-headed-whole : (a : Headed) → 0 < headedNumbers a .number → headedNumbers a ≡ headedRefusal (headedNumbers a .number) (headedNumbers a .place)
+headed-whole : (a : Headed) → 0 < larkHeaded a .number → larkHeaded a ≡ headedRefusal (larkHeaded a .number) (larkHeaded a .place)
 headed-whole (Heading events) h = absurd (omega arith)
 headed-whole NotHeading h = absurd (omega arith)
 headed-whole (HeadedRefused x) h = refl
@@ -205,17 +205,17 @@ writing-number (reading-row r) = row-number r
 writing-number (row-7 h g e f) = omega arith
 writing-number (row-8 h g e f) = omega arith
 
-heading-told : (s : List ℕ) (options outs : ℕ) (r : LarkHeaded) → r ≡ headedNumbers (headedOf s options outs .answer) →
+heading-told : (s : List ℕ) (options outs : ℕ) (r : LarkHeaded) → r ≡ larkHeaded (headedOf s options outs .answer) →
     Told (λ (x : LarkHeaded). x .number) (λ (x : LarkHeaded). x .place) headedRefusal (WritingRow s options outs) r
 heading-told s options outs =
     let a = headedOf s options outs .answer in
-    told (λ (x : LarkHeaded). x .number) (λ (x : LarkHeaded). x .place) headedRefusal headedNumbers HeadedRefused (WritingRow s options outs)
+    told (λ (x : LarkHeaded). x .number) (λ (x : LarkHeaded). x .place) headedRefusal larkHeaded HeadedRefused (WritingRow s options outs)
     (headingFound (lineOf s) options) a (heading-exactly s options outs) (λ n p. refl) (λ n p. refl) (headed-back a) (headed-zero a) (headed-whole a)
     (λ n p. writing-number)
 
 -- only where a heading is found are there bytes to write
 abbrev Silent : Result → Type 0
-Silent x = headedNumbers (x .answer) .found ≡ 0 → x .bytes ≡ []
+Silent x = larkHeaded (x .answer) .found ≡ 0 → x .bytes ≡ []
 
 silent-outcome : (o : Outcome) → Silent (headed o)
 silent-outcome (accepted es) q = absurd (omega arith)
@@ -303,14 +303,14 @@ heading-claim s options =
           let both : headedOf s options (length out₁) ≡ headedOf s options (length out₂) = ap (λ (n : ℕ). headedOf s options n) e in
           let same : o₂ ≡ onto (headedOf s options (length out₁) .bytes) out₂ =
           q .output ∙ sym (ap (λ (x : Result). onto (x .bytes) out₂) both) in (
-            p .answer ∙ ap (λ (x : Result). headedNumbers (x .answer)) both ∙ sym (q .answer),
+            p .answer ∙ ap (λ (x : Result). larkHeaded (x .answer)) both ∙ sym (q .answer),
             seam (headedOf s options (length out₁) .bytes) out₁ o₁ (p .output) .0 ∙ sym (seam (headedOf s options (length out₁) .bytes) out₂ o₂ same .0),
           );
       rest-kept = λ out r out′ a. seam (headedOf s options (length out) .bytes) out out′ (a .output) .1;
       exactly = λ out r out′ a. heading-told s options (length out) r (a .answer);
       finds = λ out r out′ a none.
           let so = heading-exactly s options (length out) .finds none in
-          (a .answer ∙ ap headedNumbers so, a .output ∙ ap (λ (bs : List ℕ). onto bs out) (goes-with s options (length out) so));
+          (a .answer ∙ ap larkHeaded so, a .output ∙ ap (λ (bs : List ℕ). onto bs out) (goes-with s options (length out) so));
       fits = λ out. within s options (length out);
       only-a-heading-writes = λ out r out′ a z.
           let none = silent s options (length out) (sym (ap (λ (x : LarkHeaded). x .found) (a .answer)) ∙ z) in

@@ -13,7 +13,7 @@ use Rattle.record.specs.Outcome.{gives, onto}
 use Rattle.record.specs.declared.event.Event.{Event}
 use Rattle.runs.specs.Runs.{offender}
 use Rattle.runs.specs.Plain.{Standing, Group}
-use Rattle.runs.specs.Rule.{Rule, crate}
+use Rattle.runs.specs.Rule.{Rule, Profile}
 use Rattle.runs.specs.Pieces.{outcome}
 use Rattle.runs.specs.Output.{output}
 use Rattle.groups.specs.Matches.{begin}
@@ -38,22 +38,22 @@ none-offended none all es q = refl
 none-offended (some j) all es q = let z : _≡_ {A = ℕ} 0 1 = cc in absurd (omega arith)
 
 -- what attention makes of a record is the output
-pub made-output : (s : List ℕ) (options : ℕ) (es : List Event) → attention options (docOf s) (allEvents s) ≡ gives es → es ≡ output crate options (docOf s) (allEvents s)
+pub made-output : (profile : Profile) (s : List ℕ) (options : ℕ) (es : List Event) → attention profile options (docOf s) (allEvents s) ≡ gives es → es ≡ output profile options (docOf s) (allEvents s)
 unfolding attention
-made-output s options es q = the-output (offender (docOf s) options (allEvents s)) (output crate options (docOf s) (allEvents s)) es q
+made-output profile s options es q = the-output (offender (docOf s) options (allEvents s)) (output profile options (docOf s) (allEvents s)) es q
 
 pub accepted-as-the-plain-rule : AcceptedAsThePlainRule
 unfolding attention
-accepted-as-the-plain-rule s options out work r out′ work′ p z =
-    let a = attention-claim s options .accepts out work r out′ work′ p z in
-    let none = attention-claim s options .exactly out work r out′ work′ p .none-holds z in
+accepted-as-the-plain-rule profile s options out work r out′ work′ p z =
+    let a = attention-claim profile s options .accepts out work r out′ work′ p z in
+    let none = attention-claim profile s options .exactly out work r out′ work′ p .none-holds z in
     let good = no-row-sound s options (length work) (λ n q x. none n q (by-check x)) in
-    let same = made-output s options (a .events) (a .made-so) in
+    let same = made-output profile s options (a .events) (a .made-so) in
     record {
       record-good =
           record {
             events = rw (good .0) (good .1);
-            shapes = none-offended (offender (docOf s) options (allEvents s)) (output crate options (docOf s) (allEvents s)) (a .events) (a .made-so);
+            shapes = none-offended (offender (docOf s) options (allEvents s)) (output profile options (docOf s) (allEvents s)) (a .events) (a .made-so);
           };
       groups = ap (λ (y : LarkResolved). y .groups) (a .answer);
       tried = ap (λ (y : LarkResolved). y .tried) (a .answer);
@@ -62,26 +62,26 @@ accepted-as-the-plain-rule s options out work r out′ work′ p z =
     }
 
 pub accepted-nests : AcceptedNests
-accepted-nests s options out work r out′ work′ a z =
-    let good = accepted-as-the-plain-rule s options out work r out′ work′ a z .record-good in
+accepted-nests profile s options out work r out′ work′ a z =
+    let good = accepted-as-the-plain-rule profile s options out work r out′ work′ a z .record-good in
     record {
-      groups-never-cross = groups.groups-never-cross crate options (docOf s) (allEvents s) 64 (length (docOf s)) (good .events);
-      containers-never-crossed = groups.containers-never-crossed crate options (docOf s) (allEvents s) 64 (length (docOf s)) (good .events);
-      container-is-one = groups.container-is-one crate options (docOf s) (allEvents s);
-      each-held = groups.each-held crate options (docOf s) (allEvents s) 64 (length (docOf s)) (good .events);
-      each-marker-once = pieces.each-marker-once crate options (docOf s) (allEvents s) 64 good;
-      only-markers = pieces.only-markers crate options (docOf s) (allEvents s);
+      groups-never-cross = groups.groups-never-cross profile options (docOf s) (allEvents s) 64 (length (docOf s)) (good .events);
+      containers-never-crossed = groups.containers-never-crossed profile options (docOf s) (allEvents s) 64 (length (docOf s)) (good .events);
+      container-is-one = groups.container-is-one profile options (docOf s) (allEvents s);
+      each-held = groups.each-held profile options (docOf s) (allEvents s) 64 (length (docOf s)) (good .events);
+      each-marker-once = pieces.each-marker-once profile options (docOf s) (allEvents s) 64 good;
+      only-markers = pieces.only-markers profile options (docOf s) (allEvents s);
     }
 
 pub groups-are-the-plain-rule's : GroupsAreThePlainRule's
 groups-are-the-plain-rule's rule w n made tried w′ a = (a .along, λ rs f. let x = a .of rs f in (x .made, x .count, x .grouped))
 
 pub accepted-begins : AcceptedBegins
-accepted-begins s options n w w₁ w₂ room l c = let same = l .same-length in begins (omega arith) (l .runs n refl) c
+accepted-begins profile s options n w w₁ w₂ room l c = let same = l .same-length in begins (omega arith) (l .runs n refl) c
 
 pub accepted-groups : AcceptedGroups
 unfolding outcome
-accepted-groups s options n made tried w w′ f a = groups-are-the-plain-rule's (crate .rule options) w n made tried w′ a .1 (begin crate options (docOf s) (allEvents s)) f
+accepted-groups profile s options n made tried w w′ f a = groups-are-the-plain-rule's (profile .rule options) w n made tried w′ a .1 (begin profile options (docOf s) (allEvents s)) f
 
 pub chains-after-a-match : ChainsAfterAMatch
 chains-after-a-match rule w height n from groups tried next height′ groups′ tried′ w′ h rs gs r e = let x = h .of rs gs r e in (h .along, x .at, x .ready .listed)

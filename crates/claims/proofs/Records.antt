@@ -23,19 +23,20 @@ use Rattle.record.proofs.Good.{admission}
 use Rattle.record.proofs.Parts.{length-document}
 use Rattle.record.proofs.Sections.{length-section}
 use Rattle.record.proofs.Output.{onto-bytes, onto-rest, onto-none}
+use Rattle.runs.specs.Rule.{Profile}
 use Rattle.attention.specs.Attention.{attention}
-use Rattle.attention.specs.Promise.{resolution as attentionOutcome, answerOf as attentionAnswer}
+use Rattle.attention.specs.Promise as attentionCall
 use Rattle.attention.specs.Shape.{Offends as RunOffends}
 use Rattle.attention.proofs.Exactly.{exactly-resolved as attention-exactly-resolved}
 use Rattle.heading.specs.Headings.{headings}
-use Rattle.heading.specs.Promise.{resolution as headingOutcome, answerOf as headingAnswer}
+use Rattle.heading.specs.Promise as headingsCall
 use Rattle.heading.specs.Shape.{Broken as HeadingOffends}
 use Rattle.heading.proofs.Exactly.{exactly-resolved as headings-exactly-resolved}
 use Rattle.list.specs.Lists.{lists}
-use Rattle.list.specs.Promise.{outcomeOf as listOutcome, answerOf as listAnswer}
+use Rattle.list.specs.Promise as listsCall
 use Rattle.list.specs.Offence.{Offends as ItemOffends}
 use Rattle.list.proofs.Exactly.{exactly-resolved as lists-exactly-resolved}
-use Rattle.ledgerlark.specs.Answers.{readingOf, attentionOf, headingsOf, listsOf, ReadAs}
+use Rattle.ledgerlark.specs.Answers.{larkReading, larkAttention, larkHeadings, larkLists, ReadAs}
 use Rattle.ledgerlark.specs.declared.resolve.LarkReading.{LarkReading}
 use Rattle.ledgerlark.specs.declared.resolve.LarkResolved.{LarkResolved}
 use Rattle.claims.specs.Told.{Told}
@@ -58,7 +59,7 @@ written-number (row-8 es h g e f) = omega arith
 
 -- lark_read
 
-read-back : (a : Reading) (n p : ℕ) → 0 < n → readingOf a ≡ readRefusal n p → a ≡ refuse n p
+read-back : (a : Reading) (n p : ℕ) → 0 < n → larkReading a ≡ readRefusal n p → a ≡ refuse n p
 read-back (Good d e) n p h q = let z : 0 ≡ n = ap (λ (x : LarkReading). x .number) q in absurd (omega arith)
 read-back (Refused x) n p h q =
     let e₁ : x .number ≡ n = ap (λ (y : LarkReading). y .number) q in
@@ -66,7 +67,7 @@ read-back (Refused x) n p h q =
     let e₃ : refuse (x .number) (x .place) ≡ refuse n p = cc in
     e₃
 
-read-whole : (a : Reading) → 0 < readingOf a .number → readingOf a ≡ readRefusal (readingOf a .number) (readingOf a .place)
+read-whole : (a : Reading) → 0 < larkReading a .number → larkReading a ≡ readRefusal (larkReading a .number) (larkReading a .place)
 read-whole (Good d e) h = absurd (omega arith)
 read-whole (Refused x) h = refl
 
@@ -74,9 +75,9 @@ read-exactly : {s : List ℕ} {options : ℕ} {work : List ℕ} {r : LarkReading
     Told (λ (x : LarkReading). x .number) (λ (x : LarkReading). x .place) readRefusal (Row s options (length work)) r
 read-exactly {s} {options} {work} {r} a =
     record {
-      given = λ n p l. a .answer ∙ ap readingOf (exactly s options (length work) .given n p l);
+      given = λ n p l. a .answer ∙ ap larkReading (exactly s options (length work) .given n p l);
       only = λ n p h q. exactly s options (length work) .refused n p (read-back (admitted s options (length work)) n p h (sym (a .answer) ∙ q));
-      accepted = λ none. ap (λ (x : LarkReading). x .number) (a .answer ∙ ap readingOf (exactly s options (length work) .accepted none));
+      accepted = λ none. ap (λ (x : LarkReading). x .number) (a .answer ∙ ap larkReading (exactly s options (length work) .accepted none));
       none-holds = λ z. read-none (admitted s options (length work)) refl z;
       nothing-more = λ h. rw (a .answer) (read-whole (admitted s options (length work)) (rw (a .answer) at h));
     }
@@ -85,7 +86,7 @@ read-exactly {s} {options} {work} {r} a =
     read-none (Good d e) q z = exactly s options (length work) .good d e q .2
     read-none (Refused x) q z =
         let h = row-number (exactly s options (length work) .refused (x .number) (x .place) q .holds) in
-        let k : r .number ≡ x .number = ap (λ (y : LarkReading). y .number) (a .answer ∙ ap readingOf q) in
+        let k : r .number ≡ x .number = ap (λ (y : LarkReading). y .number) (a .answer ∙ ap larkReading q) in
         absurd (omega arith)
 
 -- where no row holds the record's events are sound over its document
@@ -101,11 +102,11 @@ read-claim s options =
     record {
       unique = λ work r₁ r₂ w₁ w₂ p q. (p .answer ∙ sym (q .answer), p .wiped ∙ sym (q .wiped));
       isolated = λ work₁ work₂ r₁ r₂ w₁ w₂ e p q. (
-        p .answer ∙ ap (λ (n : ℕ). readingOf (admitted s options n)) e ∙ sym (q .answer),
+        p .answer ∙ ap (λ (n : ℕ). larkReading (admitted s options n)) e ∙ sym (q .answer),
         p .wiped ∙ ap (λ (n : ℕ). replicate n 0) e ∙ sym (q .wiped),
       );
       exactly = λ work r work′ a. read-exactly a;
-      accepts = λ work r work′ a z. a .answer ∙ ap readingOf (exactly s options (length work) .accepted (read-exactly a .none-holds z));
+      accepts = λ work r work′ a z. a .answer ∙ ap larkReading (exactly s options (length work) .accepted (read-exactly a .none-holds z));
       wiped = λ work r work′ a. a .wiped;
     }
 
@@ -243,28 +244,28 @@ claimed comes answers s options Offends resolve groups tried reads e x =
         let k : r .number ≡ y .number = ap (λ (v : LarkResolved). v .number) (a .answer ∙ ap answers c ∙ reads .of-refused (y .number) (y .place)) in
         absurd (omega arith)
 
-pub attention-claim : (s : List ℕ) (options : ℕ) → AttentionClaim s options
-unfolding attentionOutcome
-attention-claim s options =
-    claimed (attentionOutcome s options) (λ (o : Outcome). attentionOf (attentionAnswer s options o)) s options
-    (RunOffends (docOf s) options (allEvents s)) (λ d e. attention options (documentOf s d) (eventsOf s d e)) _ _
+pub attention-claim : (profile : Profile) (s : List ℕ) (options : ℕ) → AttentionClaim profile s options
+unfolding attentionCall.outcomeOf
+attention-claim profile s options =
+    claimed (attentionCall.outcomeOf profile s options) (λ (o : Outcome). larkAttention (attentionCall.answerOf profile s options o)) s options
+    (RunOffends (docOf s) options (allEvents s)) (λ d e. attention profile options (documentOf s d) (eventsOf s d e)) _ _
     (record { of-refused = λ n p. refl; of-accepted = λ es. refl })
     (λ outs works. refl)
-    (λ outs works. attention-exactly-resolved s options works outs)
+    (λ outs works. attention-exactly-resolved profile s options works outs)
 
 pub headings-claim : (s : List ℕ) (options : ℕ) → HeadingsClaim s options
-unfolding headingOutcome
+unfolding headingsCall.outcomeOf
 headings-claim s options =
-    claimed (headingOutcome s options) (λ (o : Outcome). headingsOf (headingAnswer o)) s options (HeadingOffends (allEvents s))
+    claimed (headingsCall.outcomeOf s options) (λ (o : Outcome). larkHeadings (headingsCall.answerOf o)) s options (HeadingOffends (allEvents s))
     (λ d e. headings (eventsOf s d e)) 0 0
     (record { of-refused = λ n p. refl; of-accepted = λ es. refl })
     (λ outs works. refl)
     (λ outs works. headings-exactly-resolved s options works outs)
 
 pub lists-claim : (s : List ℕ) (options : ℕ) → ListsClaim s options
-unfolding listOutcome
+unfolding listsCall.outcomeOf
 lists-claim s options =
-    claimed (listOutcome s options) (λ (o : Outcome). listsOf (listAnswer o)) s options (ItemOffends (docOf s) (allEvents s))
+    claimed (listsCall.outcomeOf s options) (λ (o : Outcome). larkLists (listsCall.answerOf o)) s options (ItemOffends (docOf s) (allEvents s))
     (λ d e. lists (documentOf s d) (eventsOf s d e)) 0 0
     (record { of-refused = λ n p. refl; of-accepted = λ es. refl })
     (λ outs works. refl)

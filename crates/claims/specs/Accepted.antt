@@ -9,8 +9,8 @@ use mathlib.Core.List.{List}
 use lib.ListN.{length}
 use Rattle.record.specs.Rows.{documentCount}
 use Rattle.record.specs.Sound.{sound}
-use Rattle.runs.specs.Rule.{crate}
-use Rattle.runs.specs.Pieces.{outcome as matching}
+use Rattle.runs.specs.Rule.{Profile}
+use Rattle.runs.specs.Pieces.{outcome}
 use Rattle.output.specs.Others.{others, Among}
 use Rattle.attention.specs.Attention.{attention}
 use Rattle.heading.specs.Headings.{headings}
@@ -21,17 +21,17 @@ use Rattle.ledgerlark.specs.Answers.{AttentionAs, HeadingsAs, ListsAs}
 use Rattle.ledgerlark.specs.declared.resolve.LarkResolved.{LarkResolved}
 use Rattle.claims.specs.Records.{docOf, allEvents, Accepts}
 
--- attention: the result is sound, with room for all of its events to be open, and the events that are no run's are there, in their order
-pub record AttentionNests (s : List ℕ) (options : ℕ) (out : List ℕ) (r : LarkResolved) (out′ : List ℕ) : Type 0 where
-  pub accepted : Accepts (attention options (docOf s) (allEvents s)) (length (matching crate options (docOf s) (allEvents s) .groups))
-      (matching crate options (docOf s) (allEvents s) .tried) out r out′
+-- attention, in any profile: the result is sound, with room for all of its events to be open, and the events that are no run's are there, in their order
+pub record AttentionNests (profile : Profile) (s : List ℕ) (options : ℕ) (out : List ℕ) (r : LarkResolved) (out′ : List ℕ) : Type 0 where
+  pub accepted : Accepts (attention profile options (docOf s) (allEvents s)) (length (outcome profile options (docOf s) (allEvents s) .groups))
+      (outcome profile options (docOf s) (allEvents s) .tried) out r out′
   pub nests : sound (length (accepted .events)) (documentCount s) (accepted .events) ≡ true
   pub kept : Among (others (allEvents s)) (accepted .events)
 
 abbrev pub AcceptedAttention : Type 0
 AcceptedAttention =
-    (s : List ℕ) (options : ℕ) (out work : List ℕ) (r : LarkResolved) (out′ work′ : List ℕ) →
-    AttentionAs s options out work r out′ work′ → r .number ≡ 0 → AttentionNests s options out r out′
+    (profile : Profile) (s : List ℕ) (options : ℕ) (out work : List ℕ) (r : LarkResolved) (out′ work′ : List ℕ) →
+    AttentionAs profile s options out work r out′ work′ → r .number ≡ 0 → AttentionNests profile s options out r out′
 
 -- headings: the result is sound, at most one event deeper than a record may be, and its events outside headings are those of the record
 pub record HeadingsNest (s out : List ℕ) (r : LarkResolved) (out′ : List ℕ) : Type 0 where

@@ -18,7 +18,7 @@ use Rattle.classes.specs.Class.{classOf, standardClass, amended, whitespace, pu
 use Rattle.runs.specs.Texts.{bytes}
 use Rattle.runs.specs.Runs.{byteAt, byteBefore, entersRun, runsFrom, runsOf, isMarker, allowed, leftAtOnce, allAre, runBetween, shaped, offenderFrom, offender}
 use Rattle.runs.specs.Flanking.{classBeside, leftFlanking, rightFlanking, besideMarker, flanksLeft, flanksRight, canOpen, canClose}
-use Rattle.runs.specs.Rule.{threes, tildes, ruleOver}
+use Rattle.runs.specs.Rule.{threes, tildes, ruleOver, crate}
 use Rattle.runs.specs.Plain.{opener, closer, sameContainer, candidate, takes, back, look, forth, amount, alter, matched, rounds, total, plain}
 use Rattle.runs.specs.Pieces.{standing, outcome, groupName, closings, openings, closed, opened, remains}
 use Rattle.runs.specs.Output.{closingEvents, openingEvents, leftoverEvents, runEvents, replaced, output}
@@ -63,7 +63,7 @@ shownBy pick (offends k) = []
 
 -- what the definitions answer, with options 59: of a text the record that a tokenizer makes of it, of a line the readers
 unfoldable pub reply : Question → String → Reply
-reply groups-of s = these (shownBy groupsAndData (attention 59 (bytes s) (split (bytes s))))
+reply groups-of s = these (shownBy groupsAndData (attention crate 59 (bytes s) (split (bytes s))))
 reply size-of s = number (numbersOf (startOf (bytes s) 59 false) .size)
 reply text-of s = these (choose (isHeading (bytes s) 59) (shownBy headingTexts (headings (headingEvents (bytes s)))) [])
 

@@ -19,7 +19,7 @@ use Rattle.lines.specs.Item.{startIn}
 use Rattle.scan.specs.Run.{blank}
 use Rattle.lines.specs.Going.{goingIn}
 use Rattle.atx.specs.Heading.{isHeading, headingEvents, headedOf}
-use Rattle.ledgerlark.specs.Answers.{flagged, containerOf, spacesOf as spacesNumbers, itemOf, goingOf as goingNumbers, headedOf as headedNumbers, SpacesAs, ItemAs, GoingAs, HeadedAs}
+use Rattle.ledgerlark.specs.Answers.{flagged, containerOf, larkSpaces, larkItem, larkGoing, larkHeaded, SpacesAs, ItemAs, GoingAs, HeadedAs}
 use Rattle.ledgerlark.specs.declared.line.LarkSpaces.{LarkSpaces}
 use Rattle.ledgerlark.specs.declared.line.LarkItem.{LarkItem}
 use Rattle.ledgerlark.specs.declared.line.LarkGoing.{LarkGoing}
@@ -41,7 +41,7 @@ spacesRefusal n p = record { number = n; place = p; found = 0; taken = 0 }
 abbrev pub SpacesClaim : List ℕ → ℕ → ℕ → ℕ → Type 0
 SpacesClaim s options min max =
     LineClaim (λ (x : LarkSpaces). x .number) (λ (x : LarkSpaces). x .place) spacesRefusal (SpacesAs s options min max) (Row s options)
-    (spacesNumbers (spacesIn (lineOf s) min max))
+    (larkSpaces (spacesIn (lineOf s) min max))
 
 -- lark_list_item
 
@@ -51,7 +51,7 @@ itemRefusal n p = record { number = n; place = p; found = 0; taken = 0; size = 0
 abbrev pub ItemClaim : List ℕ → ℕ → ℕ → Type 0
 ItemClaim s options interrupting =
     LineClaim (λ (x : LarkItem). x .number) (λ (x : LarkItem). x .place) itemRefusal (ItemAs s options interrupting) (Row s options)
-    (itemOf (startIn (lineOf s) options (flagged interrupting)))
+    (larkItem (startIn (lineOf s) options (flagged interrupting)))
 
 -- lark_continuation
 
@@ -61,7 +61,7 @@ goingRefusal n p = record { number = n; place = p; found = 0; taken = 0; blank =
 abbrev pub GoingClaim : List ℕ → ℕ → ℕ → ℕ → ℕ → Type 0
 GoingClaim s options size blank mark =
     LineClaim (λ (x : LarkGoing). x .number) (λ (x : LarkGoing). x .place) goingRefusal (GoingAs s options size blank mark) (Row s options)
-    (goingNumbers (goingIn (lineOf s) (containerOf size blank mark)))
+    (larkGoing (goingIn (lineOf s) (containerOf size blank mark)))
 
 -- the mark that goes in does not show in the answer
 abbrev pub MarkDoesNotShow : Type 0
@@ -89,4 +89,4 @@ pub record WritingClaim (As : List ℕ → LarkHeaded → List ℕ → Type 0) (
 abbrev pub HeadingClaim : List ℕ → ℕ → Type 0
 HeadingClaim s options =
     WritingClaim (HeadedAs s options) (λ outs. headedOf s options outs .bytes) (WritingRow s options)
-    (headedNumbers (headingFound (lineOf s) options)) (choose (isHeading (lineOf s) options) (sectionBytes (headingEvents (lineOf s))) [])
+    (larkHeaded (headingFound (lineOf s) options)) (choose (isHeading (lineOf s) options) (sectionBytes (headingEvents (lineOf s))) [])

@@ -24,7 +24,7 @@ use Rattle.record.specs.Outcome.{onto}
 use Rattle.runs.specs.Runs.{runsOf}
 use Rattle.runs.specs.Plain.{Standing, Group, forth, plain}
 use Rattle.runs.specs.declared.Next.the-variants.{Done}
-use Rattle.runs.specs.Rule.{Rule, crate}
+use Rattle.runs.specs.Rule.{Rule, Profile}
 use Rattle.runs.specs.Pieces.{outcome}
 use Rattle.runs.specs.Output.{output}
 use Rattle.groups.specs.Theorems.{groupsOf}
@@ -51,40 +51,40 @@ use Rattle.matcher.specs.declared.closers.Step.the-variants.{Closed}
 use Rattle.matcher.specs.declared.closers.Found.the-variants.{Groups}
 
 -- the groups that the plain rule makes of a record
-abbrev pub plainGroups : List ℕ → ℕ → List Group
-plainGroups s options = groupsOf crate options (docOf s) (allEvents s)
+abbrev pub plainGroups : Profile → List ℕ → ℕ → List Group
+plainGroups profile s options = groupsOf profile options (docOf s) (allEvents s)
 
 -- the call: with number 0 it reports how many groups the plain rule makes and how many candidates that rule counts, and writes the events that these
 -- groups make; and the record is one that the theorems on groups speak of
-pub record AsThePlainRule (s : List ℕ) (options : ℕ) (out : List ℕ) (r : LarkResolved) (out′ : List ℕ) : Type 0 where
+pub record AsThePlainRule (profile : Profile) (s : List ℕ) (options : ℕ) (out : List ℕ) (r : LarkResolved) (out′ : List ℕ) : Type 0 where
   pub record-good : Accepted 64 options (docOf s) (allEvents s)
-  pub groups : r .groups ≡ length (plainGroups s options)
-  pub tried : r .tried ≡ outcome crate options (docOf s) (allEvents s) .tried
-  pub events : r .events ≡ length (output crate options (docOf s) (allEvents s))
-  pub written : out′ ≡ onto (sectionBytes (output crate options (docOf s) (allEvents s))) out
+  pub groups : r .groups ≡ length (plainGroups profile s options)
+  pub tried : r .tried ≡ outcome profile options (docOf s) (allEvents s) .tried
+  pub events : r .events ≡ length (output profile options (docOf s) (allEvents s))
+  pub written : out′ ≡ onto (sectionBytes (output profile options (docOf s) (allEvents s))) out
 
 abbrev pub AcceptedAsThePlainRule : Type 0
 AcceptedAsThePlainRule =
-    (s : List ℕ) (options : ℕ) (out work : List ℕ) (r : LarkResolved) (out′ work′ : List ℕ) →
-    AttentionAs s options out work r out′ work′ → r .number ≡ 0 → AsThePlainRule s options out r out′
+    (profile : Profile) (s : List ℕ) (options : ℕ) (out work : List ℕ) (r : LarkResolved) (out′ work′ : List ℕ) →
+    AttentionAs profile s options out work r out′ work′ → r .number ≡ 0 → AsThePlainRule profile s options out r out′
 
 -- of an accepted record: no two groups cross; no group crosses a container, that is any pair of the record that is no run, and both its runs stand in
 -- one; each group is where its pieces are; and each marker byte of a run lies in exactly one piece of a group or one leftover, which hold no
 -- other byte
-pub record Nests (s : List ℕ) (options : ℕ) : Type 0 where
-  pub groups-never-cross : NeverCross (runsOf (docOf s) (allEvents s)) (plainGroups s options)
-  pub containers-never-crossed : NeverCrosses (allEvents s) (runsOf (docOf s) (allEvents s)) (plainGroups s options)
-  pub container-is-one : OneContainer (runsOf (docOf s) (allEvents s)) (plainGroups s options)
-  pub each-held : (i : ℕ) → i < length (plainGroups s options) → Held (runsOf (docOf s) (allEvents s)) (plainGroups s options) i
+pub record Nests (profile : Profile) (s : List ℕ) (options : ℕ) : Type 0 where
+  pub groups-never-cross : NeverCross (runsOf (docOf s) (allEvents s)) (plainGroups profile s options)
+  pub containers-never-crossed : NeverCrosses (allEvents s) (runsOf (docOf s) (allEvents s)) (plainGroups profile s options)
+  pub container-is-one : OneContainer (runsOf (docOf s) (allEvents s)) (plainGroups profile s options)
+  pub each-held : (i : ℕ) → i < length (plainGroups profile s options) → Held (runsOf (docOf s) (allEvents s)) (plainGroups profile s options) i
   pub each-marker-once : (at : ℕ) → Marker at (runsOf (docOf s) (allEvents s)) →
-      holding at (allPieces (plainGroups s options) 0 (runsOf (docOf s) (allEvents s))) ≡ 1
-  pub only-markers : (at : ℕ) → 0 < holding at (allPieces (plainGroups s options) 0 (runsOf (docOf s) (allEvents s))) →
+      holding at (allPieces (plainGroups profile s options) 0 (runsOf (docOf s) (allEvents s))) ≡ 1
+  pub only-markers : (at : ℕ) → 0 < holding at (allPieces (plainGroups profile s options) 0 (runsOf (docOf s) (allEvents s))) →
       Marker at (runsOf (docOf s) (allEvents s))
 
 abbrev pub AcceptedNests : Type 0
 AcceptedNests =
-    (s : List ℕ) (options : ℕ) (out work : List ℕ) (r : LarkResolved) (out′ work′ : List ℕ) →
-    AttentionAs s options out work r out′ work′ → r .number ≡ 0 → Nests s options
+    (profile : Profile) (s : List ℕ) (options : ℕ) (out work : List ℕ) (r : LarkResolved) (out′ work′ : List ℕ) →
+    AttentionAs profile s options out work r out′ work′ → r .number ≡ 0 → Nests profile s options
 
 -- the chained matcher forms the same groups in the same order, and tries exactly as many candidates: whatever runs the memory held before the first
 -- match, after it the memory holds the plain rule's groups of them in match order
@@ -99,15 +99,15 @@ GroupsAreThePlainRule's =
 -- (crates/attention). After both the memory is as before the first match, for the runs of this record: here the statements on chains begin
 abbrev pub AcceptedBegins : Type 0
 AcceptedBegins =
-    (s : List ℕ) (options n : ℕ) (w w₁ w₂ : List ℕ) → Room w → Loads s (documentCount s) (eventCount s) options w (Runs n) w₁ →
-    Cleared w₁ 6147 w₂ → Fresh w₂ (begin crate options (docOf s) (allEvents s)) n
+    (profile : Profile) (s : List ℕ) (options n : ℕ) (w w₁ w₂ : List ℕ) → Room w → Loads profile s (documentCount s) (eventCount s) options w (Runs n) w₁ →
+    Cleared w₁ 6147 w₂ → Fresh w₂ (begin profile options (docOf s) (allEvents s)) n
 
 -- so the groups that the memory then holds are those that are reported and written
 abbrev pub AcceptedGroups : Type 0
 AcceptedGroups =
-    (s : List ℕ) (options n made tried : ℕ) (w w′ : List ℕ) → Fresh w (begin crate options (docOf s) (allEvents s)) n →
-    Answers (crate .rule options) w n (Groups made tried) w′ →
-    (made ≡ length (plainGroups s options)) × (tried ≡ outcome crate options (docOf s) (allEvents s) .tried) × Grouped w′ (plainGroups s options) n
+    (profile : Profile) (s : List ℕ) (options n made tried : ℕ) (w w′ : List ℕ) → Fresh w (begin profile options (docOf s) (allEvents s)) n →
+    Answers (profile .rule options) w n (Groups made tried) w′ →
+    (made ≡ length (plainGroups profile s options)) × (tried ≡ outcome profile options (docOf s) (allEvents s) .tried) × Grouped w′ (plainGroups profile s options) n
 
 -- after each closer the chains hold exactly the runs up to it that can still open, as the plain rule has them on finishing that closer. A closer
 -- that takes an opener is a step of its own: this is what the step promises

@@ -12,16 +12,16 @@ use Rattle.record.specs.Rows.{Row, documentCount, eventCount}
 use Rattle.record.specs.Written.{WrittenRow}
 use Rattle.record.specs.Outcome.{Resolution, gives, onto, bytesWritten}
 use Rattle.record.specs.declared.event.Event.{Event}
-use Rattle.runs.specs.Rule.{crate}
-use Rattle.runs.specs.Pieces.{outcome as matching}
+use Rattle.runs.specs.Rule.{Profile}
+use Rattle.runs.specs.Pieces.{outcome}
 use Rattle.attention.specs.Attention.{attention}
-use Rattle.attention.specs.Promise.{resolution as attentionOutcome}
+use Rattle.attention.specs.Promise as attentionCall
 use Rattle.attention.specs.Shape.{Offends as RunOffends}
 use Rattle.heading.specs.Headings.{headings}
-use Rattle.heading.specs.Promise.{resolution as headingOutcome}
+use Rattle.heading.specs.Promise as headingsCall
 use Rattle.heading.specs.Shape.{Broken as HeadingOffends}
 use Rattle.list.specs.Lists.{lists}
-use Rattle.list.specs.Promise.{outcomeOf as listOutcome}
+use Rattle.list.specs.Promise as listsCall
 use Rattle.list.specs.Offence.{Offends as ItemOffends}
 use Rattle.ledgerlark.specs.Answers.{ReadAs, AttentionAs, HeadingsAs, ListsAs}
 use Rattle.ledgerlark.specs.declared.resolve.LarkReading.{LarkReading}
@@ -100,21 +100,21 @@ pub record Claim (s : List ℕ) (options : ℕ) (Offends : ℕ → Type 0) (made
   pub fits : (out work : List ℕ) → length (bytes (length out) (length work)) ≤ length out
   pub wiped : (out work : List ℕ) (r : LarkResolved) (out′ work′ : List ℕ) → As out work r out′ work′ → work′ ≡ replicate (length work) 0
 
--- lark_resolve_attention: what offends is a run; the groups and the candidates tried are the plain rule's
-abbrev pub AttentionClaim : List ℕ → ℕ → Type 0
-AttentionClaim s options =
-    Claim s options (RunOffends (docOf s) options (allEvents s)) (attention options (docOf s) (allEvents s))
-    (length (matching crate options (docOf s) (allEvents s) .groups)) (matching crate options (docOf s) (allEvents s) .tried)
-    (AttentionAs s options) (λ outs works. bytesWritten (attentionOutcome s options outs works))
+-- lark_resolve_attention, over any profile: what offends is a run; the groups and the candidates tried are the plain rule's
+abbrev pub AttentionClaim : Profile → List ℕ → ℕ → Type 0
+AttentionClaim profile s options =
+    Claim s options (RunOffends (docOf s) options (allEvents s)) (attention profile options (docOf s) (allEvents s))
+    (length (outcome profile options (docOf s) (allEvents s) .groups)) (outcome profile options (docOf s) (allEvents s) .tried)
+    (AttentionAs profile s options) (λ outs works. bytesWritten (attentionCall.outcomeOf profile s options outs works))
 
 -- lark_resolve_headings: what offends is a heading
 abbrev pub HeadingsClaim : List ℕ → ℕ → Type 0
 HeadingsClaim s options =
     Claim s options (HeadingOffends (allEvents s)) (headings (allEvents s)) 0 0 (HeadingsAs s options)
-    (λ outs works. bytesWritten (headingOutcome s options outs works))
+    (λ outs works. bytesWritten (headingsCall.outcomeOf s options outs works))
 
 -- lark_resolve_lists: what offends is an item
 abbrev pub ListsClaim : List ℕ → ℕ → Type 0
 ListsClaim s options =
     Claim s options (ItemOffends (docOf s) (allEvents s)) (lists (docOf s) (allEvents s)) 0 0 (ListsAs s options)
-    (λ outs works. bytesWritten (listOutcome s options outs works))
+    (λ outs works. bytesWritten (listsCall.outcomeOf s options outs works))

@@ -8,6 +8,7 @@ use ledgerlark::line::LarkItem;
 use ledgerlark::line::LarkSpaces;
 use ledgerlark::resolve::LarkReading;
 use ledgerlark::resolve::LarkResolved;
+ghost use Rattle.runs.specs.Rule.{crate};
 ghost use Rattle.ledgerlark.specs.Answers.{ReadAs, AttentionAs, HeadingsAs, ListsAs, SpacesAs, ItemAs, GoingAs, HeadedAs};
 
 // What is claimed of `ReadAs` holds of `lark_read`; and so on below.
@@ -18,7 +19,7 @@ pub fn read(s: &[u8], options: u32, work: &mut [u8]) -> LarkReading
 }
 
 pub fn resolve_attention(s: &[u8], options: u32, out: &mut [u8], work: &mut [u8]) -> LarkResolved
-    ensures { λ r. ⌜ AttentionAs (now (s .entry)) options (now (out .entry)) (now (work .entry)) r (now (out .exit)) (now (work .exit)) ⌝ }
+    ensures { λ r. ⌜ AttentionAs crate (now (s .entry)) options (now (out .entry)) (now (work .entry)) r (now (out .exit)) (now (work .exit)) ⌝ }
 {
     ledgerlark::resolve::lark_resolve_attention(s, options, out, work)
 }

@@ -20,7 +20,7 @@ use Rattle.record.specs.declared.check.Reading.the-variants.{Good, Refused}
 use Rattle.record.proofs.Sections.{length-eventsAt, section}
 use Rattle.record.proofs.Output.{onto-none}
 use Rattle.heading.specs.Headings.{resolvedFrom, offending, earliest, headings}
-use Rattle.heading.specs.Promise.{answerOf, resolution}
+use Rattle.heading.specs.Promise.{answerOf, outcomeOf}
 use Rattle.heading.specs.Steps.{judgedOf}
 use Rattle.heading.specs.declared.judge.Judged.the-variants.{Offends, Sized}
 use Rattle.heading.specs.declared.resolve.Answer.{Answer}
@@ -115,11 +115,11 @@ module _ (s : List ℕ) (d e : ℕ) (out : List ℕ) where
 
 -- the check's two ways on
 pub not-admitted : (s : List ℕ) (options works : ℕ) (out : List ℕ) (r : Refusal) → Refused r ≡ admitted s options works →
-    Answered (resolution s options (length out) works) answerOf out (answers.Refused r) out
-unfolding resolution
+    Answered (outcomeOf s options (length out) works) answerOf out (answers.Refused r) out
+unfolding outcomeOf
 not-admitted s options works out r q = rw (← q) (record { answer = refl; output = sym (onto-none out) })
 
 pub good-record : (s : List ℕ) (options works d e : ℕ) (out : List ℕ) {r : Answer} {out′ : List ℕ} → Good d e ≡ admitted s options works →
-    Answered (settled d (headings (eventsOf s d e)) (length out)) answerOf out r out′ → Answered (resolution s options (length out) works) answerOf out r out′
-unfolding resolution
+    Answered (settled d (headings (eventsOf s d e)) (length out)) answerOf out r out′ → Answered (outcomeOf s options (length out) works) answerOf out r out′
+unfolding outcomeOf
 good-record s options works d e out q w = rw (← q) w

@@ -17,12 +17,12 @@ answerOf (accepted es) = Resolved (length es)
 answerOf (refused r) = Refused r
 
 -- what the call comes to: of the record, the options, and the lengths of the output and of the work memory
-unfoldable pub resolution : List ℕ → ℕ → ℕ → ℕ → Outcome
-resolution s options outs works = outcome (admitted s options works) (λ d e. headings (eventsOf s d e)) outs
+unfoldable pub outcomeOf : List ℕ → ℕ → ℕ → ℕ → Outcome
+outcomeOf s options outs works = outcome (admitted s options works) (λ d e. headings (eventsOf s d e)) outs
 
 -- the whole promise, that of every call that writes: r is answered, and out′ and work′ are what the two buffers hold then
 abbrev pub Promise : List ℕ → ℕ → List ℕ → List ℕ → Answer → List ℕ → List ℕ → Type 0
-Promise s options out work r out′ work′ = Writes (resolution s options) answerOf out work r out′ work′
+Promise s options out work r out′ work′ = Writes (outcomeOf s options) answerOf out work r out′ work′
 
 -- document 01's numbers of an answer: "A refusal returns its number and place, all else zero"
 abbrev pub numbersOf : Answer → SectionNumbers

@@ -16,7 +16,7 @@ ghost use Rattle.record.specs.Event.{eventsOf};
 ghost use Rattle.record.specs.Outcome.{settled};
 ghost use Rattle.record.specs.Promise.{Answered};
 ghost use Rattle.heading.specs.Headings.{headings};
-ghost use Rattle.heading.specs.Promise.{answerOf, resolution, Promise};
+ghost use Rattle.heading.specs.Promise.{answerOf, outcomeOf, Promise};
 
 // How many events the section that is written has, or the refusal.
 pub enum Answer {
@@ -59,7 +59,7 @@ pub fn settle(s: &[u8], d: usize, e: usize, out: &mut [u8]) -> Answer
 
 // The answer and the output; of the work memory only the length matters.
 pub fn answer_for(s: &[u8], options: u32, out: &mut [u8], works: usize) -> Answer
-    ensures { λ r. ⌜ Answered (resolution (now (s .entry)) options (length (now (out .entry))) works) answerOf (now (out .entry)) r (now (out .exit)) ⌝ }
+    ensures { λ r. ⌜ Answered (outcomeOf (now (s .entry)) options (length (now (out .entry))) works) answerOf (now (out .entry)) r (now (out .exit)) ⌝ }
 {
     match admit(s, options, works) {
         Reading::Refused(refusal) => {

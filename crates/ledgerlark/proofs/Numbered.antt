@@ -9,17 +9,17 @@ use Rattle.lines.specs.declared.item.Start.{Start}
 use Rattle.lines.specs.declared.item.Start.the-variants.{Item}
 use Rattle.lines.specs.declared.going.Going.{Going}
 use Rattle.lines.specs.declared.going.Going.the-variants.{Goes, Stops}
-use Rattle.ledgerlark.specs.Answers.{itemOf, goingOf}
+use Rattle.ledgerlark.specs.Answers.{larkItem, larkGoing}
 
 pub an-item : (found : Start) (taken : ℕ) (held : Container) (blank mark : ℕ) →
     found ≡ Item taken held → blank ≡ flag (held .blank) → mark ≡ markOf (held .kind) →
-    itemOf found ≡ record { number = 0; place = 0; found = 1; taken = taken; size = held .size; blank = blank; mark = mark }
+    larkItem found ≡ record { number = 0; place = 0; found = 1; taken = taken; size = held .size; blank = blank; mark = mark }
 an-item found taken held blank mark f b m = cc
 
 pub goes-on : (found : Going) (taken : ℕ) (held : Container) (blank : ℕ) → found ≡ Goes taken held → blank ≡ flag (held .blank) →
-    goingOf found ≡ record { number = 0; place = 0; found = 1; taken = taken; blank = blank }
+    larkGoing found ≡ record { number = 0; place = 0; found = 1; taken = taken; blank = blank }
 goes-on found taken held blank f b = cc
 
 pub goes-no-further : (found : Going) (held : Container) (blank : ℕ) → found ≡ Stops held → blank ≡ flag (held .blank) →
-    goingOf found ≡ record { number = 0; place = 0; found = 0; taken = 0; blank = blank }
+    larkGoing found ≡ record { number = 0; place = 0; found = 0; taken = 0; blank = blank }
 goes-no-further found held blank f b = cc

@@ -8,17 +8,17 @@ use Rattle.record.specs.Outcome.{Outcome}
 use Rattle.record.specs.Promise.{Read, Writes}
 use Rattle.record.specs.declared.check.Reading.{Reading}
 use Rattle.atx.specs.Promise.{HeadedBy}
-use Rattle.lines.specs.Going.{goingOf as goingIn}
+use Rattle.lines.specs.Going.{goingOf}
 use Rattle.lines.specs.declared.container.Kind.{Kind}
 use Rattle.atx.specs.declared.Headed.{Headed}
-use Rattle.ledgerlark.specs.Answers.{readingOf, headedOf, kindOf, ReadAs, HeadedAs}
+use Rattle.ledgerlark.specs.Answers.{larkReading, larkHeaded, kindOf, ReadAs, HeadedAs}
 use Rattle.ledgerlark.specs.declared.resolve.LarkReading.{LarkReading}
 use Rattle.ledgerlark.specs.declared.resolve.LarkResolved.{LarkResolved}
 use Rattle.ledgerlark.specs.declared.line.LarkHeaded.{LarkHeaded}
 
 pub read-on : (s : List ℕ) (options : ℕ) (work : List ℕ) (a : Reading) (r : LarkReading) (work′ : List ℕ) →
-    Read s options work a work′ → r ≡ readingOf a → ReadAs s options work r work′
-read-on s options work a r work′ p e = record { answer = e ∙ ap readingOf (p .answer); wiped = p .wiped }
+    Read s options work a work′ → r ≡ larkReading a → ReadAs s options work r work′
+read-on s options work a r work′ p e = record { answer = e ∙ ap larkReading (p .answer); wiped = p .wiped }
 
 pub written-on : {A : Type 0} (comes : ℕ → ℕ → Outcome) (answers : Outcome → A) (numbers : A → LarkResolved) (out work : List ℕ) (a : A) (r : LarkResolved)
     (out′ work′ : List ℕ) → Writes comes answers out work a out′ work′ → r ≡ numbers a →
@@ -26,10 +26,10 @@ pub written-on : {A : Type 0} (comes : ℕ → ℕ → Outcome) (answers : Outco
 written-on comes answers numbers out work a r out′ work′ p e = record { answer = e ∙ ap numbers (p .answer); output = p .output; wiped = p .wiped }
 
 pub headed-on : (s : List ℕ) (options : ℕ) (out : List ℕ) (a : Headed) (r : LarkHeaded) (out′ : List ℕ) →
-    HeadedBy s options out a out′ → r ≡ headedOf a → HeadedAs s options out r out′
-headed-on s options out a r out′ p e = record { answer = e ∙ ap headedOf (p .answer); output = p .output }
+    HeadedBy s options out a out′ → r ≡ larkHeaded a → HeadedAs s options out r out′
+headed-on s options out a r out′ p e = record { answer = e ∙ ap larkHeaded (p .answer); output = p .output }
 
 -- the container that is passed on has the kind that its mark stands for
 pub held-kind : (s : List ℕ) (options size : ℕ) (blank : Bool) (kind : Kind) (mark : ℕ) → kind ≡ kindOf mark →
-    goingIn s options (record { kind = kind; size = size; blank = blank }) ≡ goingIn s options (record { kind = kindOf mark; size = size; blank = blank })
-held-kind s options size blank kind mark e = ap (λ (k : Kind). goingIn s options (record { kind = k; size = size; blank = blank })) e
+    goingOf s options (record { kind = kind; size = size; blank = blank }) ≡ goingOf s options (record { kind = kindOf mark; size = size; blank = blank })
+held-kind s options size blank kind mark e = ap (λ (k : Kind). goingOf s options (record { kind = k; size = size; blank = blank })) e

@@ -9,18 +9,24 @@ use lib.Dec.{eqb}
 use Rattle.record.specs.Choice.{choose}
 use Rattle.record.specs.Check.{admitted}
 use Rattle.record.specs.Outcome.{Outcome, onto}
-use Rattle.record.specs.Promise.{Writes, numbersOf as readNumbers}
+use Rattle.record.specs.Promise as read
+use Rattle.record.specs.Promise.{Writes}
 use Rattle.record.specs.declared.check.Reading.{Reading}
-use Rattle.attention.specs.Promise.{numbersOf as attentionNumbers, answerOf as attentionAnswer, resolution as attentionOutcome}
+use Rattle.runs.specs.Rule.{Profile}
+use Rattle.attention.specs.Promise as attention
 use Rattle.attention.specs.declared.call.Answer.{Answer as AttentionAnswer}
-use Rattle.heading.specs.Promise.{numbersOf as headingNumbers, answerOf as headingAnswer, resolution as headingOutcome}
+use Rattle.heading.specs.Promise as heading
 use Rattle.heading.specs.declared.resolve.Answer.{Answer as HeadingAnswer}
-use Rattle.list.specs.Promise.{numbersOf as listNumbers, answerOf as listAnswer, outcomeOf as listOutcome}
+use Rattle.list.specs.Promise as list
 use Rattle.list.specs.declared.call.Answer.{Answer as ListAnswer}
-use Rattle.lines.specs.Spaces.{numbersOf as spacesNumbers, spacesOf as spacesIn}
-use Rattle.lines.specs.Item.{numbersOf as itemNumbers, startOf}
-use Rattle.lines.specs.Going.{numbersOf as goingNumbers, goingOf as goingIn}
-use Rattle.atx.specs.Heading.{numbersOf as headedNumbers, headedOf as headedIn}
+use Rattle.lines.specs.Spaces as spaces
+use Rattle.lines.specs.Spaces.{spacesOf}
+use Rattle.lines.specs.Item as item
+use Rattle.lines.specs.Item.{startOf}
+use Rattle.lines.specs.Going as going
+use Rattle.lines.specs.Going.{goingOf}
+use Rattle.atx.specs.Heading as atx
+use Rattle.atx.specs.Heading.{headedOf}
 use Rattle.lines.specs.declared.spaces.Spaces.{Spaces}
 use Rattle.lines.specs.declared.item.Start.{Start}
 use Rattle.lines.specs.declared.container.Kind.{Kind}
@@ -35,59 +41,59 @@ use Rattle.ledgerlark.specs.declared.line.LarkItem.{LarkItem}
 use Rattle.ledgerlark.specs.declared.line.LarkGoing.{LarkGoing}
 use Rattle.ledgerlark.specs.declared.line.LarkHeaded.{LarkHeaded}
 
--- the structs, filled with the numbers of an answer
+-- the structs that C sees, filled with the numbers of an answer
 
-abbrev pub readingOf : Reading → LarkReading
-readingOf r =
-    record { number = readNumbers r .number; place = readNumbers r .place; document = readNumbers r .document; events = readNumbers r .events }
+abbrev pub larkReading : Reading → LarkReading
+larkReading r =
+    record { number = read.numbersOf r .number; place = read.numbersOf r .place; document = read.numbersOf r .document; events = read.numbersOf r .events }
 
-abbrev pub attentionOf : AttentionAnswer → LarkResolved
-attentionOf r =
+abbrev pub larkAttention : AttentionAnswer → LarkResolved
+larkAttention r =
     record {
-      number = attentionNumbers r .number;
-      place = attentionNumbers r .place;
-      events = attentionNumbers r .events;
-      groups = attentionNumbers r .groups;
-      tried = attentionNumbers r .tried;
+      number = attention.numbersOf r .number;
+      place = attention.numbersOf r .place;
+      events = attention.numbersOf r .events;
+      groups = attention.numbersOf r .groups;
+      tried = attention.numbersOf r .tried;
     }
 
 -- headings and lists have neither groups nor candidates
-abbrev pub headingsOf : HeadingAnswer → LarkResolved
-headingsOf r =
-    record { number = headingNumbers r .number; place = headingNumbers r .place; events = headingNumbers r .events; groups = 0; tried = 0 }
+abbrev pub larkHeadings : HeadingAnswer → LarkResolved
+larkHeadings r =
+    record { number = heading.numbersOf r .number; place = heading.numbersOf r .place; events = heading.numbersOf r .events; groups = 0; tried = 0 }
 
-abbrev pub listsOf : ListAnswer → LarkResolved
-listsOf r = record { number = listNumbers r .number; place = listNumbers r .place; events = listNumbers r .events; groups = 0; tried = 0 }
+abbrev pub larkLists : ListAnswer → LarkResolved
+larkLists r = record { number = list.numbersOf r .number; place = list.numbersOf r .place; events = list.numbersOf r .events; groups = 0; tried = 0 }
 
-abbrev pub spacesOf : Spaces → LarkSpaces
-spacesOf r =
-    record { number = spacesNumbers r .number; place = spacesNumbers r .place; found = spacesNumbers r .found; taken = spacesNumbers r .taken }
+abbrev pub larkSpaces : Spaces → LarkSpaces
+larkSpaces r =
+    record { number = spaces.numbersOf r .number; place = spaces.numbersOf r .place; found = spaces.numbersOf r .found; taken = spaces.numbersOf r .taken }
 
-abbrev pub itemOf : Start → LarkItem
-itemOf r =
+abbrev pub larkItem : Start → LarkItem
+larkItem r =
     record {
-      number = itemNumbers r .number;
-      place = itemNumbers r .place;
-      found = itemNumbers r .found;
-      taken = itemNumbers r .taken;
-      size = itemNumbers r .size;
-      blank = itemNumbers r .blank;
-      mark = itemNumbers r .mark;
+      number = item.numbersOf r .number;
+      place = item.numbersOf r .place;
+      found = item.numbersOf r .found;
+      taken = item.numbersOf r .taken;
+      size = item.numbersOf r .size;
+      blank = item.numbersOf r .blank;
+      mark = item.numbersOf r .mark;
     }
 
-abbrev pub goingOf : Going → LarkGoing
-goingOf r =
+abbrev pub larkGoing : Going → LarkGoing
+larkGoing r =
     record {
-      number = goingNumbers r .number;
-      place = goingNumbers r .place;
-      found = goingNumbers r .found;
-      taken = goingNumbers r .taken;
-      blank = goingNumbers r .blank;
+      number = going.numbersOf r .number;
+      place = going.numbersOf r .place;
+      found = going.numbersOf r .found;
+      taken = going.numbersOf r .taken;
+      blank = going.numbersOf r .blank;
     }
 
-abbrev pub headedOf : Headed → LarkHeaded
-headedOf r =
-    record { number = headedNumbers r .number; place = headedNumbers r .place; found = headedNumbers r .found; events = headedNumbers r .events }
+abbrev pub larkHeaded : Headed → LarkHeaded
+larkHeaded r =
+    record { number = atx.numbersOf r .number; place = atx.numbersOf r .place; found = atx.numbersOf r .found; events = atx.numbersOf r .events }
 
 -- what goes in: any flag but 0 counts as set; `.` and `)` make an ordered container, any other number a bulleted one
 
@@ -103,29 +109,30 @@ containerOf size blank mark = record { kind = kindOf mark; size = size; blank = 
 -- the promises: the answer, the output and the work memory
 
 pub record ReadAs (s : List ℕ) (options : ℕ) (work : List ℕ) (r : LarkReading) (work′ : List ℕ) : Type 0 where
-  pub answer : r ≡ readingOf (admitted s options (length work))
+  pub answer : r ≡ larkReading (admitted s options (length work))
   pub wiped : work′ ≡ replicate (length work) 0
 
-abbrev pub AttentionAs : List ℕ → ℕ → List ℕ → List ℕ → LarkResolved → List ℕ → List ℕ → Type 0
-AttentionAs s options out work r out′ work′ =
-    Writes (attentionOutcome s options) (λ (o : Outcome). attentionOf (attentionAnswer s options o)) out work r out′ work′
+-- over any profile; the contract of the call says which
+abbrev pub AttentionAs : Profile → List ℕ → ℕ → List ℕ → List ℕ → LarkResolved → List ℕ → List ℕ → Type 0
+AttentionAs profile s options out work r out′ work′ =
+    Writes (attention.outcomeOf profile s options) (λ (o : Outcome). larkAttention (attention.answerOf profile s options o)) out work r out′ work′
 
 abbrev pub HeadingsAs : List ℕ → ℕ → List ℕ → List ℕ → LarkResolved → List ℕ → List ℕ → Type 0
 HeadingsAs s options out work r out′ work′ =
-    Writes (headingOutcome s options) (λ (o : Outcome). headingsOf (headingAnswer o)) out work r out′ work′
+    Writes (heading.outcomeOf s options) (λ (o : Outcome). larkHeadings (heading.answerOf o)) out work r out′ work′
 
 abbrev pub ListsAs : List ℕ → ℕ → List ℕ → List ℕ → LarkResolved → List ℕ → List ℕ → Type 0
-ListsAs s options out work r out′ work′ = Writes (listOutcome s options) (λ (o : Outcome). listsOf (listAnswer o)) out work r out′ work′
+ListsAs s options out work r out′ work′ = Writes (list.outcomeOf s options) (λ (o : Outcome). larkLists (list.answerOf o)) out work r out′ work′
 
 abbrev pub SpacesAs : List ℕ → ℕ → ℕ → ℕ → LarkSpaces → Type 0
-SpacesAs s options min max r = r ≡ spacesOf (spacesIn s options min max)
+SpacesAs s options min max r = r ≡ larkSpaces (spacesOf s options min max)
 
 abbrev pub ItemAs : List ℕ → ℕ → ℕ → LarkItem → Type 0
-ItemAs s options interrupting r = r ≡ itemOf (startOf s options (flagged interrupting))
+ItemAs s options interrupting r = r ≡ larkItem (startOf s options (flagged interrupting))
 
 abbrev pub GoingAs : List ℕ → ℕ → ℕ → ℕ → ℕ → LarkGoing → Type 0
-GoingAs s options size blank mark r = r ≡ goingOf (goingIn s options (containerOf size blank mark))
+GoingAs s options size blank mark r = r ≡ larkGoing (goingOf s options (containerOf size blank mark))
 
 pub record HeadedAs (s : List ℕ) (options : ℕ) (out : List ℕ) (r : LarkHeaded) (out′ : List ℕ) : Type 0 where
-  pub answer : r ≡ headedOf (headedIn s options (length out) .answer)
-  pub output : out′ ≡ onto (headedIn s options (length out) .bytes) out
+  pub answer : r ≡ larkHeaded (headedOf s options (length out) .answer)
+  pub output : out′ ≡ onto (headedOf s options (length out) .bytes) out

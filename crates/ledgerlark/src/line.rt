@@ -9,7 +9,7 @@ use lines::spaces::Spaces;
 ghost use mathlib.Core.Path.{_≡_};
 ghost use Rattle.scan.specs.Line.{flag};
 ghost use Rattle.lines.specs.Item.{markOf};
-ghost use Rattle.ledgerlark.specs.Answers.{kindOf, spacesOf, itemOf, goingOf, headedOf, SpacesAs, ItemAs, GoingAs, HeadedAs};
+ghost use Rattle.ledgerlark.specs.Answers.{kindOf, larkSpaces, larkItem, larkGoing, larkHeaded, SpacesAs, ItemAs, GoingAs, HeadedAs};
 
 #[repr(C)]
 pub struct LarkSpaces {
@@ -86,7 +86,7 @@ fn kind_of(mark: u32) -> Kind
 
 // The numbers of an answer about space-or-tab.
 fn spaces_of(found: Spaces) -> LarkSpaces
-    ensures { λ r. ⌜ r ≡ spacesOf found ⌝ }
+    ensures { λ r. ⌜ r ≡ larkSpaces found ⌝ }
 {
     match found {
         Spaces::Taken(taken) => {
@@ -118,7 +118,7 @@ fn spaces_of(found: Spaces) -> LarkSpaces
 
 // The numbers of an answer about a list item's start.
 fn item_of(found: Start) -> LarkItem
-    ensures { λ r. ⌜ r ≡ itemOf found ⌝ }
+    ensures { λ r. ⌜ r ≡ larkItem found ⌝ }
 {
     match found {
         Start::Item { taken, container } => {
@@ -160,7 +160,7 @@ fn item_of(found: Start) -> LarkItem
 
 // The numbers of an answer about continuation.
 fn going_of(found: Going) -> LarkGoing
-    ensures { λ r. ⌜ r ≡ goingOf found ⌝ }
+    ensures { λ r. ⌜ r ≡ larkGoing found ⌝ }
 {
     match found {
         Going::Goes { taken, container } => {
@@ -195,7 +195,7 @@ fn going_of(found: Going) -> LarkGoing
 
 // The numbers of an answer of the heading reader.
 fn headed_of(found: Headed) -> LarkHeaded
-    ensures { λ r. ⌜ r ≡ headedOf found ⌝ }
+    ensures { λ r. ⌜ r ≡ larkHeaded found ⌝ }
 {
     match found {
         Headed::Heading { events } => {

@@ -2,7 +2,8 @@
 
 use record::check::Reading;
 ghost use mathlib.Core.Path.{_≡_};
-ghost use Rattle.ledgerlark.specs.Answers.{readingOf, attentionOf, headingsOf, listsOf, ReadAs, AttentionAs, HeadingsAs, ListsAs};
+ghost use Rattle.runs.specs.Rule.{crate};
+ghost use Rattle.ledgerlark.specs.Answers.{larkReading, larkAttention, larkHeadings, larkLists, ReadAs, AttentionAs, HeadingsAs, ListsAs};
 
 #[repr(C)]
 pub struct LarkReading {
@@ -23,7 +24,7 @@ pub struct LarkResolved {
 
 // The numbers of an answer of `read`.
 fn reading_of(found: Reading) -> LarkReading
-    ensures { λ r. ⌜ r ≡ readingOf found ⌝ }
+    ensures { λ r. ⌜ r ≡ larkReading found ⌝ }
 {
     match found {
         Reading::Good { document, events } => {
@@ -47,7 +48,7 @@ fn reading_of(found: Reading) -> LarkReading
 
 // The numbers of an answer about attention.
 fn attention_of(found: attention::call::Answer) -> LarkResolved
-    ensures { λ r. ⌜ r ≡ attentionOf found ⌝ }
+    ensures { λ r. ⌜ r ≡ larkAttention found ⌝ }
 {
     match found {
         attention::call::Answer::Resolved {
@@ -77,7 +78,7 @@ fn attention_of(found: attention::call::Answer) -> LarkResolved
 
 // The numbers of an answer about headings.
 fn headings_of(found: heading::resolve::Answer) -> LarkResolved
-    ensures { λ r. ⌜ r ≡ headingsOf found ⌝ }
+    ensures { λ r. ⌜ r ≡ larkHeadings found ⌝ }
 {
     match found {
         heading::resolve::Answer::Resolved { events } => {
@@ -103,7 +104,7 @@ fn headings_of(found: heading::resolve::Answer) -> LarkResolved
 
 // The numbers of an answer about lists.
 fn lists_of(found: list::call::Answer) -> LarkResolved
-    ensures { λ r. ⌜ r ≡ listsOf found ⌝ }
+    ensures { λ r. ⌜ r ≡ larkLists found ⌝ }
 {
     match found {
         list::call::Answer::Resolved { events } => {
@@ -143,7 +144,7 @@ pub extern "C" fn lark_resolve_attention(
     out: &mut [u8],
     work: &mut [u8],
 ) -> LarkResolved
-    ensures { λ r. ⌜ AttentionAs (now (s .entry)) options (now (out .entry)) (now (work .entry)) r (now (out .exit)) (now (work .exit)) ⌝ }
+    ensures { λ r. ⌜ AttentionAs crate (now (s .entry)) options (now (out .entry)) (now (work .entry)) r (now (out .exit)) (now (work .exit)) ⌝ }
 {
     attention_of(attention::call::resolve_attention(s, options, out, work))
 }

@@ -14,7 +14,7 @@ use Rattle.record.specs.declared.event.Event.{Event}
 use Rattle.record.proofs.Parts.{document-byte}
 use Rattle.runs.specs.Runs.{isMarker, byteAt, byteBefore, innermostOf, runOf}
 use Rattle.runs.specs.Flanking.{canOpen, canClose}
-use Rattle.runs.specs.Rule.{crate}
+use Rattle.runs.specs.Rule.{Profile}
 use Rattle.runs.specs.Chains.{containerNumber, markerNumber, chainNumber}
 use Rattle.runs.specs.Pieces.{standing}
 use Rattle.runs.proofs.Firsts.{orFeed, feed-opens, feed-closes}
@@ -22,19 +22,19 @@ use Rattle.loading.specs.Held.{Slotted}
 use Rattle.loading.specs.Filling.{Filled, Settling, Settled}
 
 -- what the code reads and works out at the event's place
-pub record Found (s : List ℕ) (d options at container from to marker before after : ℕ) (opens closes : Bool) (chain : ℕ) : Type 0 where
+pub record Found (profile : Profile) (s : List ℕ) (d options at container from to marker before after : ℕ) (opens closes : Bool) (chain : ℕ) : Type 0 where
   pub place : from ≡ u32At s (at + 4)
   pub end : to ≡ u32At s (at + 12)
   pub byte : marker ≡ getD s (4 + from) 0
   pub byte-before : before ≡ orFeed (byteBefore (documentOf s d) from)
   pub byte-after : after ≡ orFeed (byteAt (documentOf s d) to)
-  pub can-open : opens ≡ canOpen true (optionOn options 2) marker (some before) (some after)
-  pub can-close : closes ≡ canClose true (optionOn options 2) marker (some before) (some after)
+  pub can-open : opens ≡ canOpen (profile .amended) (optionOn options 2) marker (some before) (some after)
+  pub can-close : closes ≡ canClose (profile .amended) (optionOn options 2) marker (some before) (some after)
   pub number : chain ≡ 3 * container + markerNumber marker
   pub known : chain < 6147
 
-module _ {s : List ℕ} {d options at container n from to marker before after chain : ℕ} {opens closes : Bool} {w w′ : List ℕ}
-    (p : Settling s d at container w n) (v : Found s d options at container from to marker before after opens closes chain)
+module _ {profile : Profile} {s : List ℕ} {d options at container n from to marker before after chain : ℕ} {opens closes : Bool} {w w′ : List ℕ}
+    (p : Settling s d at container w n) (v : Found profile s d options at container from to marker before after opens closes chain)
     (f : Filled w n (to - from) marker opens closes chain w′) where
   -- the run's end, as its exit names it
   end-place : to ≡ u32At s (at + 8 + 4)
@@ -49,19 +49,19 @@ module _ {s : List ℕ} {d options at container n from to marker before after ch
       let c : u32At s (at + 12) ≤ d = p .inside in
       v .byte ∙ sym (document-byte s d from (omega arith))
 
-  flags-open : opens ≡ canOpen true (optionOn options 2) marker (byteBefore (documentOf s d) from) (byteAt (documentOf s d) to)
+  flags-open : opens ≡ canOpen (profile .amended) (optionOn options 2) marker (byteBefore (documentOf s d) from) (byteAt (documentOf s d) to)
   flags-open =
       v .can-open
-      ∙ rw (v .byte-before, v .byte-after) (sym (feed-opens true (optionOn options 2) marker (byteBefore (documentOf s d) from) (byteAt (documentOf s d) to)))
+      ∙ rw (v .byte-before, v .byte-after) (sym (feed-opens (profile .amended) (optionOn options 2) marker (byteBefore (documentOf s d) from) (byteAt (documentOf s d) to)))
 
-  flags-close : closes ≡ canClose true (optionOn options 2) marker (byteBefore (documentOf s d) from) (byteAt (documentOf s d) to)
+  flags-close : closes ≡ canClose (profile .amended) (optionOn options 2) marker (byteBefore (documentOf s d) from) (byteAt (documentOf s d) to)
   flags-close =
       v .can-close
-      ∙ rw (v .byte-before, v .byte-after) (sym (feed-closes true (optionOn options 2) marker (byteBefore (documentOf s d) from) (byteAt (documentOf s d) to)))
+      ∙ rw (v .byte-before, v .byte-after) (sym (feed-closes (profile .amended) (optionOn options 2) marker (byteBefore (documentOf s d) from) (byteAt (documentOf s d) to)))
 
   own : (es : List Event) (i : ℕ) (held : List ℕ) → containerNumber (innermostOf held) ≡ container →
       isMarker (getD (documentOf s d) (u32At s (at + 4)) 0) ≡ true →
-      Slotted w′ n (standing crate options (runOf (documentOf s d) (eventAt s at) (eventAt s (at + 8) ∷ es) i held))
+      Slotted w′ n (standing profile options (runOf (documentOf s d) (eventAt s at) (eventAt s (at + 8) ∷ es) i held))
   unfolding standing chainNumber
   own es i held ec em =
       record {
@@ -78,5 +78,5 @@ module _ {s : List ℕ} {d options at container n from to marker before after ch
         link = f .link;
       }
 
-  pub settled : Settled s d options at container w n w′
+  pub settled : Settled profile s d options at container w n w′
   settled = record { own = own; kept = f .kept }

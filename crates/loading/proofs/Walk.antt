@@ -17,7 +17,7 @@ use Rattle.record.proofs.Names.{pushed, popped, empty}
 use Rattle.record.proofs.Parts.{events-cons}
 use Rattle.record.proofs.Soundness.{Stands, after-enter, after-exit}
 use Rattle.runs.specs.Runs.{Run, innermostOf, runOf, runsOf, shaped, offender}
-use Rattle.runs.specs.Rule.{crate}
+use Rattle.runs.specs.Rule.{Profile}
 use Rattle.runs.specs.Plain.{Standing, at}
 use Rattle.runs.specs.Chains.{containerNumber}
 use Rattle.runs.specs.Pieces.{standing}
@@ -62,7 +62,7 @@ module _ (f : Run → Standing) where
           rw (at-old done r j below) (k .others j (omega arith) ne (at (map f done) j) (q .slots j (omega arith)))
 
 -- where a turn begins
-pub record Walking (s : List ℕ) (d e options : ℕ) (w₀ w numbers : List ℕ) (depth i n : ℕ) : Type 0 where
+pub record Walking (profile : Profile) (s : List ℕ) (d e options : ℕ) (w₀ w numbers : List ℕ) (depth i n : ℕ) : Type 0 where
   pub asked : Loadable s d e w₀
   pub names : List ℕ
   pub last : ℕ
@@ -74,13 +74,13 @@ pub record Walking (s : List ℕ) (d e options : ℕ) (w₀ w numbers : List ℕ
   pub deep : length names ≡ depth
   pub count : length done ≡ n
   pub pairs : 2 * n ≤ i
-  pub holds : Holds w (map (standing crate options) done)
+  pub holds : Holds w (map (standing profile options) done)
   pub same-length : length w ≡ length w₀
 
-pub start : (s : List ℕ) (d e options : ℕ) (w numbers : List ℕ) (depth : ℕ) → Loadable s d e w → depth ≡ 0 → length numbers ≡ 64 →
-    Walking s d e options w w numbers depth 0 0
+pub start : (profile : Profile) (s : List ℕ) (d e options : ℕ) (w numbers : List ℕ) (depth : ℕ) → Loadable s d e w → depth ≡ 0 → length numbers ≡ 64 →
+    Walking profile s d e options w w numbers depth 0 0
 unfolding eventsOf offender runsOf
-start s d e options w numbers depth p z l =
+start profile s d e options w numbers depth p z l =
     let a : e - 0 ≡ e = omega arith in
     let b : 8 + d + 8 * 0 ≡ 8 + d = omega arith in
     record {
@@ -104,9 +104,9 @@ pub record Container (numbers : List ℕ) (depth container : ℕ) : Type 0 where
   pub number : containerNumber (innermostOf (upTo depth numbers)) ≡ container
   pub known : container ≤ 2048
 
-module _ {s : List ℕ} {d e options : ℕ} {w₀ w numbers : List ℕ} {depth i n : ℕ} (v : Walking s d e options w₀ w numbers depth i n) where
+module _ {profile : Profile} {s : List ℕ} {d e options : ℕ} {w₀ w numbers : List ℕ} {depth i n : ℕ} (v : Walking profile s d e options w₀ w numbers depth i n) where
   -- the end
-  pub finished : e ≤ i → Ready (documentOf s d) (eventsOf s d e) options n w
+  pub finished : e ≤ i → Ready profile (documentOf s d) (eventsOf s d e) options n w
   finished h =
       let a : v .done ≡ runsOf (documentOf s d) (eventsOf s d e) = all-found (v .reached) (omega (arith, v .within)) in
       let b : length (v .done) ≡ n = v .count in
@@ -148,7 +148,7 @@ module _ {s : List ℕ} {d e options : ℕ} {w₀ w numbers : List ℕ} {depth i
         let c : length (v .names) ≡ depth = v .deep in
         omega arith
 
-    pub left-one : (getD s (8 + d + 8 * i) 0 ≡ 0 → ⊥) → Walking s d e options w₀ w numbers (depth - 1) (i + 1) n
+    pub left-one : (getD s (8 + d + 8 * i) 0 ≡ 0 → ⊥) → Walking profile s d e options w₀ w numbers (depth - 1) (i + 1) n
     left-one k =
         let a : v .names ≡ getD s (8 + d + 8 * i + 1) 0 ∷ outer (v .names) = here .partner (exits k) in
         let b : length (v .names) ≡ suc (length (outer (v .names))) = ap length a in
@@ -182,7 +182,7 @@ module _ {s : List ℕ} {d e options : ℕ} {w₀ w numbers : List ℕ} {depth i
           omega arith
 
       -- an enter that is no run's
-      pub entered : (getD s (8 + d + 8 * i + 1) 0 ≡ 1 → ⊥) → Walking s d e options w₀ w (set numbers depth i) (depth + 1) (i + 1) n
+      pub entered : (getD s (8 + d + 8 * i + 1) 0 ≡ 1 → ⊥) → Walking profile s d e options w₀ w (set numbers depth i) (depth + 1) (i + 1) n
       entered m =
           let c : length (v .names) ≡ depth = v .deep in
           let l : length numbers ≡ 64 = v .array in
@@ -274,7 +274,7 @@ module _ {s : List ℕ} {d e options : ℕ} {w₀ w numbers : List ℕ} {depth i
 
           -- a run, in its slot
           pub run-passed : {container : ℕ} {w′ : List ℕ} → Container numbers depth container →
-              Settled s d options (8 + d + 8 * i) container w n w′ → length w′ ≡ length w → Walking s d e options w₀ w′ numbers depth (i + 2) (n + 1)
+              Settled profile s d options (8 + d + 8 * i) container w n w′ → length w′ ≡ length w → Walking profile s d e options w₀ w′ numbers depth (i + 2) (n + 1)
           run-passed {container} {w′} c t g =
               let f : i + 1 < e = not-last in
               let x : getD s (8 + d + 8 * i + 8) 0 ≡ 1 = tells .next-exits in
@@ -299,7 +299,7 @@ module _ {s : List ℕ} {d e options : ℕ} {w₀ w numbers : List ℕ} {depth i
                 count = simp length-append (omega (arith, v .count));
                 pairs = omega (arith, v .pairs);
                 holds =
-                    holds-more (standing crate options) w w′ n (v .done)
+                    holds-more (standing profile options) w w′ n (v .done)
                     (runOf (documentOf s d) (eventAt s (8 + d + 8 * i)) (eventsAt (e - (i + 1)) s (8 + d + 8 * i + 8)) i (upTo depth numbers))
                     (v .count) slot-free (v .holds) (t .kept)
                     (rw es (t .own (eventsAt (e - (i + 1 + 1)) s (8 + d + 8 * i + 8 + 8)) i (upTo depth numbers) (c .number) (tells .marked)));
@@ -307,7 +307,7 @@ module _ {s : List ℕ} {d e options : ℕ} {w₀ w numbers : List ℕ} {depth i
               }
 
   -- the two answers
-  pub answers-broken : offender (documentOf s d) options (eventsOf s d e) ≡ some i → Loads s d e options w₀ (Offends i) w
+  pub answers-broken : offender (documentOf s d) options (eventsOf s d e) ≡ some i → Loads profile s d e options w₀ (Offends i) w
   answers-broken h =
       record {
         offends = λ k q.
@@ -319,9 +319,9 @@ module _ {s : List ℕ} {d e options : ℕ} {w₀ w numbers : List ℕ} {depth i
         same-length = v .same-length;
       }
 
-  pub answers-runs : e ≤ i → Loads s d e options w₀ (Runs n) w
+  pub answers-runs : e ≤ i → Loads profile s d e options w₀ (Runs n) w
   answers-runs h =
-      let r : Ready (documentOf s d) (eventsOf s d e) options n w = finished h in
+      let r : Ready profile (documentOf s d) (eventsOf s d e) options n w = finished h in
       record {
         offends = λ k q.
             let z : _≡_ {A = ℕ} 0 1 = cc in

@@ -9,7 +9,7 @@ use Rattle.record.specs.Bytes.{u32At}
 use Rattle.record.specs.Event.{documentOf, eventAt}
 use Rattle.record.specs.declared.event.Event.{Event}
 use Rattle.runs.specs.Runs.{isMarker, innermostOf, runOf}
-use Rattle.runs.specs.Rule.{crate}
+use Rattle.runs.specs.Rule.{Profile}
 use Rattle.runs.specs.Plain.{Standing}
 use Rattle.runs.specs.Chains.{containerNumber}
 use Rattle.runs.specs.Pieces.{standing}
@@ -49,9 +49,10 @@ pub record Settling (s : List ℕ) (d at container : ℕ) (w : List ℕ) (n : �
   pub slot : n < 1024
   pub room : Room w
 
--- the slot n holds the run that the event at a place enters, whichever number the event has and whatever is open there
-pub record Settled (s : List ℕ) (d options at container : ℕ) (w : List ℕ) (n : ℕ) (w′ : List ℕ) : Type 0 where
+-- the slot n holds the run that the event at a place enters, flanking as a profile has it, whichever number the event has and whatever is open
+-- there
+pub record Settled (profile : Profile) (s : List ℕ) (d options at container : ℕ) (w : List ℕ) (n : ℕ) (w′ : List ℕ) : Type 0 where
   pub own : (es : List Event) (i : ℕ) (held : List ℕ) → containerNumber (innermostOf held) ≡ container →
       isMarker (getD (documentOf s d) (u32At s (at + 4)) 0) ≡ true →
-      Slotted w′ n (standing crate options (runOf (documentOf s d) (eventAt s at) (eventAt s (at + 8) ∷ es) i held))
+      Slotted w′ n (standing profile options (runOf (documentOf s d) (eventAt s at) (eventAt s (at + 8) ∷ es) i held))
   pub kept : Keeps w n w′

@@ -11,7 +11,7 @@ use Rattle.record.specs.Event.{documentOf, eventsOf}
 use Rattle.record.specs.Sound.{sound}
 use Rattle.record.specs.declared.event.Event.{Event}
 use Rattle.runs.specs.Runs.{offender, runsOf}
-use Rattle.runs.specs.Rule.{crate}
+use Rattle.runs.specs.Rule.{Profile}
 use Rattle.runs.specs.Pieces.{standing}
 use Rattle.slots.specs.Layout.{Room}
 use Rattle.loading.specs.declared.pass.Loaded.{Loaded}
@@ -26,36 +26,37 @@ pub record Loadable (s : List ℕ) (d e : ℕ) (w : List ℕ) : Type 0 where
   pub sound-events : sound 64 d (eventsOf s d e) ≡ true
   pub room : Room w
 
--- no run breaks the shape rule, and the first n slots hold the runs
-pub record Ready (doc : List ℕ) (es : List Event) (options n : ℕ) (w′ : List ℕ) : Type 0 where
+-- no run breaks the shape rule, and the first n slots hold the runs, flanking as a profile has it
+pub record Ready (profile : Profile) (doc : List ℕ) (es : List Event) (options n : ℕ) (w′ : List ℕ) : Type 0 where
   pub none-offends : offender doc options es ≡ none
   pub count : n ≡ length (runsOf doc es)
   pub few : n ≤ 1024
-  pub holds : Holds w′ (map (standing crate options) (runsOf doc es))
+  pub holds : Holds w′ (map (standing profile options) (runsOf doc es))
 
 -- the answer, and the memory w′ that w has become
-pub record Loads (s : List ℕ) (d e options : ℕ) (w : List ℕ) (r : Loaded) (w′ : List ℕ) : Type 0 where
+pub record Loads (profile : Profile) (s : List ℕ) (d e options : ℕ) (w : List ℕ) (r : Loaded) (w′ : List ℕ) : Type 0 where
   pub offends : (k : ℕ) → r ≡ Offends k → offender (documentOf s d) options (eventsOf s d e) ≡ some k
-  pub runs : (n : ℕ) → r ≡ Runs n → Ready (documentOf s d) (eventsOf s d e) options n w′
+  pub runs : (n : ℕ) → r ≡ Runs n → Ready profile (documentOf s d) (eventsOf s d e) options n w′
   pub same-length : length w′ ≡ length w
 
 -- the answer is fixed: any two that the promise allows are equal
-pub one-answer : (s : List ℕ) (d e options : ℕ) (w w′ w″ : List ℕ) (r q : Loaded) → Loads s d e options w r w′ → Loads s d e options w q w″ → r ≡ q
-one-answer s d e options w w′ w″ (Runs n) (Runs m) a b =
+pub one-answer : (profile : Profile) (s : List ℕ) (d e options : ℕ) (w w′ w″ : List ℕ) (r q : Loaded) → Loads profile s d e options w r w′ →
+    Loads profile s d e options w q w″ → r ≡ q
+one-answer profile s d e options w w′ w″ (Runs n) (Runs m) a b =
     let x : n ≡ length (runsOf (documentOf s d) (eventsOf s d e)) = a .runs n refl .count in
     let y : m ≡ length (runsOf (documentOf s d) (eventsOf s d e)) = b .runs m refl .count in
     cc
-one-answer s d e options w w′ w″ (Runs n) (Offends m) a b =
+one-answer profile s d e options w w′ w″ (Runs n) (Offends m) a b =
     let x : offender (documentOf s d) options (eventsOf s d e) ≡ none = a .runs n refl .none-offends in
     let y : offender (documentOf s d) options (eventsOf s d e) ≡ some m = b .offends m refl in
     let z : _≡_ {A = ℕ} 0 1 = cc in
     absurd (omega arith)
-one-answer s d e options w w′ w″ (Offends n) (Runs m) a b =
+one-answer profile s d e options w w′ w″ (Offends n) (Runs m) a b =
     let x : offender (documentOf s d) options (eventsOf s d e) ≡ some n = a .offends n refl in
     let y : offender (documentOf s d) options (eventsOf s d e) ≡ none = b .runs m refl .none-offends in
     let z : _≡_ {A = ℕ} 0 1 = cc in
     absurd (omega arith)
-one-answer s d e options w w′ w″ (Offends n) (Offends m) a b =
+one-answer profile s d e options w w′ w″ (Offends n) (Offends m) a b =
     let x : offender (documentOf s d) options (eventsOf s d e) ≡ some n = a .offends n refl in
     let y : offender (documentOf s d) options (eventsOf s d e) ≡ some m = b .offends m refl in
     cc

@@ -21,6 +21,7 @@ ghost use Prim.Native.Nat.{_+_, _*_, _≤_, _<_};
 ghost use lib.ListN.{length};
 ghost use Rattle.record.specs.Event.{documentOf};
 ghost use Rattle.runs.specs.Runs.{byteAt, byteBefore};
+ghost use Rattle.runs.specs.Rule.{crate};
 ghost use Rattle.runs.specs.Chains.{markerNumber};
 ghost use Rattle.runs.proofs.Firsts.{orFeed};
 ghost use Rattle.slots.specs.Layout.{Room, withOpens, withCloses, withChain, withFirstGroup, withLatestGroup, withLink};
@@ -107,7 +108,7 @@ fn fill(w: &mut [u8], n: usize, size: usize, marker: u8, opens: bool, closes: bo
 // Puts the run that the event at a place of the record enters, and the next one leaves, into the slot n.
 pub fn settle(s: &[u8], d: usize, options: u32, at: usize, container: usize, w: &mut [u8], n: usize)
     requires { ⌜ Settling (now s) d at container (now w) n ⌝ }
-    ensures { λ _. ⌜ Settled (now (s .entry)) d options at container (now (w .entry)) n (now (w .exit)) ⌝ }
+    ensures { λ _. ⌜ Settled crate (now (s .entry)) d options at container (now (w .entry)) n (now (w .exit)) ⌝ }
 {
     let from = u32_at(s, at + 4);
     let to = u32_at(s, at + 12);

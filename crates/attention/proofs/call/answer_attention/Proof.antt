@@ -17,7 +17,7 @@ enum-known-refusal : tie.Need-enum-known-refusal
 enum-known-refusal c = search needs
 
 returns : tie.Need-returns
-returns c = refused-call _ _ _ _ _ (sym (c .before .before .before .admit .ensures) ∙ c .before .refusal .given .1)
+returns c = refused-call _ _ _ _ _ _ (sym (c .before .before .before .admit .ensures) ∙ c .before .refusal .given .1)
 
 enum-known-document : tie.Need-enum-known-document
 enum-known-document c = search needs
@@ -32,7 +32,7 @@ same-length-2 : tie.Need-same-length-2
 same-length-2 c = search needs
 
 returns-2 : tie.Need-returns-2
-returns-2 c = good-call _ _ _ _ _ _ _ _ (sym (c .before .before .before .before .before .before .before .before .before .before .admit .ensures) ∙ c .before .before .before .before .before .before .before .before .document .given .1) (c .before .before .before .before .resolve-good .ensures)
+returns-2 c = good-call _ _ _ _ _ _ _ _ _ (sym (c .before .before .before .before .before .before .before .before .before .before .admit .ensures) ∙ c .before .before .before .before .before .before .before .before .document .given .1) (c .before .before .before .before .resolve-good .ensures)
 
 pub answer-attention-spec : {M : Type 1} → statement M
 answer-attention-spec =

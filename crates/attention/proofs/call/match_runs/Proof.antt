@@ -1,6 +1,6 @@
 -- `attention::call::match_runs` meets its contract: each return is a case of the definition.
 -- Assumes nothing.
-use Rattle.attention.proofs.Calls.{begun, matched, too-many}
+use Rattle.attention.proofs.Calls.{by-crate, begun, matched, too-many}
 use borrow.Author.Needs.{needs}
 use Rattle.attention.proofs.call.match_runs.Statement.{statement}
 use Rattle.attention.proofs.call.match_runs.Tie as tie
@@ -31,13 +31,13 @@ same-length : tie.Need-same-length
 same-length c = search needs
 
 returns : tie.Need-returns
-returns c = too-many (c .before .before .before .before .before .before .before .before .before .before .before .before .before .before .before .pre .0) (c .before .before .before .before .before .before .before .before .before .before .before .before .before .before .before .pre .1) (c .before .before .before .before .before .before .before .before .before .clear-heads .ensures) _ _ _ (c .before .before .before .before .before .before .before .before .before .before .before .option-on .ensures) (c .before .before .before .before .before .find-groups .ensures) (c .before .enum-told .given .1) _ _ (c .refused .ensures)
+returns c = too-many (c .before .before .before .before .before .before .before .before .before .before .before .before .before .before .before .pre .0) (c .before .before .before .before .before .before .before .before .before .before .before .before .before .before .before .pre .1) (c .before .before .before .before .before .before .before .before .before .clear-heads .ensures) _ _ (by-crate _ (c .before .before .before .before .before .before .before .before .before .before .before .option-on .ensures) (c .before .before .before .before .before .find-groups .ensures)) (c .before .enum-told .given .1) _ _ (c .refused .ensures)
 
 enum-known-groups : tie.Need-enum-known-groups
 enum-known-groups c = search needs
 
 finish-requires : tie.Need-finish-requires
-finish-requires c κs = matched (c .before .before .before .before .before .before .before .before .before .before .before .before .before .before .before .before .before .pre .0) (c .before .before .before .before .before .before .before .before .before .before .before .before .before .before .before .before .before .pre .1) (c .before .before .before .before .before .before .before .before .before .before .before .clear-heads .ensures) _ _ _ (c .before .before .before .before .before .before .before .before .before .before .before .before .before .option-on .ensures) (c .before .before .before .before .before .before .before .find-groups .ensures) _ _ (c .before .before .before .groups .given .1) (c .before .before .before .before .before .before .before .find-groups .kept .0)
+finish-requires c κs = matched (c .before .before .before .before .before .before .before .before .before .before .before .before .before .before .before .before .before .pre .0) (c .before .before .before .before .before .before .before .before .before .before .before .before .before .before .before .before .before .pre .1) (c .before .before .before .before .before .before .before .before .before .before .before .clear-heads .ensures) _ _ (by-crate _ (c .before .before .before .before .before .before .before .before .before .before .before .before .before .option-on .ensures) (c .before .before .before .before .before .before .before .find-groups .ensures)) _ _ (c .before .before .before .groups .given .1) (c .before .before .before .before .before .before .before .find-groups .kept .0)
 
 same-length-2 : tie.Need-same-length-2
 same-length-2 c = search needs

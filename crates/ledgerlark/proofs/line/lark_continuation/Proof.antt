@@ -3,7 +3,7 @@
 use mathlib.Core.Path.{ap, _∙_}
 use Rattle.ledgerlark.proofs.Passed.{held-kind}
 use Rattle.lines.specs.declared.going.Going.{Going}
-use Rattle.ledgerlark.specs.Answers.{goingOf}
+use Rattle.ledgerlark.specs.Answers.{larkGoing}
 use borrow.Author.Needs.{needs}
 use Rattle.ledgerlark.proofs.line.lark_continuation.Statement.{statement}
 use Rattle.ledgerlark.proofs.line.lark_continuation.Tie as tie
@@ -23,7 +23,7 @@ going-of-requires : tie.Need-going-of-requires
 going-of-requires c κs = search needs
 
 returns : tie.Need-returns
-returns c = c .going-of .ensures ∙ ap (λ (x : Going). goingOf x) (c .before .continuation .ensures ∙ held-kind _ _ _ _ _ _ (c .before .before .kind-of .ensures))
+returns c = c .going-of .ensures ∙ ap (λ (x : Going). larkGoing x) (c .before .continuation .ensures ∙ held-kind _ _ _ _ _ _ (c .before .before .kind-of .ensures))
 
 pub lark-continuation-spec : {M : Type 1} → statement M
 lark-continuation-spec =

@@ -2,7 +2,7 @@
 -- Assumes nothing.
 use mathlib.Core.Path.{ap, _∙_}
 use Rattle.lines.specs.declared.item.Start.{Start}
-use Rattle.ledgerlark.specs.Answers.{itemOf}
+use Rattle.ledgerlark.specs.Answers.{larkItem}
 use borrow.Author.Needs.{needs}
 use Rattle.ledgerlark.proofs.line.lark_list_item.Statement.{statement}
 use Rattle.ledgerlark.proofs.line.lark_list_item.Tie as tie
@@ -18,7 +18,7 @@ item-of-requires : tie.Need-item-of-requires
 item-of-requires c κs = search needs
 
 returns : tie.Need-returns
-returns c = c .item-of .ensures ∙ ap (λ (x : Start). itemOf x) (c .before .list-item .ensures)
+returns c = c .item-of .ensures ∙ ap (λ (x : Start). larkItem x) (c .before .list-item .ensures)
 
 pub lark-list-item-spec : {M : Type 1} → statement M
 lark-list-item-spec = tie.close (tie.spec list-item-requires item-of-requires returns)

@@ -2,7 +2,7 @@
 -- Assumes nothing.
 use mathlib.Core.Path.{ap, _∙_}
 use Rattle.lines.specs.declared.spaces.Spaces.{Spaces}
-use Rattle.ledgerlark.specs.Answers.{spacesOf}
+use Rattle.ledgerlark.specs.Answers.{larkSpaces}
 use borrow.Author.Needs.{needs}
 use Rattle.ledgerlark.proofs.line.lark_space_or_tab.Statement.{statement}
 use Rattle.ledgerlark.proofs.line.lark_space_or_tab.Tie as tie
@@ -18,7 +18,7 @@ spaces-of-requires : tie.Need-spaces-of-requires
 spaces-of-requires c κs = search needs
 
 returns : tie.Need-returns
-returns c = c .spaces-of .ensures ∙ ap (λ (x : Spaces). spacesOf x) (c .before .space-or-tab .ensures)
+returns c = c .spaces-of .ensures ∙ ap (λ (x : Spaces). larkSpaces x) (c .before .space-or-tab .ensures)
 
 pub lark-space-or-tab-spec : {M : Type 1} → statement M
 lark-space-or-tab-spec = tie.close (tie.spec space-or-tab-requires spaces-of-requires returns)

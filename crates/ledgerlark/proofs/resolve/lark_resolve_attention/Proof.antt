@@ -1,6 +1,6 @@
 -- `ledgerlark::resolve::lark_resolve_attention` meets its contract: the promise of the call below, in numbers.
 -- Assumes nothing.
-use Rattle.ledgerlark.specs.Answers.{attentionOf}
+use Rattle.ledgerlark.specs.Answers.{larkAttention}
 use Rattle.ledgerlark.proofs.Passed.{written-on}
 use borrow.Author.Needs.{needs}
 use Rattle.ledgerlark.proofs.resolve.lark_resolve_attention.Statement.{statement}
@@ -23,7 +23,7 @@ same-length-2 : tie.Need-same-length-2
 same-length-2 c = search needs
 
 returns : tie.Need-returns
-returns c = written-on _ _ attentionOf _ _ _ _ _ _ (c .before .before .before .before .before .resolve-attention .ensures) (c .attention-of .ensures)
+returns c = written-on _ _ larkAttention _ _ _ _ _ _ (c .before .before .before .before .before .resolve-attention .ensures) (c .attention-of .ensures)
 
 pub lark-resolve-attention-spec : {M : Type 1} → statement M
 lark-resolve-attention-spec =

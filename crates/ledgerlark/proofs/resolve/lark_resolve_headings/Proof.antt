@@ -1,6 +1,6 @@
 -- `ledgerlark::resolve::lark_resolve_headings` meets its contract: the promise of the call below, in numbers.
 -- Assumes nothing.
-use Rattle.ledgerlark.specs.Answers.{headingsOf}
+use Rattle.ledgerlark.specs.Answers.{larkHeadings}
 use Rattle.ledgerlark.proofs.Passed.{written-on}
 use borrow.Author.Needs.{needs}
 use Rattle.ledgerlark.proofs.resolve.lark_resolve_headings.Statement.{statement}
@@ -23,7 +23,7 @@ same-length-2 : tie.Need-same-length-2
 same-length-2 c = search needs
 
 returns : tie.Need-returns
-returns c = written-on _ _ headingsOf _ _ _ _ _ _ (c .before .before .before .before .before .resolve-headings .ensures) (c .headings-of .ensures)
+returns c = written-on _ _ larkHeadings _ _ _ _ _ _ (c .before .before .before .before .before .resolve-headings .ensures) (c .headings-of .ensures)
 
 pub lark-resolve-headings-spec : {M : Type 1} → statement M
 lark-resolve-headings-spec =

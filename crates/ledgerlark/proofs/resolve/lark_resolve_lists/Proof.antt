@@ -1,6 +1,6 @@
 -- `ledgerlark::resolve::lark_resolve_lists` meets its contract: the promise of the call below, in numbers.
 -- Assumes nothing.
-use Rattle.ledgerlark.specs.Answers.{listsOf}
+use Rattle.ledgerlark.specs.Answers.{larkLists}
 use Rattle.ledgerlark.proofs.Passed.{written-on}
 use borrow.Author.Needs.{needs}
 use Rattle.ledgerlark.proofs.resolve.lark_resolve_lists.Statement.{statement}
@@ -23,7 +23,7 @@ same-length-2 : tie.Need-same-length-2
 same-length-2 c = search needs
 
 returns : tie.Need-returns
-returns c = written-on _ _ listsOf _ _ _ _ _ _ (c .before .before .before .before .before .resolve-lists .ensures) (c .lists-of .ensures)
+returns c = written-on _ _ larkLists _ _ _ _ _ _ (c .before .before .before .before .before .resolve-lists .ensures) (c .lists-of .ensures)
 
 pub lark-resolve-lists-spec : {M : Type 1} → statement M
 lark-resolve-lists-spec =

@@ -6,13 +6,14 @@ use mathlib.Core.Path.{sym, _∙_}
 use mathlib.Core.Logic.{⊎-elim}
 use native.Mathlib.Omega.{arith}
 use borrow.Author.Tests.{not-true, not-false}
+use Rattle.runs.specs.Rule.{crate}
 use Rattle.loading.proofs.Walk.{Walking, start, container-none, container-top, inner, left-one, shallow, entered, not-last, next-place, broken, settling, run-passed, answers-broken, answers-runs}
 use borrow.Author.Needs.{needs}
 use Rattle.loading.proofs.pass.load.Statement.{statement}
 use Rattle.loading.proofs.pass.load.Tie as tie
 
 abbrev Inv-loop : tie.InvT-loop
-Inv-loop s d e options w₀ inside₀ i₀ n₀ w inside i n = Walking s d e options w₀ w (inside .numbers) (inside .depth) i n
+Inv-loop s d e options w₀ inside₀ i₀ n₀ w inside i n = Walking crate s d e options w₀ w (inside .numbers) (inside .depth) i n
 
 abbrev μ-loop : tie.MeasureT-loop
 μ-loop s d e options w₀ inside₀ i₀ n₀ w inside i n = e - i
@@ -21,7 +22,7 @@ outside-requires : tie.Need-outside-requires Inv-loop μ-loop
 outside-requires c κs = search needs
 
 loop-holds : tie.Need-loop-holds Inv-loop μ-loop
-loop-holds c = start _ _ _ _ _ _ _ (search needs) (c .outside .ensures .0) (c .outside .ensures .1)
+loop-holds c = start _ _ _ _ _ _ _ _ (search needs) (c .outside .ensures .0) (c .outside .ensures .1)
 
 add-at : tie.Need-add-at Inv-loop μ-loop
 add-at c = search needs
