@@ -4,7 +4,7 @@
 -- Assumes nothing.
 use Prim.Native.Nat.{ℕ, _+_}
 use mathlib.Core.Path.{_≡_, refl}
-use mathlib.Core.Bool.{Bool}
+use mathlib.Core.Bool.{Bool, true}
 use mathlib.Core.List.{List, [], _∷_, reverse}
 use lib.ListN.{length, drop}
 use lib.Dec.{eqb}
@@ -12,7 +12,7 @@ use Rattle.record.specs.Choice.{choose, and}
 use Rattle.record.specs.Event.{enter, exit}
 use Rattle.record.specs.Stack.{nth}
 use Rattle.record.specs.declared.event.Event.{Event}
-use Rattle.heading.specs.Headings.{isOf, beforeFirst, throughLast, startsWith, withText}
+use Rattle.heading.specs.Headings.{isOf, beforeFirst, throughLast, leaves, startsWith, withText}
 
 -- some events without the pair of this name in front, and without the one at the end
 unfoldable pub without : ℕ → List Event → List Event
@@ -54,6 +54,15 @@ texts (e ∷ es) = choose (eqb (e .name) 13) (e ∷ texts es) (texts es)
 
 unfoldable pub amendedText : List Event → List Event
 amendedText inner = texts (withText inner)
+
+-- The amendments change no more: the two agree where the contents begin and end with Data (so that no `#` run stands at either end of them), and
+-- where there are none. proofs/AsStandard.antt proves it.
+pub data Ordinary : List Event → Type 0 where
+  empty : Ordinary []
+  between : {es : List Event} → startsWith 0 es ≡ true → endsWith 0 es ≡ true → Ordinary es
+
+abbrev pub TextAsStandard : Type 0
+TextAsStandard = (inner : List Event) → leaves inner ≡ true → Ordinary (contents inner) → amendedText inner ≡ standardText inner
 
 -- leaf pairs of these names, one behind the other, each of one byte
 unfoldable pub pairs : ℕ → List ℕ → List Event
