@@ -9,7 +9,7 @@ use Prim.Native.Nat.{ℕ, zero, suc, _+_, _-_, _≤_, _<_}
 use native.Mathlib.Omega.{arith}
 use lib.ListN.{length, getD, take, drop, length-drop}
 use lib.Seq.{getD-drop}
-use borrow.Author.Tests.{le-leb, lt-ltb, eq-eqb, leb-true, eqb-true}
+use borrow.Author.Tests.{le-leb, lt-ltb, eq-eqb, leb-true}
 use Rattle.record.specs.Choice.{choose, and}
 use Rattle.record.specs.Options.{optionOn}
 use Rattle.record.specs.Event.{enter, exit}
@@ -18,12 +18,13 @@ use Rattle.record.specs.Sound.{placed, soundFrom}
 use Rattle.record.specs.declared.event.Event.{Event}
 use Rattle.record.proofs.Bools.{and-left, and-right}
 use Rattle.record.proofs.Chosen.{chosen}
-use Rattle.scan.specs.Run.{or, spaceOrTab, hash, leading, first, blanks, blanksUpTo, indentation}
+use Rattle.scan.specs.Run.{spaceOrTab, hash, leading, first, blanks, blanksUpTo, indentation}
 use Rattle.atx.specs.Heading.{opening, isHeading, piece, pieceOf, pieces, split, eventsFrom, headingEvents}
 use Rattle.atx.specs.Laws.{gapless, HeadingLaws, HeadingShape}
 use Rattle.atx.specs.declared.Piece.{Piece}
 use Rattle.scan.proofs.Leading.{leading-short, first-of}
 use Rattle.scan.proofs.Blanks.{blanks-length}
+use Rattle.scan.proofs.ByteKinds.{hash-filled}
 use Rattle.atx.proofs.Pieces.{sized, split-cons}
 
 -- an event that fits, before a sound rest
@@ -113,11 +114,6 @@ bounded kind (suc n) (b ∷ l) e = go (kind b) refl (bounded kind n l) e
         kind (getD (b ∷ l) (choose z (suc (leading kind (take n l))) 0) 0) ≡ false → choose z (suc (leading kind l)) 0 ≡ choose z (suc (leading kind (take n l))) 0
     go true q f e = ap suc (f e)
     go false q f e = refl
-
--- a hash is no space or tab
-hash-filled : (b : ℕ) → hash b ≡ true → spaceOrTab b ≡ false
-unfolding hash spaceOrTab or
-hash-filled b e = let q : b ≡ 35 = eqb-true b 35 e in rw q
 
 indent-chosen : (z : Bool) (l : List ℕ) → spaceOrTab (getD l (choose z (blanksUpTo 3 l) (blanks l)) 0) ≡ false → blanks l ≡ choose z (blanksUpTo 3 l) (blanks l)
 unfolding choose blanks blanksUpTo

@@ -1,3 +1,4 @@
+pub mod Breaks
 pub mod Pieces
 pub mod Headings
 pub mod Covering

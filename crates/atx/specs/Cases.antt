@@ -1,7 +1,9 @@
--- Document 01's cases on heading lines, by computation: the numbers and events that the definitions give.
+-- Document 01's cases on heading lines, by computation: the numbers and events that the definitions give; and the departures on a heading's
+-- indentation, where the standard's rule is computed beside.
 -- Assumes nothing.
 use Prim.Native.Nat.{ℕ}
 use mathlib.Core.Path.{_≡_, refl}
+use mathlib.Core.Bool.{true, false}
 use mathlib.Core.List.{List, [], _∷_}
 use lib.ListN.{replicate}
 use Rattle.record.specs.Choice.{choose, and}
@@ -10,6 +12,7 @@ use Rattle.record.specs.Check.{firstReturn}
 use Rattle.record.specs.Event.{enter, exit}
 use Rattle.record.specs.Outcome.{sized}
 use Rattle.scan.specs.Run.{or, spaceOrTab, filled, hash, leading, blanks, blanksUpTo, indentation}
+use Rattle.scan.specs.Columns.{columnsBy, standardIndented}
 use Rattle.scan.specs.Line.{noFeed, endOf, lineOf, checkedLine, reading}
 use Rattle.atx.specs.Heading.{brokenOff, opening, isHeading, pieceOf, pieces, split, eventsFrom, headingEvents, headedIn, headedOf}
 use Rattle.atx.specs.Heading.{numbersOf as headingNumbers}
@@ -49,3 +52,15 @@ on-headings : (headed (35 ∷ 10 ∷ 97 ∷ []) 63 36 ≡ 0 ∷ 0 ∷ 1 ∷ 4 �
     × (headed (97 ∷ []) 8 0 ≡ 0 ∷ 0 ∷ 0 ∷ 0 ∷ [])
 unfolding headed headedOf headedIn sized headingEvents eventsFrom split pieces pieceOf isHeading opening brokenOff indentation optionOn blanks blanksUpTo leading spaceOrTab filled hash or and choose checkedLine reading lineOf endOf noFeed firstReturn
 on-headings = (refl, refl, refl, refl, refl, refl)
+
+-- D8: `\t#` is no heading in the standard, and is one here. D20: `    #` is none in the standard, and is one without option 32. `  #` is one in all
+on-indentation : (standardIndented (9 ∷ 35 ∷ []) ≡ false)
+    × (isHeading (9 ∷ 35 ∷ []) 40 ≡ true)
+    × (standardIndented (32 ∷ 32 ∷ 32 ∷ 32 ∷ 35 ∷ []) ≡ false)
+    × (isHeading (32 ∷ 32 ∷ 32 ∷ 32 ∷ 35 ∷ []) 8 ≡ true)
+    × (isHeading (32 ∷ 32 ∷ 32 ∷ 32 ∷ 35 ∷ []) 40 ≡ false)
+    × (standardIndented (32 ∷ 32 ∷ 35 ∷ []) ≡ true)
+    × (isHeading (32 ∷ 32 ∷ 35 ∷ []) 8 ≡ true)
+    × (isHeading (32 ∷ 32 ∷ 35 ∷ []) 40 ≡ true)
+unfolding columnsBy isHeading opening brokenOff indentation optionOn blanks blanksUpTo leading spaceOrTab hash or and choose
+on-indentation = (refl, refl, refl, refl, refl, refl, refl, refl)

@@ -25,7 +25,8 @@ brokenOff (b ∷ l) = spaceOrTab b
 unfoldable pub opening : List ℕ → Bool
 opening l = and (leb 1 (leading hash l)) (and (leb (leading hash l) 6) (brokenOff (drop (leading hash l) l)))
 
--- "Heading (option 8)", after the indentation
+-- "Heading (option 8)", after the indentation. Amendments D8 and D20: it counts bytes, and is free without option 32; the standard's is
+-- `standardIndented` in scan
 unfoldable pub isHeading : List ℕ → ℕ → Bool
 isHeading l options = and (optionOn options 8) (opening (drop (indentation options l) l))
 

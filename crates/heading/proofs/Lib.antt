@@ -2,6 +2,7 @@ pub mod Lists
 pub mod Seeking
 pub mod Shapes
 pub mod Leaves
+pub mod AsStandard
 pub mod Texts
 pub mod Passes
 pub mod Settling

@@ -61,7 +61,7 @@ textRound first last = enter 13 (first .place) ∷ first ∷ last ∷ exit 13 (l
 -- "all events between these two go. No Data: unchanged." The text rule, of a heading's inner events.
 -- CommonMark 0.31 §4.2 has only the closing sequence go: "The optional closing sequence of #s must be preceded by spaces or tabs and may be
 -- followed by spaces or tabs only." Amendments D10 and D11: a `#` run before the first Data or after the last one is no part of the text; D17: where
--- there is no Data, there is none.
+-- there is no Data, there is none. `standardText` in specs/Standard.antt is the standard's.
 unfoldable pub withText : List Event → List Event
 withText inner =
     choose (eqb (beforeFirst 0 0 inner) (length inner))

@@ -1,4 +1,5 @@
 pub mod Headings
+pub mod Standard
 pub mod Steps
 pub mod Promise
 pub mod Cases

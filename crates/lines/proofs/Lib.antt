@@ -4,3 +4,4 @@ pub mod Starts
 pub mod Goings
 pub mod Lawful
 pub mod ExactlyRead
+pub mod Amended

@@ -19,7 +19,7 @@ cleared held = record { kind = held .kind; size = held .size; blank = false }
 unfoldable pub blankGoing : List ℕ → Container → Going
 blankGoing l held = choose (held .blank) (Stops held) (Goes (blanksUpTo (held .size) l) held)
 
--- the container's flag is cleared already
+-- the container's flag is cleared already. Amendment D8: bytes are counted; in the standard columns are (`standardEnough` in specs/Standard.antt)
 unfoldable pub filledGoing : List ℕ → Container → Going
 filledGoing l held = choose (and (leb 1 (blanks l)) (leb (held .size) (blanks l))) (Goes (held .size) held) (Stops held)
 

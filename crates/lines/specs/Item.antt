@@ -45,7 +45,7 @@ unfoldable pub orderedMark : ℕ → Bool
 orderedMark b = or (eqb b 46) (eqb b 41)
 
 -- §5.2: "When the first list item in a list interrupts a paragraph", it "must start with 1".
--- Amendment D9: the digits are exactly `1`; in the standard `01` starts with 1 as well.
+-- Amendment D9: the digits are exactly `1`; in the standard `01` starts with 1 as well (`standardStartsWithOne` in specs/Standard.antt).
 unfoldable pub startsWithOne : List ℕ → Bool
 startsWithOne l = and (eqb (leading digit l) 1) (eqb (first l) 49)
 
@@ -79,7 +79,8 @@ container kind size blank = record { kind = kind; size = size; blank = blank }
 unfoldable pub padding : ℕ → ℕ
 padding n = choose (leb n 4) n 1
 
--- a filled rest with n spaces and tabs in front, after the bytes up to the marker's end
+-- a filled rest with n spaces and tabs in front, after the bytes up to the marker's end.
+-- Amendment D14: n counts bytes; the standard's N counts columns (`standardSize` in specs/Standard.antt).
 unfoldable pub filledStart : Kind → ℕ → ℕ → Start
 filledStart kind before n =
     choose (eqb n 0) NotItem (Item (before + padding n) (container kind (before + padding n) false))
@@ -99,7 +100,8 @@ startFrom interrupting indent (Marked kind width) l = startAfter interrupting ki
 unfoldable pub startAt : Bool → ℕ → List ℕ → Start
 startAt interrupting indent l = startFrom interrupting indent (markerOf interrupting l) l
 
--- on a line. Document 01: "None without option 16."
+-- on a line. Document 01: "None without option 16." Amendments D8 and D20: the indentation counts bytes, and is free without option 32; the
+-- standard's is `standardIndented` in scan
 unfoldable pub startIn : List ℕ → ℕ → Bool → Start
 startIn l options interrupting =
     choose (optionOn options 16) (startAt interrupting (indentation options l) (drop (indentation options l) l)) NotItem

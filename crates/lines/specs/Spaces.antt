@@ -10,7 +10,7 @@ use Rattle.scan.specs.Line.{lineOf, checkedLine, reading}
 use Rattle.lines.specs.declared.spaces.Spaces.{Spaces}
 use Rattle.lines.specs.declared.spaces.Spaces.the-variants.{Taken, TooFew, Refused}
 
--- on a line
+-- on a line. Amendment D8: bytes are counted; in the standard columns are (`standardEnough` in specs/Standard.antt)
 unfoldable pub spacesIn : List ℕ → ℕ → ℕ → Spaces
 spacesIn l min max = choose (leb min (blanksUpTo max l)) (Taken (blanksUpTo max l)) TooFew
 

@@ -19,6 +19,7 @@ isItem name = eqb name 15
 
 -- "no item enters at the event right after an item's exit (the later offends)": `behind` says that the event before the row is an item's
 -- exit. An item offends if it stands so, or if its shape is broken.
+-- Amendment D12: of `- <?\n-` the crate's tokenizer makes an item that stands so, and the crate takes it; the standard has one list of two items.
 unfoldable pub offending : List ℕ → Bool → ℕ → Row → Bool
 offending document behind name inside = and (isItem name) (choose behind true (eqb (markOf document inside) 0))
 

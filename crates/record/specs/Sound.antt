@@ -8,7 +8,9 @@ use Rattle.record.specs.Choice.{and}
 use Rattle.record.specs.Stack.{none, fitsOpen, after}
 use Rattle.record.specs.declared.event.Event.{Event}
 
--- document 01's number 5, of one event by itself: "bad kind, name ..; place over D or below the event before", which is `last`
+-- document 01's number 5, of one event by itself: "bad kind, name ..; place over D or below the event before", which is `last`.
+-- Amendments D13 and D15: of `- <?\n\na`, and of `_[^]()` with footnotes, the crate's tokenizer makes an event whose place is below the one
+-- before; here it is refused. The standard has no events.
 unfoldable pub placed : Event → ℕ → ℕ → Bool
 placed e d last = and (leb (e .kind) 1) (and (leb (e .name) 24) (and (leb (e .place) d) (leb last (e .place))))
 

@@ -38,7 +38,9 @@ outer [] = []
 outer (top ∷ held) = held
 
 -- "exit without its enter (same name, innermost); depth over 64": whether an event may stand where these names are open, of which there
--- may be `deep`
+-- may be `deep`.
+-- Amendment D16: of `---\n#\n>`, with frontmatter, the crate's tokenizer makes an exit that stands before its enter; here it is refused. The
+-- standard has no events.
 unfoldable pub fitsOpen : ℕ → Event → List ℕ → Bool
 fitsOpen deep e held = choose (eqb (e .kind) 0) (ltb (length held) deep) (innermost (e .name) held)
 

@@ -16,10 +16,10 @@ use Rattle.record.specs.Stack.{after}
 use Rattle.record.specs.declared.event.Event.{Event}
 use Rattle.classes.specs.Class.{classOf, standardClass, amended, whitespace, punctuation}
 use Rattle.runs.specs.Texts.{bytes}
-use Rattle.runs.specs.Runs.{Run, byteAt, byteBefore, entersRun, runsFrom, runsOf, isMarker, allowed, leftAtOnce, allAre, runBetween, shaped, offenderFrom, offender}
+use Rattle.runs.specs.Runs.{Run, byteAt, byteBefore, standardBefore, entersRun, runsFrom, runsOf, isMarker, allowed, leftAtOnce, allAre, runBetween, shaped, offenderFrom, offender}
 use Rattle.runs.specs.Flanking.{classBeside, leftFlanking, rightFlanking, besideMarker, flanksLeft, flanksRight, canOpen, canClose}
 use Rattle.runs.specs.Rule.{Profile, threes, tildes, ruleOver, crateRule, standardRule, crate, standard}
-use Rattle.runs.specs.Plain.{Group, opener, closer, sameContainer, candidate, takes, back, look, forth, amount, alter, matched, rounds, total, plain}
+use Rattle.runs.specs.Plain.{Group, group, opener, closer, sameContainer, candidate, takes, back, look, forth, amount, alter, matched, rounds, total, plain}
 use Rattle.runs.specs.Pieces.{standing, outcome, groupName, closings, openings, closed, opened, leftFrom, remains}
 use Rattle.runs.specs.Output.{closingEvents, openingEvents, leftoverEvents, runEvents, replaced, output, emptied, resultSize}
 
@@ -176,3 +176,34 @@ pub contained : map (λ (r : Run). r .container)
     (runsOf (bytes "*a*b*") (enter 1 0 ∷ exit 1 1 ∷ enter 24 1 ∷ enter 1 2 ∷ exit 1 3 ∷ exit 24 4 ∷ enter 1 4 ∷ exit 1 5 ∷ [])) ≡ none ∷ some 2 ∷ none ∷ []
 unfolding bytes choose and after entersRun byteAt byteBefore runsFrom runsOf
 contained = refl
+
+-- a run of a line whose content begins at a place, with the neighbour before it that the standard has
+abbrev pub beginningAt : ℕ → List ℕ → Run → Run
+beginningAt from doc r =
+    record {
+      number = r .number;
+      start = r .start;
+      size = r .size;
+      marker = r .marker;
+      before = standardBefore from doc (r .start);
+      after = r .after;
+      container = r .container;
+    }
+
+-- the groups of a text whose content begins at a place, and those of a text as document 01 has its neighbours
+unfoldable pub groupsAt : ℕ → String → List Group
+groupsAt from s = plain (crateRule 59) (map (standing crate 59) (map (beginningAt from (bytes s)) (runsOf (bytes s) (split (bytes s))))) .groups
+
+unfoldable pub groupsHere : String → List Group
+groupsHere s = outcome crate 59 (bytes s) (split (bytes s)) .groups
+
+-- D19: of `>*.**`, whose content begins at 1, the standard makes one group, since nothing stands before the first run; here `>` does, and there
+-- is none. Of `*.**`, which no mark stands before, and of the line `*.**` behind a line feed, both make one.
+on-quotes : (groupsAt 1 ">*.**" ≡ group 0 1 1 ∷ [])
+    × (groupsHere ">*.**" ≡ [])
+    × (groupsAt 0 "*.**" ≡ group 0 1 1 ∷ [])
+    × (groupsHere "*.**" ≡ group 0 1 1 ∷ [])
+    × (groupsAt 1 "\n*.**" ≡ group 0 1 1 ∷ [])
+    × (groupsHere "\n*.**" ≡ group 0 1 1 ∷ [])
+unfolding groupsAt groupsHere standardBefore bytes split splitFrom stretchOf nameOf choose and after classOf standardClass amended whitespace punctuation optionOn byteAt byteBefore entersRun runsFrom runsOf isMarker classBeside leftFlanking rightFlanking besideMarker flanksLeft flanksRight canOpen canClose threes tildes ruleOver opener closer sameContainer candidate takes back look forth amount alter matched rounds total plain standing outcome
+on-quotes = (refl, refl, refl, refl, refl, refl)

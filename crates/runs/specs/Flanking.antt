@@ -23,7 +23,7 @@ isPunctuation Punctuation = true
 
 -- the class of what stands beside a run: "the beginning and the end of the line count as Unicode whitespace". In document 01 they are those
 -- of the document; a line's own are its line feeds, which are whitespace too. Amendment D19: where a line begins behind the mark of a block
--- quote, that mark is what stands before a run there.
+-- quote, that mark is what stands before a run there (`standardBefore` in specs/Runs.antt is the standard's).
 unfoldable pub classBeside : Option ℕ → Class
 classBeside none = Whitespace
 classBeside (some b) = classOf b

@@ -1,4 +1,6 @@
--- The events that come out, and how many. Document 01, section "Attention", "Output for each run" and "Result size".
+-- The events that come out, and how many. Document 01, section "Attention", "Output for each run" and "Result size". CommonMark 0.31 has no
+-- events: a group here is the node that its appendix inserts, from the group's enter to its exit, with its delimiters (Sequence) and its content
+-- (Text) told apart.
 -- Assumes nothing.
 use Prim.Native.Nat.{ℕ, _+_, _-_, _*_}
 use mathlib.Core.List.{List, [], _∷_, _++_}
@@ -25,7 +27,8 @@ openingEvents [] = []
 openingEvents (p ∷ ps) =
     enter (p .name) (p .from) ∷ enter (p .name + 1) (p .from) ∷ exit (p .name + 1) (p .to) ∷ enter (p .name + 2) (p .to) ∷ openingEvents ps
 
--- "the leftover as Data enter and exit if any"
+-- "the leftover as Data enter and exit if any". Appendix: "we insert a text node with these symbols as its literal content", and "If they become
+-- empty as a result, remove them"
 unfoldable pub leftoverEvents : List Group → ℕ → Run → List Event
 leftoverEvents gs q r = choose (remains gs q r) (enter 0 (leftFrom gs q r) ∷ exit 0 (leftTo gs q r) ∷ []) []
 

@@ -1,6 +1,7 @@
 -- What the groups make of the runs: for each run its closing pieces, its leftover and its opening pieces, as byte ranges.
 -- Document 01, section "Attention": "The opener gives its last bytes, the closer its first." "Output for each run: its closing pieces in match
--- order .., then the leftover .., then its opening pieces, last match first".
+-- order .., then the leftover .., then its opening pieces, last match first". CommonMark 0.31's appendix has a text node for each run, from which
+-- "process emphasis" takes delimiters; what it says of them is quoted below, with §6.2's rules 11 and 12.
 -- Assumes nothing.
 use Prim.Native.Nat.{ℕ, _+_, _-_}
 use mathlib.Core.Bool.{Bool}
@@ -14,7 +15,9 @@ use Rattle.runs.specs.Flanking.{canOpen, canClose}
 use Rattle.runs.specs.Rule.{Profile}
 use Rattle.runs.specs.Plain.{Standing, Group, Outcome, plain}
 
--- a run before the first match, as a profile's flanking has it
+-- a run before the first match, as a profile's flanking has it. Appendix: "whether the delimiter is a potential opener, a potential closer, or
+-- both (which depends on what sort of characters precede and follow the delimiters)". Rules 1 to 8, and amendments D4 and D19:
+-- specs/Flanking.antt
 unfoldable pub standing : Profile → ℕ → Run → Standing
 standing profile options r =
     record {
@@ -26,7 +29,8 @@ standing profile options r =
       closes = canClose (profile .amended) (optionOn options 2) (r .marker) (r .before) (r .after);
     }
 
--- the plain rule on the runs of a record
+-- the plain rule on the runs of a record. Appendix: "When we hit the end of the input, we call the process emphasis procedure"; for the inlines of
+-- a link it is called by itself, here a container does that
 unfoldable pub outcome : Profile → ℕ → List ℕ → List Event → Outcome
 outcome profile options doc es = plain (profile .rule options) (map (standing profile options) (runsOf doc es))
 
@@ -36,14 +40,16 @@ pub record Piece : Type 0 where
   pub from : ℕ
   pub to : ℕ
 
--- "Taking 1 is emphasis, 2 strong, `~` always strikethrough."
+-- "Taking 1 is emphasis, 2 strong, `~` always strikethrough." Appendix: "Figure out whether we have emphasis or strong emphasis"
 unfoldable pub groupName : ℕ → ℕ → ℕ
 groupName marker taken = choose (eqb marker 126) 8 (choose (eqb taken 1) 2 5)
 
 abbrev pub piece : ℕ → ℕ → ℕ → ℕ → Piece
 piece marker taken from to = record { name = groupName marker taken; from = from; to = to }
 
--- the closing pieces of the run q, in match order, the first of them at a place
+-- the closing pieces of the run q, in match order, the first of them at a place. With the opening pieces this is rule 11: "A literal `*` character
+-- cannot occur at the beginning or end of `*`-delimited emphasis or `**`-delimited strong emphasis, unless it is backslash-escaped." Rule 12 says
+-- the same of `_`. What is left of a run lies outside the groups that it closes, and outside those that it opens.
 unfoldable pub closings : List Group → ℕ → ℕ → ℕ → List Piece
 closings [] q marker at = []
 closings (g ∷ gs) q marker at =
@@ -52,7 +58,8 @@ closings (g ∷ gs) q marker at =
     let other = closings gs q marker at in
     choose (eqb (g .closer) q) (piece marker (g .taken) at next ∷ own) other
 
--- the opening pieces of the run q, last match first, the first match's before a place
+-- the opening pieces of the run q, last match first, the first match's before a place. Appendix: "Insert an emph or strong emph node accordingly,
+-- after the text node corresponding to the opener."
 unfoldable pub openings : List Group → ℕ → ℕ → ℕ → List Piece
 openings [] q marker at = []
 openings (g ∷ gs) q marker at =

@@ -28,10 +28,15 @@ pub record Run : Type 0 where
 unfoldable pub byteAt : List ℕ → ℕ → Option ℕ
 byteAt doc at = choose (ltb at (length doc)) (some (getD doc at 0)) none
 
--- the byte before a place
+-- the byte before a place. Amendment D19: it is the document's.
 unfoldable pub byteBefore : List ℕ → ℕ → Option ℕ
 byteBefore doc zero = none
 byteBefore doc (suc at) = byteAt doc at
+
+-- the standard's: on a line whose content begins at `from`, behind the marks of the block quotes and items that the line stands in, nothing
+-- stands before that place. What follows does not use it.
+unfoldable pub standardBefore : ℕ → List ℕ → ℕ → Option ℕ
+standardBefore from doc at = choose (eqb at from) none (byteBefore doc at)
 
 -- "Container: the innermost event open at the run, or none."
 abbrev pub innermostOf : List ℕ → Option ℕ

@@ -3,9 +3,9 @@
 use mathlib.Core.Path.{_≡_, ap}
 use mathlib.Core.Bool.{true, false, not}
 use Prim.Native.Nat.{ℕ, _≤_, _<_}
-use borrow.Author.Tests.{eq-eqb, ne-eqb, le-leb, lt-leb}
+use borrow.Author.Tests.{eq-eqb, ne-eqb, le-leb, lt-leb, eqb-true}
 use Rattle.record.specs.Choice.{and}
-use Rattle.scan.specs.Run.{spaceOrTab, filled, digit, hash}
+use Rattle.scan.specs.Run.{or, spaceOrTab, filled, digit, hash}
 use Rattle.scan.specs.Line.{noFeed}
 
 module _ (b : ℕ) where
@@ -36,6 +36,10 @@ module _ (b : ℕ) where
   pub no-feed : (b ≡ 10 → ⊥) → noFeed b ≡ true
   unfolding noFeed
   no-feed n = rw (ne-eqb _ _ n)
+
+  pub hash-filled : hash b ≡ true → spaceOrTab b ≡ false
+  unfolding hash spaceOrTab or
+  hash-filled e = let q : b ≡ 35 = eqb-true b 35 e in rw q
 
   pub blank-filled : spaceOrTab b ≡ true → filled b ≡ false
   unfolding filled

@@ -3,7 +3,7 @@
 use mathlib.Core.Path.{_≡_, refl, ap, _∙_}
 use mathlib.Core.Bool.{Bool, true, false}
 use mathlib.Core.List.{List, [], _∷_}
-use Prim.Native.Nat.{ℕ, suc, _+_, _-_, _≤_, _<_}
+use Prim.Native.Nat.{ℕ, zero, suc, _+_, _-_, _≤_, _<_}
 use native.Mathlib.Nat.{zero-add}
 use native.Mathlib.Numerals.{add-one}
 use native.Mathlib.Omega.{arith}
@@ -73,6 +73,29 @@ pub run-some : (kind : ℕ → Bool) (l : List ℕ) → 0 < length l → kind (f
 unfolding leading choose
 run-some kind [] h e = absurd (omega arith)
 run-some kind (b ∷ l) h e = rw e (omega arith)
+
+-- a byte of a run
+pub in-run : (kind : ℕ → Bool) (l : List ℕ) (i : ℕ) → i < leading kind l → kind (getD l i 0) ≡ true
+unfolding leading choose
+in-run kind [] i h = absurd (omega arith)
+in-run kind (b ∷ l) i h = go (kind b) refl i h (in-run kind l)
+  where
+    go : (z : Bool) → kind b ≡ z → (i : ℕ) → i < choose z (suc (leading kind l)) 0 → ((j : ℕ) → j < leading kind l → kind (getD l j 0) ≡ true) →
+        kind (getD (b ∷ l) i 0) ≡ true
+    go true q zero h f = q
+    go true q (suc i) h f = f i (omega arith)
+    go false q i h f = absurd (omega arith)
+
+-- the byte behind it: whatever no byte that ends the run is, it is not
+pub run-stops : (kind other : ℕ → Bool) → other 0 ≡ false → ((b : ℕ) → kind b ≡ false → other b ≡ false) → (l : List ℕ) →
+    other (getD l (leading kind l) 0) ≡ false
+unfolding leading choose
+run-stops kind other z f [] = z
+run-stops kind other z f (b ∷ l) = go (kind b) refl (run-stops kind other z f l)
+  where
+    go : (x : Bool) → kind b ≡ x → other (getD l (leading kind l) 0) ≡ false → other (getD (b ∷ l) (choose x (suc (leading kind l)) 0) 0) ≡ false
+    go true q on = on
+    go false q on = f b q
 
 -- the invariant of a loop that counts a run: n bytes of it are passed
 pub record Counting (kind : ℕ → Bool) (l : List ℕ) (n : ℕ) : Type 0 where

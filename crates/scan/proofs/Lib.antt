@@ -1,4 +1,5 @@
 pub mod Leading
+pub mod Counted
 pub mod ByteKinds
 pub mod Checks
 pub mod Blanks

@@ -1,3 +1,4 @@
 pub mod Run
+pub mod Columns
 pub mod Line
 pub mod Rows

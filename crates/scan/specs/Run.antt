@@ -51,7 +51,7 @@ unfoldable pub blank : List ℕ → Bool
 blank l = every spaceOrTab l
 
 -- Document 01: "the spaces and tabs that stand there, counted in bytes, up to a maximum".
--- Amendments D8 and D14, to §2.2, where a tab counts as the columns up to the next tab stop: here it counts as one.
+-- Amendments D8 and D14, to §2.2, where a tab counts as the columns up to the next tab stop: here it counts as one. specs/Columns.antt has both.
 unfoldable pub blanksUpTo : ℕ → List ℕ → ℕ
 blanksUpTo max l = leading spaceOrTab (take max l)
 
@@ -59,6 +59,11 @@ blanksUpTo max l = leading spaceOrTab (take max l)
 unfoldable pub blanks : List ℕ → ℕ
 blanks l = leading spaceOrTab l
 
--- "Indentation is at most 3, or free without option 32."
+-- §5.2, rule 4: "up to three spaces of indentation"; §4.2: "The opening `#` character may be preceded by up to three spaces of indentation."
+abbrev pub upToThree : List ℕ → ℕ
+upToThree l = blanksUpTo 3 l
+
+-- Document 01: "Indentation is at most 3, or free without option 32."
+-- Amendment D20: the standard's rule holds with option 32; without it, all spaces and tabs in front are indentation.
 unfoldable pub indentation : ℕ → List ℕ → ℕ
-indentation options l = choose (optionOn options 32) (blanksUpTo 3 l) (blanks l)
+indentation options l = choose (optionOn options 32) (upToThree l) (blanks l)

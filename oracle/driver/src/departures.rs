@@ -72,7 +72,7 @@ fn crate_says(question: &Question) -> Answer {
 pub fn run() -> usize {
     let text = |text: &[u8], options: u32| records::split(text, options);
     let many = [vec![b'*'; 2000], vec![b'a'], vec![b'*'; 1999]].concat();
-    let rows: [(&str, Question, Look, &str, &str); 26] = [
+    let rows: [(&str, Question, Look, &str, &str); 28] = [
         ("D1", text(b"*\r*", 59), Look::Groups, "groups 0", "refused with 4 at 5"),
         ("D2", text(b"*\xc2\xa0*", 59), Look::Groups, "groups 0", "groups 1"),
         ("D3", text(b"a*\0*", 59), Look::Groups, "groups 1", "groups 1"),
@@ -105,6 +105,8 @@ pub fn run() -> usize {
         ("D18", line(Call::SpaceOrTab, &[b' '; 16_385], [0, usize::MAX, 0]), Look::Found, "found", "refused with 3 at 16384"),
         ("D18", text(&many, 59), Look::Refusal, "accepted", "refused with 7 at 0"),
         ("D19", watched(Resolver::Attention, ">*.**", Settings::new(59)), Look::Groups, "groups 0", "groups 0"),
+        ("D20", Question { options: 27, ..line(Call::ListItem, b"    - a", [0; 3]) }, Look::Found, "found", "found"),
+        ("D20", Question { options: 27, ..line(Call::Heading, b"    #", [0; 3]) }, Look::Found, "found", "found"),
     ];
     println!("\n| row | crate | library |\n|---|---|---|");
     let mut wrong = 0;
