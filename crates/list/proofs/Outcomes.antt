@@ -17,7 +17,7 @@ use Rattle.record.specs.Promise.{Answered}
 use Rattle.record.specs.declared.event.Event.{Event}
 use Rattle.record.specs.declared.check.Refusal.{Refusal}
 use Rattle.record.specs.declared.check.Reading.the-variants as reading
-use Rattle.record.proofs.Good.{events-are-sound, admission}
+use Rattle.record.proofs.Good.{events-are-sound}
 use Rattle.record.proofs.Output.{onto-none}
 use Rattle.record.proofs.Sections.{length-eventsAt}
 use Rattle.list.specs.Tree.{Row, written, treeOf}
@@ -147,14 +147,6 @@ module _ (s : List ℕ) (d e : ℕ) (c : GoodRecord s d e) where
           let long : length (spliced (notes (documentOf s d) false [] (onward s d e 0)) (onward s d e 0)) ≡ length (onward s d e 0) + added (notes (documentOf s d) false [] (onward s d e 0)) =
           spliced-long (notes (documentOf s d) false [] (onward s d e 0)) (onward s d e 0) (notes-long (documentOf s d) false [] (onward s d e 0)) in
           omega (arith, ap length noted-same, long, found .1, onward-long)
-
--- what the check tells
-module _ (s : List ℕ) (options works d e : ℕ) (g : reading.Good d e ≡ admitted s options works) where
-  pub checked-record : GoodRecord s d e
-  checked-record = admission s options works d e (sym g) .good
-
-  pub enough-work : 65536 ≤ works
-  enough-work = admission s options works d e (sym g) .memory
 
 -- the answer and the output, case by case
 module _ (s : List ℕ) (options works : ℕ) (out : List ℕ) where

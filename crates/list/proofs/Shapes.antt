@@ -11,12 +11,12 @@ use lib.Dec.{eqb}
 use borrow.Author.Tests.{eq-eqb, ne-eqb}
 use Rattle.record.specs.Choice.{choose, and}
 use Rattle.record.specs.Bytes.{u32At}
-use lib.Seq.{getD-take, getD-drop}
 use Rattle.record.specs.Event.{eventAt, eventsAt, documentOf, eventsOf}
 use Rattle.record.specs.Stack.{after}
 use Rattle.record.specs.Sound.{soundFrom}
 use Rattle.record.specs.Good.{GoodRecord}
 use Rattle.record.proofs.Good.{events-are-sound}
+use Rattle.record.proofs.Parts.{document-byte}
 use Rattle.record.proofs.Soundness.{stands, sound-rest}
 use Rattle.record.specs.declared.event.Event.{Event}
 use Rattle.list.specs.Item.{known}
@@ -118,11 +118,6 @@ pub placed-within : (s : List ℕ) (d e k : ℕ) → GoodRecord s d e → k < e 
 unfolding eventsOf
 placed-within s d e k c h = within e s d (8 + d) 0 [] (events-are-sound c) k h
 
--- the byte of the document at a place
-pub byte-at : (s : List ℕ) (d p : ℕ) → p < d → getD (documentOf s d) p 0 ≡ getD s (4 + p) 0
-unfolding documentOf
-byte-at s d p h = rw (getD-take, getD-drop)
-
 -- the mark that a pair lies over
 module _ (s : List ℕ) (d e i p q : ℕ) (h : i + 1 < e) (hp : p ≡ u32At s (8 + d + 8 * i + 4)) (hq : q ≡ u32At s (8 + d + 8 * i + 12)) where
   from-place : head (onward s d e i) .place ≡ p
@@ -139,7 +134,7 @@ module _ (s : List ℕ) (d e i p q : ℕ) (h : i + 1 < e) (hp : p ≡ u32At s (8
 
   pub over-one : q ≡ p + 1 → p < d → (m : ℕ) → m ≡ known (getD s (4 + p) 0) → m ≡ markOver (documentOf s d) (onward s d e i)
   unfolding markOver choose
-  over-one x l m em = em ∙ sym (rw (from-place, to-place, eq-eqb _ _ x, byte-at s d p l))
+  over-one x l m em = em ∙ sym (rw (from-place, to-place, eq-eqb _ _ x, document-byte s d p l))
 
   pub inside-document : GoodRecord s d e → q ≡ p + 1 → p < d
   inside-document c x =
