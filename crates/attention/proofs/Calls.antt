@@ -10,24 +10,23 @@ use lib.ListN.{length}
 use Rattle.record.specs.Options.{optionOn}
 use Rattle.record.specs.Bytes.{u32At}
 use Rattle.record.specs.Event.{documentOf, eventsOf}
+use Rattle.record.specs.Good.{GoodRecord}
 use Rattle.record.specs.Check.{admitted}
 use Rattle.record.specs.Outcome.{offends, Outcome, refusing, settled, onto, bytesWritten}
 use Rattle.record.specs.Promise.{Answered}
 use Rattle.record.specs.declared.check.Refusal.{Refusal}
 use Rattle.record.specs.declared.check.Reading.the-variants as readings
 use Rattle.record.proofs.Good.{admission}
-use Rattle.record.proofs.Parts.{length-document}
 use Rattle.record.proofs.Sections.{length-eventsAt}
 use Rattle.runs.specs.Runs.{offender}
 use Rattle.runs.specs.Rule.{Rule, ruleFor, Profile, crate}
 use Rattle.runs.specs.Plain.{Standing, plain}
+use Rattle.slots.specs.Layout.{Room}
 use Rattle.groups.specs.Matches.{begin}
 use Rattle.runs.specs.Pieces.{outcome as matching}
 use Rattle.runs.specs.Output.{output}
-use Rattle.output.specs.Accepted.{Accepted}
 use Rattle.output.proofs.ResultSize.{size-of-output, many-groups-too-long}
-use Rattle.loading.specs.Promise.{Loadable, Ready, Loads}
-use Rattle.loading.proofs.Asked.{loadable}
+use Rattle.loading.specs.Promise.{Ready, Loads}
 use Rattle.loading.specs.declared.pass.Loaded.{Loaded}
 use Rattle.loading.specs.declared.pass.Loaded.the-variants.{Offends}
 use Rattle.matcher.specs.Promise.{GroupsOf, Answers, Answered as Matching, Loaded as Begun}
@@ -43,6 +42,7 @@ use Rattle.attention.specs.declared.call.Answer.{Answer}
 use Rattle.attention.specs.declared.call.Answer.the-variants.{Resolved, Refused}
 use Rattle.attention.proofs.Beginning.{begins}
 use Rattle.attention.proofs.Offenders.{earliest-offender}
+use Rattle.attention.proofs.Sizes.{accepted-record}
 use Rattle.attention.proofs.Endings.{sized-long}
 
 -- where no run offends, the call comes to what the result comes to
@@ -99,24 +99,20 @@ pub by-crate : (options : ℕ) {n : ℕ} {w w′ : List ℕ} {single : Bool} {fo
 by-crate options q a = rw q at a
 
 -- the runs in their slots, the chains emptied, and what the matcher then answers
-module _ {profile : Profile} {s : List ℕ} {d e options n : ℕ} {w w′ : List ℕ} (g : Loadable s d e w) (l : Ready profile (documentOf s d) (eventsOf s d e) options n w) (c : Cleared w 6147 w′) where
+module _ {profile : Profile} {s : List ℕ} {d e options n : ℕ} {w w′ : List ℕ} (g : GoodRecord s d e) (room : Room w) (l : Ready profile (documentOf s d) (eventsOf s d e) options n w) (c : Cleared w 6147 w′) where
   pub begun : Begun w′ n
-  begun = record { runs = begin profile options (documentOf s d) (eventsOf s d e); fresh = begins (g .room) l c }
+  begun = record { runs = begin profile options (documentOf s d) (eventsOf s d e); fresh = begins room l c }
 
   module _ (found : Found) (w″ : List ℕ) (a : Answers (profile .rule options) w′ n found w″) where
     answered : Matching (profile .rule options) (begin profile options (documentOf s d) (eventsOf s d e)) n found w″
-    answered = a .of (begin profile options (documentOf s d) (eventsOf s d e)) (begins (g .room) l c)
+    answered = a .of (begin profile options (documentOf s d) (eventsOf s d e)) (begins room l c)
 
     pub matched : (groups tried : ℕ) → found ≡ Groups groups tried → length w″ ≡ length w′ → Matched profile s d e options n groups tried w″
     unfolding matching
     matched groups tried q k =
         let same = c .same-length in
-        let room = g .room in
         record {
-          small = g .small;
-          few-events = g .few;
-          whole = g .whole;
-          sound-events = g .sound-events;
+          good = g;
           none-offends = l .none-offends;
           count = l .count;
           few = l .few;
@@ -128,17 +124,14 @@ module _ {profile : Profile} {s : List ℕ} {d e options n : ℕ} {w w′ : List
     pub too-many : found ≡ TooMany → (out : List ℕ) (r : Answer) → r ≡ Refused (record { number = 7; place = 0 }) → Made profile s d e options out r out
     unfolding matching onto
     too-many q out r er =
-        let whole = g .whole in
-        let x : length (documentOf s d) ≡ d = length-document s d (omega arith) in
-        let ok : Accepted 64 options (documentOf s d) (eventsOf s d e) = record { events = rw x (g .sound-events); shapes = l .none-offends } in
         let many : 1000 < length (matching profile options (documentOf s d) (eventsOf s d e) .groups) =
         of-many (profile .rule options) (begin profile options (documentOf s d) (eventsOf s d e)) n found w″ q answered in
         let long = many-groups-too-long profile options (documentOf s d) (eventsOf s d e) many in
-        let size = size-of-output profile options (documentOf s d) (eventsOf s d e) 64 ok in
+        let size = size-of-output profile options (documentOf s d) (eventsOf s d e) 64 (accepted-record options g (l .none-offends)) in
         refuses profile s d e options out 7 0 (unoffended profile s d e options (length out) (l .none-offends) ∙ sized-long _ _ (omega arith)) r out er refl
 
 -- the load pass found an offender
-module _ {profile : Profile} {s : List ℕ} {d e options : ℕ} {w w′ : List ℕ} {loaded : Loaded} (g : Loadable s d e w) (l : Loads profile s d e options w loaded w′) where
+module _ {profile : Profile} {s : List ℕ} {d e options : ℕ} {w w′ : List ℕ} {loaded : Loaded} (l : Loads profile s d e options w loaded w′) where
   pub offender-low : (k : ℕ) → loaded ≡ Offends k → k < e
   unfolding eventsOf
   offender-low k q =
@@ -148,20 +141,6 @@ module _ {profile : Profile} {s : List ℕ} {d e options : ℕ} {w w′ : List �
   pub offended-call : (k : ℕ) → loaded ≡ Offends k → (out : List ℕ) (r : Answer) → r ≡ Refused (record { number = 6; place = 8 + d + 8 * k }) → Made profile s d e options out r out
   unfolding onto
   offended-call k q out r er = refuses profile s d e options out 6 (8 + d + 8 * k) (offended profile s d e options (length out) k (l .offends k q)) r out er refl
-
-  -- or none, and then all is as it was but for the memory
-  pub loaded-still : Loadable s d e w′
-  loaded-still =
-      let room = g .room in
-      let same = l .same-length in
-      record { small = g .small; few = g .few; whole = g .whole; sound-events = g .sound-events; room = omega arith }
-
--- a good record can be loaded
-pub good-loadable : (s : List ℕ) (options works d e : ℕ) (w : List ℕ) → admitted s options works ≡ readings.Good d e → length w ≡ works → Loadable s d e w
-good-loadable s options works d e w q k =
-    let f = admission s options works d e q in
-    let m = f .memory in
-    loadable s d e w (f .good) (omega arith)
 
 -- the whole call
 module _ (profile : Profile) (s : List ℕ) (options works : ℕ) (out : List ℕ) where

@@ -40,9 +40,6 @@ unfolding onto
 unwritten o n p out e = sym (ap (λ (x : Outcome). onto (bytesWritten x) out) e)
 
 module _ {profile : Profile} {s : List ℕ} {d e options n groups tried : ℕ} {w : List ℕ} (m : Matched profile s d e options n groups tried w) where
-  doc : List ℕ
-  doc = documentOf s d
-
   -- what the writer writes is what the definition gives
   pub written-same : writtenOf s d e w groups ≡ output profile options (documentOf s d) (eventsOf s d e)
   unfolding output

@@ -4,6 +4,7 @@
 use mathlib.Core.Path.{_≡_, refl, sym, ap, _∙_}
 use mathlib.Core.Bool.{Bool, true, false}
 use mathlib.Core.List.{List}
+use mathlib.Core.Option.{none}
 use Prim.Native.Nat.{ℕ, zero, suc, _+_, _*_, _-_, _≤_, _<_}
 use native.Mathlib.Omega.{arith}
 use lib.Dec.{eqb}
@@ -12,9 +13,11 @@ use lib.Seq.{drop-cons, drop-length}
 use borrow.Author.Tests.{eqb-true, eqb-false, lt-ltb, le-ltb}
 use Rattle.record.specs.Choice.{choose}
 use Rattle.record.specs.Event.{documentOf, eventsOf}
+use Rattle.record.specs.Good.{GoodRecord}
+use Rattle.record.proofs.Good.{events-are-sound}
 use Rattle.record.proofs.Parts.{length-document}
 use Rattle.record.proofs.Sections.{length-eventsAt}
-use Rattle.runs.specs.Runs.{Run, runsOf}
+use Rattle.runs.specs.Runs.{Run, offender, runsOf}
 use Rattle.runs.specs.Rule.{Profile}
 use Rattle.runs.specs.Plain.{Group}
 use Rattle.runs.specs.Pieces.{outcome, closed, opened, remains}
@@ -66,16 +69,15 @@ emptied-on w gs rs (suc m) q h f =
     one-counted gs q (getD rs q noRun) (leftOf w q) (emptiedFrom m w (q + 1)) (emptied gs (q + 1) (drop (suc q) rs)) (f q l) on
     ∙ ap (λ (k : List Run). emptied gs q k) (sym (drop-cons rs q noRun l))
 
+-- a good record none of whose runs offends is one that the theorems on the output speak of
+pub accepted-record : (options : ℕ) {s : List ℕ} {d e : ℕ} → GoodRecord s d e → offender (documentOf s d) options (eventsOf s d e) ≡ none →
+    Accepted 64 options (documentOf s d) (eventsOf s d e)
+accepted-record options {s} {d} g none-offends =
+    let whole = g .whole in
+    let l : length (documentOf s d) ≡ d = length-document s d (omega arith) in
+    record { events = rw l (events-are-sound g); shapes = none-offends }
+
 module _ {profile : Profile} {s : List ℕ} {d e options n groups tried : ℕ} {w : List ℕ} (m : Matched profile s d e options n groups tried w) where
-  doc : List ℕ
-  doc = documentOf s d
-
-  accepted-record : Accepted 64 options (documentOf s d) (eventsOf s d e)
-  accepted-record =
-      let whole = m .whole in
-      let l : length (documentOf s d) ≡ d = length-document s d (omega arith) in
-      record { events = rw l (m .sound-events); shapes = m .none-offends }
-
   pub emptied-same : emptiedFrom n w 0 ≡ emptied (outcome profile options (documentOf s d) (eventsOf s d e) .groups) 0 (runsOf (documentOf s d) (eventsOf s d e))
   emptied-same =
       let count = m .count in
@@ -89,7 +91,7 @@ module _ {profile : Profile} {s : List ℕ} {d e options n groups tried : ℕ} {
   -- twice the emptied runs are no more than the events
   pub emptied-within : 2 * emptiedFrom n w 0 ≤ e
   emptied-within =
-      let a = emptied-few profile options (documentOf s d) (eventsOf s d e) 64 accepted-record in
+      let a = emptied-few profile options (documentOf s d) (eventsOf s d e) 64 (accepted-record options (m .good) (m .none-offends)) in
       omega (arith, emptied-same, events-long)
 
   -- document 01's formula
@@ -97,6 +99,6 @@ module _ {profile : Profile} {s : List ℕ} {d e options n groups tried : ℕ} {
   unfolding resultSize
   size-same =
       let a : length (output profile options (documentOf s d) (eventsOf s d e)) ≡ resultSize profile options (documentOf s d) (eventsOf s d e) =
-      size-of-output profile options (documentOf s d) (eventsOf s d e) 64 accepted-record in
+      size-of-output profile options (documentOf s d) (eventsOf s d e) 64 (accepted-record options (m .good) (m .none-offends)) in
       let b : groups ≡ length (outcome profile options (documentOf s d) (eventsOf s d e) .groups) = m .made .made in
       omega (arith, emptied-same, events-long)

@@ -1,15 +1,14 @@
 -- What stands between the matcher and the answer: a good record whose groups are in the memory, and what is written of it.
 -- Assumes nothing.
-use Prim.Native.Nat.{ℕ, zero, suc, _+_, _*_, _≤_}
+use Prim.Native.Nat.{ℕ, zero, suc, _+_, _≤_}
 use mathlib.Core.Path.{_≡_}
-use mathlib.Core.Bool.{true}
 use mathlib.Core.List.{List}
 use mathlib.Core.Option.{none}
 use lib.Dec.{eqb}
 use lib.ListN.{length}
 use Rattle.record.specs.Choice.{choose}
 use Rattle.record.specs.Event.{documentOf, eventsOf}
-use Rattle.record.specs.Sound.{sound}
+use Rattle.record.specs.Good.{GoodRecord}
 use Rattle.record.specs.Outcome.{Outcome, accepted, refusing, sized, onto, bytesWritten}
 use Rattle.runs.specs.Runs.{offender, runsOf}
 use Rattle.runs.specs.Rule.{Profile}
@@ -29,10 +28,7 @@ emptiedFrom (suc m) w q =
 
 -- a good record none of whose runs offends, with the plain rule's groups in the memory
 pub record Matched (profile : Profile) (s : List ℕ) (d e options n groups tried : ℕ) (w : List ℕ) : Type 0 where
-  pub small : d ≤ 16384
-  pub few-events : e ≤ 2048
-  pub whole : length s ≡ 8 + d + 8 * e
-  pub sound-events : sound 64 d (eventsOf s d e) ≡ true
+  pub good : GoodRecord s d e
   pub none-offends : offender (documentOf s d) options (eventsOf s d e) ≡ none
   pub count : n ≡ length (runsOf (documentOf s d) (eventsOf s d e))
   pub few : n ≤ 1024

@@ -16,9 +16,11 @@ use record::limits::OPTION_SINGLE_TILDE;
 ghost use mathlib.Core.Path.{_≡_};
 ghost use lib.ListN.{length};
 ghost use Rattle.record.specs.Event.{documentOf, eventsOf};
+ghost use Rattle.record.specs.Good.{GoodRecord};
 ghost use Rattle.record.specs.Promise.{Answered};
 ghost use Rattle.runs.specs.Rule.{crate};
-ghost use Rattle.loading.specs.Promise.{Loadable, Ready};
+ghost use Rattle.slots.specs.Layout.{Room};
+ghost use Rattle.loading.specs.Promise.{Ready};
 ghost use Rattle.attention.specs.Result.{Matched};
 ghost use Rattle.attention.specs.Promise.{outcomeOf, answerOf, Made, Promise};
 
@@ -81,7 +83,7 @@ fn match_runs(
     n: usize,
     out: &mut [u8],
 ) -> Answer
-    requires { ⌜ Loadable (now s) d e (now w) × Ready crate (documentOf (now s) d) (eventsOf (now s) d e) options n (now w) ⌝ }
+    requires { ⌜ GoodRecord (now s) d e × Room (now w) × Ready crate (documentOf (now s) d) (eventsOf (now s) d e) options n (now w) ⌝ }
     ensures { λ r. ⌜ Made crate (now (s .entry)) d e options (now (out .entry)) r (now (out .exit)) ⌝ }
 {
     let single = option_on(options, OPTION_SINGLE_TILDE);
@@ -98,7 +100,7 @@ fn match_runs(
 
 // Numbers 6 to 8, or the section: of a good record with these two counts.
 fn resolve_good(s: &[u8], d: usize, e: usize, options: u32, w: &mut [u8], out: &mut [u8]) -> Answer
-    requires { ⌜ Loadable (now s) d e (now w) ⌝ }
+    requires { ⌜ GoodRecord (now s) d e × Room (now w) ⌝ }
     ensures { λ r. ⌜ Made crate (now (s .entry)) d e options (now (out .entry)) r (now (out .exit)) ⌝ }
 {
     match load(s, d, e, options, w) {

@@ -19,7 +19,7 @@ use Rattle.record.specs.declared.check.Reading.{Reading}
 use Rattle.record.specs.declared.check.Reading.the-variants.{Good, Refused}
 use Rattle.record.specs.declared.event.Event.{Event}
 use Rattle.record.proofs.Exactly.{exactly}
-use Rattle.record.proofs.Good.{admission}
+use Rattle.record.proofs.Good.{events-are-sound, admission}
 use Rattle.record.proofs.Parts.{length-document}
 use Rattle.record.proofs.Sections.{length-section}
 use Rattle.record.proofs.Output.{onto-bytes, onto-rest, onto-none}
@@ -95,7 +95,7 @@ pub no-row-sound : (s : List ℕ) (options works : ℕ) → ((n p : ℕ) → Row
 no-row-sound s options works none =
     let good = admission s options works (documentCount s) (eventCount s) (exactly s options works .accepted none) .good in
     let whole = good .whole in
-    (length-document s (documentCount s) (omega arith), good .sound-events)
+    (length-document s (documentCount s) (omega arith), events-are-sound good)
 
 pub read-claim : (s : List ℕ) (options : ℕ) → ReadClaim s options
 read-claim s options =

@@ -12,7 +12,7 @@ use Rattle.record.specs.Rows.{documentCount, eventCount}
 use Rattle.record.specs.Written.{Judges, ExactlyWritten}
 use Rattle.record.specs.declared.event.Event.{Event}
 use Rattle.record.specs.declared.check.Reading.the-variants.{Good}
-use Rattle.record.proofs.Good.{admission}
+use Rattle.record.proofs.Good.{events-are-sound, admission}
 use Rattle.record.proofs.ExactlyWritten.{exactly-written}
 use Rattle.heading.specs.Headings.{headings}
 use Rattle.heading.specs.Shape.{Broken, Earliest}
@@ -33,7 +33,7 @@ exactly-resolved s options works outs =
     judges : admitted s options works ≡ Good (documentCount s) (eventCount s) →
         Judges (Broken (eventsOf s (documentCount s) (eventCount s))) (headings (eventsOf s (documentCount s) (eventCount s)))
     judges q =
-        let s₁ = admission s options works (documentCount s) (eventCount s) q .good .sound-events in
+        let s₁ = events-are-sound (admission s options works (documentCount s) (eventCount s) q .good) in
         record {
           earliest = λ k e.
               let f = earliest-offends (eventsOf s (documentCount s) (eventCount s)) 64 (documentCount s) k s₁ e in

@@ -9,10 +9,9 @@ use record::check::Reading;
 use record::check::Refusal;
 use record::check::admit;
 use record::limits::MAX_RESULT;
-ghost use mathlib.Core.Path.{_≡_};
-ghost use Prim.Native.Nat.{_+_, _*_, _≤_};
 ghost use lib.ListN.{length};
 ghost use Rattle.record.specs.Event.{eventsOf};
+ghost use Rattle.record.specs.Good.{GoodRecord};
 ghost use Rattle.record.specs.Outcome.{settled};
 ghost use Rattle.record.specs.Promise.{Answered};
 ghost use Rattle.heading.specs.Headings.{headings};
@@ -26,7 +25,7 @@ pub enum Answer {
 
 // Numbers 6 to 8, or the section: of a good record with these two counts.
 pub fn settle(s: &[u8], d: usize, e: usize, out: &mut [u8]) -> Answer
-    requires { ⌜ (d ≤ 16384) × (e ≤ 2048) × (length (now s) ≡ 8 + d + 8 * e) ⌝ }
+    requires { ⌜ GoodRecord (now s) d e ⌝ }
     ensures { λ r. ⌜ Answered (settled d (headings (eventsOf (now (s .entry)) d e)) (length (now (out .entry)))) answerOf (now (out .entry)) r (now (out .exit)) ⌝ }
 {
     let from = 8 + d;

@@ -16,11 +16,13 @@ use Rattle.record.specs.Choice.{choose, and}
 use Rattle.record.specs.Event.{eventAt, documentOf}
 use Rattle.record.specs.Stack.{upTo, outer, after}
 use Rattle.record.specs.Sound.{soundFrom}
+use Rattle.record.specs.Good.{GoodRecord}
 use Rattle.record.specs.declared.event.Event.{Event}
 use Rattle.record.proofs.Bools.{and-false}
+use Rattle.record.proofs.Good.{events-are-sound}
 use Rattle.record.proofs.Names.{pushed, popped}
 use Rattle.record.proofs.Soundness.{Stands, stands, sound-rest, after-enter, after-exit}
-use Rattle.list.specs.Walk.{Checked, onward, nearest, markIn, offendersIn, note, notes, adds, added}
+use Rattle.list.specs.Walk.{onward, nearest, markIn, offendersIn, note, notes, adds, added}
 use Rattle.list.specs.Noting.{Noted}
 use Rattle.list.specs.declared.chain.Findings.the-variants.{Added, Offends}
 use Rattle.list.proofs.Onward.{onward-none, onward-some, onward-whole}
@@ -95,7 +97,7 @@ pub record Noting (document s : List ℕ) (d e : ℕ) (work marks : List ℕ) (o
   pub noted : take i work ++ notes document joined (upTo opened marks) (onward s d e i) ≡ notes document false [] (onward s d e 0)
   pub sum : count + added (notes document joined (upTo opened marks) (onward s d e i)) ≡ added (notes document false [] (onward s d e 0))
 
-pub start : (s : List ℕ) (d e : ℕ) (work marks : List ℕ) → Checked s d e → 2048 ≤ length work → length marks ≡ 64 →
+pub start : (s : List ℕ) (d e : ℕ) (work marks : List ℕ) → GoodRecord s d e → 2048 ≤ length work → length marks ≡ 64 →
     Noting (documentOf s d) s d e work marks 0 false false 0 0
 unfolding items
 start s d e work marks c r l =
@@ -107,7 +109,7 @@ start s d e work marks c r l =
       shallow = omega arith;
       last = 0;
       held = [];
-      good = ap (λ es. soundFrom 64 d 0 [] es) (onward-whole s d e) ∙ c .good;
+      good = ap (λ es. soundFrom 64 d 0 [] es) (onward-whole s d e) ∙ events-are-sound c;
       open-items = refl;
       bad = refl;
       noted = refl;

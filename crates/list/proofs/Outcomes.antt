@@ -10,19 +10,20 @@ use lib.Dec.{eqb}
 use borrow.Author.Tests.{lt-ltb, le-ltb}
 use Rattle.record.specs.Choice.{choose}
 use Rattle.record.specs.Event.{documentOf, eventsOf, sectionBytes, enter, exit}
+use Rattle.record.specs.Good.{GoodRecord}
 use Rattle.record.specs.Check.{admitted}
 use Rattle.record.specs.Outcome.{offends, gives, sized, onto}
 use Rattle.record.specs.Promise.{Answered}
 use Rattle.record.specs.declared.event.Event.{Event}
 use Rattle.record.specs.declared.check.Refusal.{Refusal}
 use Rattle.record.specs.declared.check.Reading.the-variants as reading
-use Rattle.record.proofs.Good.{admission}
+use Rattle.record.proofs.Good.{events-are-sound}
 use Rattle.record.proofs.Output.{onto-none}
 use Rattle.record.proofs.Sections.{length-eventsAt}
 use Rattle.list.specs.Tree.{Row, written, treeOf}
 use Rattle.list.proofs.Reading.{tree-written}
 use Rattle.list.specs.Lists.{offenders, listed, settling, lists}
-use Rattle.list.specs.Walk.{Checked, onward, offendersIn, notes, noted, spliced, added}
+use Rattle.list.specs.Walk.{onward, offendersIn, notes, noted, spliced, added}
 use Rattle.list.specs.Noting.{finding, Noted}
 use Rattle.list.specs.Promise.{outcomeOf, answerOf}
 use Rattle.list.specs.declared.chain.Findings.{Findings}
@@ -86,9 +87,9 @@ nothing-walked : (document : List ℕ) (row : Row) → listed document false row
 unfolding walked spliced notes
 nothing-walked document row = refl
 
-module _ (s : List ℕ) (d e : ℕ) (c : Checked s d e) where
+module _ (s : List ℕ) (d e : ℕ) (c : GoodRecord s d e) where
   tree-whole : written (treeOf (eventsOf s d e)) [] ≡ onward s d e 0
-  tree-whole = tree-written 64 d (eventsOf s d e) (c .good) ∙ sym (onward-whole s d e)
+  tree-whole = tree-written 64 d (eventsOf s d e) (events-are-sound c) ∙ sym (onward-whole s d e)
 
   same-offenders : offendersIn (documentOf s d) 0 false (onward s d e 0) ≡ offenders (documentOf s d) 0 false (treeOf (eventsOf s d e)) []
   unfolding offendersIn
@@ -146,16 +147,6 @@ module _ (s : List ℕ) (d e : ℕ) (c : Checked s d e) where
           let long : length (spliced (notes (documentOf s d) false [] (onward s d e 0)) (onward s d e 0)) ≡ length (onward s d e 0) + added (notes (documentOf s d) false [] (onward s d e 0)) =
           spliced-long (notes (documentOf s d) false [] (onward s d e 0)) (onward s d e 0) (notes-long (documentOf s d) false [] (onward s d e 0)) in
           omega (arith, ap length noted-same, long, found .1, onward-long)
-
--- what the check tells
-module _ (s : List ℕ) (options works d e : ℕ) (g : reading.Good d e ≡ admitted s options works) where
-  pub checked-record : Checked s d e
-  checked-record =
-      let t = admission s options works d e (sym g) .good in
-      record { small = t .small; few = t .few; whole = t .whole; good = t .sound-events }
-
-  pub enough-work : 65536 ≤ works
-  enough-work = admission s options works d e (sym g) .memory
 
 -- the answer and the output, case by case
 module _ (s : List ℕ) (options works : ℕ) (out : List ℕ) where

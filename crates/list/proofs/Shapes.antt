@@ -11,14 +11,16 @@ use lib.Dec.{eqb}
 use borrow.Author.Tests.{eq-eqb, ne-eqb}
 use Rattle.record.specs.Choice.{choose, and}
 use Rattle.record.specs.Bytes.{u32At}
-use lib.Seq.{getD-take, getD-drop}
 use Rattle.record.specs.Event.{eventAt, eventsAt, documentOf, eventsOf}
 use Rattle.record.specs.Stack.{after}
 use Rattle.record.specs.Sound.{soundFrom}
+use Rattle.record.specs.Good.{GoodRecord}
+use Rattle.record.proofs.Good.{events-are-sound}
+use Rattle.record.proofs.Parts.{document-byte}
 use Rattle.record.proofs.Soundness.{stands, sound-rest}
 use Rattle.record.specs.declared.event.Event.{Event}
 use Rattle.list.specs.Item.{known}
-use Rattle.list.specs.Walk.{onward, tail, head, first, firstLeaf, behindLeaf, markOver, markerIn, prefixIn, markIn, Checked}
+use Rattle.list.specs.Walk.{onward, tail, head, first, firstLeaf, behindLeaf, markOver, markerIn, prefixIn, markIn}
 use Rattle.record.proofs.Bools.{and-right}
 use Rattle.list.proofs.Onward.{split-at, onward-none, onward-some, onward-tail}
 
@@ -112,14 +114,9 @@ within (suc n) s d at last held q (suc k) h =
     let z : at + 8 * suc k + 4 ≡ at + 8 + 8 * k + 4 = omega arith in
     rw z (within n s d (at + 8) (eventAt s at .place) (after (eventAt s at) (eventAt s at .name) held) (sound-rest 64 d last held (eventAt s at) (eventsAt n s (at + 8)) q) k (omega arith))
 
-pub placed-within : (s : List ℕ) (d e k : ℕ) → Checked s d e → k < e → u32At s (8 + d + 8 * k + 4) ≤ d
+pub placed-within : (s : List ℕ) (d e k : ℕ) → GoodRecord s d e → k < e → u32At s (8 + d + 8 * k + 4) ≤ d
 unfolding eventsOf
-placed-within s d e k c h = within e s d (8 + d) 0 [] (c .good) k h
-
--- the byte of the document at a place
-pub byte-at : (s : List ℕ) (d p : ℕ) → p < d → getD (documentOf s d) p 0 ≡ getD s (4 + p) 0
-unfolding documentOf
-byte-at s d p h = rw (getD-take, getD-drop)
+placed-within s d e k c h = within e s d (8 + d) 0 [] (events-are-sound c) k h
 
 -- the mark that a pair lies over
 module _ (s : List ℕ) (d e i p q : ℕ) (h : i + 1 < e) (hp : p ≡ u32At s (8 + d + 8 * i + 4)) (hq : q ≡ u32At s (8 + d + 8 * i + 12)) where
@@ -137,9 +134,9 @@ module _ (s : List ℕ) (d e i p q : ℕ) (h : i + 1 < e) (hp : p ≡ u32At s (8
 
   pub over-one : q ≡ p + 1 → p < d → (m : ℕ) → m ≡ known (getD s (4 + p) 0) → m ≡ markOver (documentOf s d) (onward s d e i)
   unfolding markOver choose
-  over-one x l m em = em ∙ sym (rw (from-place, to-place, eq-eqb _ _ x, byte-at s d p l))
+  over-one x l m em = em ∙ sym (rw (from-place, to-place, eq-eqb _ _ x, document-byte s d p l))
 
-  pub inside-document : Checked s d e → q ≡ p + 1 → p < d
+  pub inside-document : GoodRecord s d e → q ≡ p + 1 → p < d
   inside-document c x =
       let k : 8 + d + 8 * (i + 1) + 4 ≡ 8 + d + 8 * i + 12 = omega arith in
       let w : u32At s (8 + d + 8 * i + 12) ≤ d = rw k at (placed-within s d e (i + 1) c h) in

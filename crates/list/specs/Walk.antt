@@ -1,26 +1,17 @@
 -- The same, read off the events one by one: what the inner functions promise. proofs/Trees.antt shows that over the events of a tree it is
 -- what specs/Lists.antt has.
 -- Assumes nothing.
-use Prim.Native.Nat.{ℕ, _+_, _*_, _-_, _≤_}
-use mathlib.Core.Path.{_≡_}
+use Prim.Native.Nat.{ℕ, _+_, _*_, _-_}
 use mathlib.Core.Bool.{Bool, true, false}
 use mathlib.Core.List.{List, [], _∷_}
-use lib.ListN.{length, getD}
+use lib.ListN.{getD}
 use lib.Dec.{eqb}
 use Rattle.record.specs.Choice.{choose, and}
-use Rattle.record.specs.Event.{event, enter, exit, eventsAt, eventsOf}
+use Rattle.record.specs.Event.{event, enter, exit, eventsAt}
 use Rattle.record.specs.Stack.{outer}
-use Rattle.record.specs.Sound.{sound}
 use Rattle.record.specs.declared.event.Event.{Event}
 use Rattle.list.specs.Item.{known}
 use Rattle.list.specs.Lists.{isItem, between, listName}
-
--- what the check has found of a record
-pub record Checked (s : List ℕ) (d e : ℕ) : Type 0 where
-  pub small : d ≤ 16384
-  pub few : e ≤ 2048
-  pub whole : length s ≡ 8 + d + 8 * e
-  pub good : sound 64 d (eventsOf s d e) ≡ true
 
 -- the events of a record from event i on
 unfoldable pub onward : List ℕ → ℕ → ℕ → ℕ → List Event

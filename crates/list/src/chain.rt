@@ -17,8 +17,9 @@ ghost use mathlib.Core.Path.{_≡_};
 ghost use Prim.Native.Nat.{_+_, _≤_};
 ghost use lib.ListN.{length};
 ghost use Rattle.record.specs.Event.{documentOf};
+ghost use Rattle.record.specs.Good.{GoodRecord};
 ghost use Rattle.list.specs.Lists.{between, listName};
-ghost use Rattle.list.specs.Walk.{Checked, onward, passing, nearest, note, adds};
+ghost use Rattle.list.specs.Walk.{onward, passing, nearest, note, adds};
 ghost use Rattle.list.specs.Noting.{Noted};
 
 // The marks of the items that are open.
@@ -61,7 +62,7 @@ pub fn passes(depth: usize, name: u8) -> bool
 
 // The mark of the neighbouring item behind event i - 1, which is an item's exit, or 0.
 pub fn next_mark(s: &[u8], d: usize, e: usize, i: usize) -> u8
-    requires { ⌜ Checked (now s) d e × (i ≤ e) ⌝ }
+    requires { ⌜ GoodRecord (now s) d e × (i ≤ e) ⌝ }
     ensures { λ r. ⌜ r ≡ nearest (documentOf (now (s .entry)) d) 0 (onward (now (s .entry)) d e i) ⌝ }
 {
     let mut k = i;
@@ -126,7 +127,7 @@ pub fn more(n: u8) -> usize
 
 // The first pass: a note for each event, or the earliest offending item.
 pub fn note_lists(s: &[u8], d: usize, e: usize, work: &mut [u8]) -> Findings
-    requires { ⌜ Checked (now s) d e × (2048 ≤ length (now work)) ⌝ }
+    requires { ⌜ GoodRecord (now s) d e × (2048 ≤ length (now work)) ⌝ }
     ensures { λ r. ⌜ Noted (now (s .entry)) d e r (now (work .exit)) ⌝ }
 {
     let mut held = Items {

@@ -14,12 +14,13 @@ use record::limits::SPACE_OR_TAB;
 ghost use mathlib.Core.Path.{_≡_};
 ghost use Prim.Native.Nat.{_+_, _≤_, _<_};
 ghost use Rattle.record.specs.Event.{documentOf};
+ghost use Rattle.record.specs.Good.{GoodRecord};
 ghost use Rattle.list.specs.Item.{known};
-ghost use Rattle.list.specs.Walk.{Checked, onward, first, firstLeaf, behindLeaf, markOver, markIn};
+ghost use Rattle.list.specs.Walk.{onward, first, firstLeaf, behindLeaf, markOver, markIn};
 
 // Whether event i is there and has this kind and name.
 pub fn stands(s: &[u8], d: usize, e: usize, i: usize, kind: u8, name: u8) -> bool
-    requires { ⌜ Checked (now s) d e × (i ≤ 4096) ⌝ }
+    requires { ⌜ GoodRecord (now s) d e × (i ≤ 4096) ⌝ }
     ensures { λ r. ⌜ r ≡ first kind name (onward (now (s .entry)) d e i) ⌝ }
 {
     if i >= e {
@@ -34,7 +35,7 @@ pub fn stands(s: &[u8], d: usize, e: usize, i: usize, kind: u8, name: u8) -> boo
 
 // Whether a leaf pair of this name stands at event i.
 pub fn leaf(s: &[u8], d: usize, e: usize, i: usize, name: u8) -> bool
-    requires { ⌜ Checked (now s) d e × (i ≤ 4095) ⌝ }
+    requires { ⌜ GoodRecord (now s) d e × (i ≤ 4095) ⌝ }
     ensures { λ r. ⌜ r ≡ firstLeaf name (onward (now (s .entry)) d e i) ⌝ }
 {
     if !stands(s, d, e, i, ENTER, name) {
@@ -45,7 +46,7 @@ pub fn leaf(s: &[u8], d: usize, e: usize, i: usize, name: u8) -> bool
 
 // The event behind a leaf pair of this name that stands at event i, or i.
 pub fn past_leaf(s: &[u8], d: usize, e: usize, i: usize, name: u8) -> usize
-    requires { ⌜ Checked (now s) d e × (i ≤ 4095) ⌝ }
+    requires { ⌜ GoodRecord (now s) d e × (i ≤ 4095) ⌝ }
     ensures { λ r. ⌜ (r ≤ i + 2) × (onward (now (s .entry)) d e r ≡ behindLeaf name (onward (now (s .entry)) d e i)) ⌝ }
 {
     if leaf(s, d, e, i, name) {
@@ -78,7 +79,7 @@ pub fn known_mark(byte: u8) -> u8
 
 // The mark that the pair at event i lies over, or 0 where it is not over one byte.
 pub fn mark_over(s: &[u8], d: usize, e: usize, i: usize) -> u8
-    requires { ⌜ Checked (now s) d e × (i + 1 < e) ⌝ }
+    requires { ⌜ GoodRecord (now s) d e × (i + 1 < e) ⌝ }
     ensures { λ r. ⌜ r ≡ markOver (documentOf (now (s .entry)) d) (onward (now (s .entry)) d e i) ⌝ }
 {
     let at = 8 + d + 8 * i;
@@ -91,7 +92,7 @@ pub fn mark_over(s: &[u8], d: usize, e: usize, i: usize) -> u8
 
 // The mark of the item whose enter is the event before i, or 0 where its shape is broken.
 pub fn item_mark(s: &[u8], d: usize, e: usize, i: usize) -> u8
-    requires { ⌜ Checked (now s) d e × (i ≤ e) ⌝ }
+    requires { ⌜ GoodRecord (now s) d e × (i ≤ e) ⌝ }
     ensures { λ r. ⌜ r ≡ markIn (documentOf (now (s .entry)) d) (onward (now (s .entry)) d e i) ⌝ }
 {
     let prefix = past_leaf(s, d, e, i, SPACE_OR_TAB);

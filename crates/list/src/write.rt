@@ -11,8 +11,9 @@ ghost use Prim.Native.Nat.{_+_, _*_, _≤_};
 ghost use lib.ListN.{length};
 ghost use Rattle.record.specs.Bytes.{Wrote};
 ghost use Rattle.record.specs.Event.{event, flat, sectionBytes};
+ghost use Rattle.record.specs.Good.{GoodRecord};
 ghost use Rattle.record.specs.Outcome.{onto};
-ghost use Rattle.list.specs.Walk.{Checked, onward, noted, spliced};
+ghost use Rattle.list.specs.Walk.{onward, noted, spliced};
 
 // One event with what its note adds, at a place of the output; the place behind.
 pub fn put_noted(out: &mut [u8], at: usize, kind: u8, name: u8, place: usize, n: u8) -> usize
@@ -36,7 +37,7 @@ pub fn put_noted(out: &mut [u8], at: usize, kind: u8, name: u8, place: usize, n:
 
 // The section of the events with what their notes add, of which there are `count` in all.
 pub fn write_lists(out: &mut [u8], s: &[u8], d: usize, e: usize, work: &[u8], count: usize)
-    requires { ⌜ Checked (now s) d e × (e ≤ length (now work)) × (length (spliced (now work) (onward (now s) d e 0)) ≡ count) × (4 + 8 * count ≤ length (now out)) ⌝ }
+    requires { ⌜ GoodRecord (now s) d e × (e ≤ length (now work)) × (length (spliced (now work) (onward (now s) d e 0)) ≡ count) × (4 + 8 * count ≤ length (now out)) ⌝ }
     ensures { λ _. ⌜ now (out .exit) ≡ onto (sectionBytes (spliced (now (work .entry)) (onward (now (s .entry)) d e 0))) (now (out .entry)) ⌝ }
 {
     put_u32(out, 0, count);

@@ -3,4 +3,3 @@ pub mod Slotting
 pub mod Settles
 pub mod Steps
 pub mod Walk
-pub mod Asked

@@ -13,7 +13,9 @@ use borrow.Author.Tests.{eqb-true, eqb-false}
 use Rattle.record.specs.Bytes.{u32At}
 use Rattle.record.specs.Event.{documentOf, eventAt, eventsAt, eventsOf}
 use Rattle.record.specs.Stack.{upTo, outer, after}
+use Rattle.record.specs.Good.{GoodRecord}
 use Rattle.record.proofs.Names.{pushed, popped, empty}
+use Rattle.record.proofs.Good.{events-are-sound}
 use Rattle.record.proofs.Parts.{events-cons}
 use Rattle.record.proofs.Soundness.{Stands, after-enter, after-exit}
 use Rattle.runs.specs.Runs.{Run, innermostOf, runOf, runsOf, shaped, offender}
@@ -21,9 +23,10 @@ use Rattle.runs.specs.Rule.{Profile}
 use Rattle.runs.specs.Plain.{Standing, at}
 use Rattle.runs.specs.Chains.{containerNumber}
 use Rattle.runs.specs.Pieces.{standing}
+use Rattle.slots.specs.Layout.{Room}
 use Rattle.loading.specs.Held.{Slotted, Holds}
 use Rattle.loading.specs.Filling.{Keeps, Settling, Settled}
-use Rattle.loading.specs.Promise.{Loadable, Ready, Loads}
+use Rattle.loading.specs.Promise.{Ready, Loads}
 use Rattle.loading.specs.declared.pass.Loaded.the-variants.{Runs, Offends}
 use Rattle.loading.proofs.Steps.{Reached, Shape, enters, no-enter, other-enter, none-left, all-found, standing-here, passed, followed, next-inside, offends, run-entered, next-alone, shape-tells}
 
@@ -63,7 +66,7 @@ module _ (f : Run → Standing) where
 
 -- where a turn begins
 pub record Walking (profile : Profile) (s : List ℕ) (d e options : ℕ) (w₀ w numbers : List ℕ) (depth i n : ℕ) : Type 0 where
-  pub asked : Loadable s d e w₀
+  pub good : GoodRecord s d e
   pub names : List ℕ
   pub last : ℕ
   pub done : List Run
@@ -77,18 +80,18 @@ pub record Walking (profile : Profile) (s : List ℕ) (d e options : ℕ) (w₀ 
   pub holds : Holds w (map (standing profile options) done)
   pub same-length : length w ≡ length w₀
 
-pub start : (profile : Profile) (s : List ℕ) (d e options : ℕ) (w numbers : List ℕ) (depth : ℕ) → Loadable s d e w → depth ≡ 0 → length numbers ≡ 64 →
+pub start : (profile : Profile) (s : List ℕ) (d e options : ℕ) (w numbers : List ℕ) (depth : ℕ) → GoodRecord s d e → depth ≡ 0 → length numbers ≡ 64 →
     Walking profile s d e options w w numbers depth 0 0
 unfolding eventsOf offender runsOf
-start profile s d e options w numbers depth p z l =
+start profile s d e options w numbers depth g z l =
     let a : e - 0 ≡ e = omega arith in
     let b : 8 + d + 8 * 0 ≡ 8 + d = omega arith in
     record {
-      asked = p;
+      good = g;
       names = [];
       last = 0;
       done = [];
-      reached = rw (a, b, empty depth numbers z) (record { sound = p .sound-events; judged = refl; found = refl });
+      reached = rw (a, b, empty depth numbers z) (record { sound = events-are-sound g; judged = refl; found = refl });
       within = omega arith;
       array = l;
       low = λ k h. absurd (omega arith);
@@ -110,7 +113,7 @@ module _ {profile : Profile} {s : List ℕ} {d e options : ℕ} {w₀ w numbers 
   finished h =
       let a : v .done ≡ runsOf (documentOf s d) (eventsOf s d e) = all-found (v .reached) (omega (arith, v .within)) in
       let b : length (v .done) ≡ n = v .count in
-      let p : e ≤ 2048 = v .asked .few in
+      let p : e ≤ 2048 = v .good .few in
       let q : 2 * n ≤ i = v .pairs in
       let r : i ≤ e = v .within in
       record {
@@ -128,7 +131,7 @@ module _ {profile : Profile} {s : List ℕ} {d e options : ℕ} {w₀ w numbers 
   pub container-top : 0 < depth → Container numbers depth (getD numbers (depth - 1) 0 + 1)
   container-top h =
       let l : getD numbers (depth - 1) 0 < e = v .low (depth - 1) (omega arith) in
-      let p : e ≤ 2048 = v .asked .few in
+      let p : e ≤ 2048 = v .good .few in
       record { number = rw (popped depth numbers h); known = omega arith }
 
   module _ (more : i < e) where
@@ -159,7 +162,7 @@ module _ {profile : Profile} {s : List ℕ} {d e options : ℕ} {w₀ w numbers 
         let y : after (eventAt s (8 + d + 8 * i)) (getD s (8 + d + 8 * i + 1) 0) (v .names) ≡ outer (v .names) = after-exit (eventAt s (8 + d + 8 * i)) (getD s (8 + d + 8 * i + 1) 0) (v .names) (exits k) in
         let z = passed (v .reached) (e - (i + 1)) (omega arith) (no-enter (eventAt s (8 + d + 8 * i)) k) in
         record {
-          asked = v .asked;
+          good = v .good;
           names = outer (v .names);
           last = u32At s (8 + d + 8 * i + 4);
           done = v .done;
@@ -192,7 +195,7 @@ module _ {profile : Profile} {s : List ℕ} {d e options : ℕ} {w₀ w numbers 
           let y : after (eventAt s (8 + d + 8 * i)) (getD s (8 + d + 8 * i + 1) 0) (v .names) ≡ getD s (8 + d + 8 * i + 1) 0 ∷ v .names = after-enter (eventAt s (8 + d + 8 * i)) (getD s (8 + d + 8 * i + 1) 0) (v .names) k in
           let z = passed (v .reached) (e - (i + 1)) (omega arith) (other-enter (eventAt s (8 + d + 8 * i)) k m) in
           record {
-            asked = v .asked;
+            good = v .good;
             names = getD s (8 + d + 8 * i + 1) 0 ∷ v .names;
             last = u32At s (8 + d + 8 * i + 4);
             done = v .done;
@@ -244,25 +247,23 @@ module _ {profile : Profile} {s : List ℕ} {d e options : ℕ} {w₀ w numbers 
           pub slot-free : n < 1024
           slot-free =
               let f : i + 1 < e = not-last in
-              let p : e ≤ 2048 = v .asked .few in
+              let p : e ≤ 2048 = v .good .few in
               let r : 2 * n ≤ i = v .pairs in
               omega arith
 
-          pub settling : {container : ℕ} → Container numbers depth container → Settling s d (8 + d + 8 * i) container w n
-          settling {container} c =
+          pub settling : {container : ℕ} → Container numbers depth container → Room w → Settling s d (8 + d + 8 * i) container w n
+          settling {container} c room =
               let f : i + 1 < e = not-last in
-              let l : length s ≡ 8 + d + 8 * e = v .asked .whole in
-              let g : length w ≡ length w₀ = v .same-length in
-              let h : 38726 ≤ length w₀ = v .asked .room in
+              let l : length s ≡ 8 + d + 8 * e = v .good .whole in
               record {
                 document = omega arith;
-                small = v .asked .small;
+                small = v .good .small;
                 events = omega arith;
                 later = tells .later;
                 inside = next-place;
                 known = c .known;
                 slot = slot-free;
-                room = omega arith;
+                room = room;
               }
 
           -- a run leaves what was open before it
@@ -285,7 +286,7 @@ module _ {profile : Profile} {s : List ℕ} {d e options : ℕ} {w₀ w numbers 
               let z = passed r (e - (i + 1 + 1)) (omega arith) (no-enter (eventAt s (8 + d + 8 * i + 8)) (λ (y : getD s (8 + d + 8 * i + 8) 0 ≡ 0). omega arith)) in
               let es = events-cons (e - (i + 1)) (e - (i + 1 + 1)) s (8 + d + 8 * i + 8) (omega arith) in
               record {
-                asked = v .asked;
+                good = v .good;
                 names = v .names;
                 last = u32At s (8 + d + 8 * i + 8 + 4);
                 done = v .done ++ (runOf (documentOf s d) (eventAt s (8 + d + 8 * i)) (eventsAt (e - (i + 1)) s (8 + d + 8 * i + 8)) i (upTo depth numbers) ∷ []);

@@ -1,30 +1,19 @@
--- What the load pass asks and what it promises.
+-- What the load pass promises. It asks for a good record and enough memory.
 -- Assumes nothing.
-use Prim.Native.Nat.{ℕ, _+_, _*_, _≤_}
+use Prim.Native.Nat.{ℕ, _≤_}
 use mathlib.Core.Path.{_≡_, refl}
-use mathlib.Core.Bool.{true}
 use mathlib.Core.List.{List, map}
 use mathlib.Core.Option.{none, some}
 use native.Mathlib.Omega.{arith}
 use lib.ListN.{length}
 use Rattle.record.specs.Event.{documentOf, eventsOf}
-use Rattle.record.specs.Sound.{sound}
 use Rattle.record.specs.declared.event.Event.{Event}
 use Rattle.runs.specs.Runs.{offender, runsOf}
 use Rattle.runs.specs.Rule.{Profile}
 use Rattle.runs.specs.Pieces.{standing}
-use Rattle.slots.specs.Layout.{Room}
 use Rattle.loading.specs.declared.pass.Loaded.{Loaded}
 use Rattle.loading.specs.declared.pass.Loaded.the-variants.{Runs, Offends}
 use Rattle.loading.specs.Held.{Holds}
-
--- a good record with these counts, and enough memory
-pub record Loadable (s : List ℕ) (d e : ℕ) (w : List ℕ) : Type 0 where
-  pub small : d ≤ 16384
-  pub few : e ≤ 2048
-  pub whole : length s ≡ 8 + d + 8 * e
-  pub sound-events : sound 64 d (eventsOf s d e) ≡ true
-  pub room : Room w
 
 -- no run breaks the shape rule, and the first n slots hold the runs, flanking as a profile has it
 pub record Ready (profile : Profile) (doc : List ℕ) (es : List Event) (options n : ℕ) (w′ : List ℕ) : Type 0 where

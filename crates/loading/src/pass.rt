@@ -8,8 +8,10 @@ use record::limits::ATTENTION_SEQUENCE;
 use record::limits::ENTER;
 ghost use mathlib.Core.Path.{_≡_};
 ghost use lib.ListN.{length};
+ghost use Rattle.record.specs.Good.{GoodRecord};
 ghost use Rattle.runs.specs.Rule.{crate};
-ghost use Rattle.loading.specs.Promise.{Loadable, Loads};
+ghost use Rattle.slots.specs.Layout.{Room};
+ghost use Rattle.loading.specs.Promise.{Loads};
 
 // How many runs the slots hold, or the number of the enter event of the first run whose shape is broken.
 pub enum Loaded {
@@ -35,7 +37,7 @@ fn outside() -> Inside
 
 // Puts the runs of the record into the slots of work memory, or names the first that is no run. Heads of chains are not touched.
 pub fn load(s: &[u8], d: usize, e: usize, options: u32, w: &mut [u8]) -> Loaded
-    requires { ⌜ Loadable (now s) d e (now w) ⌝ }
+    requires { ⌜ GoodRecord (now s) d e × Room (now w) ⌝ }
     ensures { λ r. ⌜ Loads crate (now (s .entry)) d e options (now (w .entry)) r (now (w .exit)) ⌝ }
 {
     let mut inside = outside();

@@ -7,12 +7,13 @@ use Prim.Native.Nat.{ℕ, _+_, _*_, _≤_, _<_}
 use native.Mathlib.Omega.{arith}
 use lib.ListN.{length}
 use Rattle.record.specs.Bytes.{u32At}
+use Rattle.record.specs.Form.{old}
 use Rattle.record.specs.Event.{eventsOf}
 use Rattle.record.specs.Stack.{nth}
 use Rattle.record.specs.Check.{checked}
 use Rattle.record.specs.declared.event.Event.{Event}
 use Rattle.record.specs.declared.check.Reading.the-variants.{Good}
-use Rattle.record.proofs.Good.{told}
+use Rattle.record.proofs.Good.{good-record}
 use Rattle.record.proofs.Parts.{nth-event}
 use Rattle.reader.specs.Read.{foundOf, foundAt, standingAt, countOf, eventNumber}
 use Rattle.reader.specs.declared.Found.the-variants.{End}
@@ -20,14 +21,14 @@ use Rattle.reader.proofs.Places.{found-event, count-after, number-count
 
 counted : (s : List ℕ) (d e : ℕ) → checked s ≡ Good d e → countOf s ≡ e
 counted s d e q =
-    let t = told s d e q in
+    let t = good-record old s d e q in
     let w : length s ≡ 8 + d + 8 * e = t .whole in
     count-after s d (sym (t .document-count)) (omega arith) ∙ t .event-count
 
 pub event-of-number : (s : List ℕ) (d e k : ℕ) → checked s ≡ Good d e → k < e → eventNumber s k ≡ foundOf (nth (eventsOf s d e) k)
 unfolding standingAt eventsOf
 event-of-number s d e k q h =
-    let t = told s d e q in
+    let t = good-record old s d e q in
     let w : length s ≡ 8 + d + 8 * e = t .whole in
     let n : countOf s ≡ e = counted s d e q in
     let p : 8 + u32At s 0 + 8 * k ≡ 8 + d + 8 * k = ap (λ (m : ℕ). 8 + m + 8 * k) (t .document-count) in

@@ -14,7 +14,8 @@ use Rattle.record.specs.Form.{Form, old, placeIn, mateIn}
 use Rattle.record.specs.Event.{Stored, storedAt, allStoredAt, eventAt, eventsBy, eventsAt, eventsIn, eventsOf}
 use Rattle.record.specs.Stack.{innermostOf, after, openAfter, openAt}
 use Rattle.record.specs.Sound.{soundFrom, sound}
-use Rattle.record.specs.Check.{refuse, countAt, fitting, firstReturn, formed, paired, truly, judge, insideOf, endOf, eventCountOf, checkedIn, checked, admitted}
+use Rattle.record.specs.Good.{GoodIn, GoodRecord}
+use Rattle.record.specs.Check.{refuse, countAt, fitting, firstReturn, formed, paired, truly, judge, insideOf, endOf, eventCountOf, checkedIn, admitted}
 use Rattle.record.specs.declared.event.Event.{Event}
 use Rattle.record.specs.declared.check.Count.{Count}
 use Rattle.record.specs.declared.check.Count.the-variants.{Fits, Misfit}
@@ -125,22 +126,9 @@ none-returned (suc n) s at h (suc k) l e =
     let z : at + suc k ≡ at + 1 + k = omega arith in
     none-returned n s (at + 1) (none-by _ _ _ _ h .1) k (omega arith) (ap (λ (m : ℕ). getD s m 0) (sym z) ∙ e)
 
--- what a good record of a form is
-pub record ToldIn (f : Form) (s : List ℕ) (d e : ℕ) : Type 0 where
-  pub document-count : u32At s (f .front) ≡ d
-  pub event-count : u32At s (4 + f .front + d) ≡ e
-  pub small : d ≤ 16384
-  pub few : e ≤ 2048
-  pub whole : length s ≡ placeIn f d e
-  pub no-return : (k : ℕ) → k < d → getD s (4 + f .front + k) 0 ≡ 13 → ⊥
-  pub sound-events : sound 64 d (eventsIn f s d e) ≡ true
-  pub zero-bytes : (k : ℕ) → k < e → storedAt s (placeIn f d k) .zeros ≡ 0
-  pub true-pairs : 12 ≤ f .width → (k : ℕ) → k < e → (eventAt s (placeIn f d k) .kind ≡ 0 → ⊥) →
-      (mateIn f s d k ≡ innermostOf (openAt (eventsIn f s d e) k)) × (mateIn f s d (innermostOf (openAt (eventsIn f s d e) k)) ≡ k)
-
-told-end : (f : Form) (s : List ℕ) (d′ e′ d e : ℕ) → Fitted s (f .front) 16384 1 d′ → Fitted s (4 + f .front + d′) 2048 (f .width) e′ → endOf f s d′ e′ ≡ Good d e → ToldIn f s d e
+good-end : (f : Form) (s : List ℕ) (d′ e′ d e : ℕ) → Fitted s (f .front) 16384 1 d′ → Fitted s (4 + f .front + d′) 2048 (f .width) e′ → endOf f s d′ e′ ≡ Good d e → GoodIn f s d e
 unfolding endOf insideOf eventsIn
-told-end f s d′ e′ d e fd fe q =
+good-end f s d′ e′ d e fd fe q =
     let r₁ = held-side _ _ _ _ _ _ q in
     let r₂ = other-side _ _ _ _ _ _ r₁ in
     let g : Good d′ e′ ≡ Good d e = same-good _ _ _ _ _ _ _ _ _ _ _ _ r₂ in
@@ -175,23 +163,12 @@ fitting-fits : (c : Count) (x : Reading) (f : ℕ → Reading) (n p d e : ℕ) �
 fitting-fits (Fits m) x f n p d e r q = (m, refl, q)
 fitting-fits Misfit x f n p d e r q = absurd (never n p d e (sym r ∙ q))
 
-pub told-in : (f : Form) (s : List ℕ) (d e : ℕ) → checkedIn f s ≡ Good d e → ToldIn f s d e
+pub good-record : (f : Form) (s : List ℕ) (d e : ℕ) → checkedIn f s ≡ Good d e → GoodIn f s d e
 unfolding checkedIn eventCountOf
-told-in f s d e q =
+good-record f s d e q =
     let a = fitting-fits (countAt s (f .front) 16384 1) (refuse 3 (f .front)) (λ n. eventCountOf f s n) 3 (f .front) d e refl q in
     let b = fitting-fits (countAt s (4 + f .front + a .0) 2048 (f .width)) (refuse 3 (4 + f .front + a .0)) (λ n. endOf f s (a .0) n) 3 (4 + f .front + a .0) d e refl (a .2) in
-    told-end f s (a .0) (b .0) d e (fitted _ _ _ _ _ (a .1)) (fitted _ _ _ _ _ (b .1)) (b .2)
-
--- what a good record of the old form is
-pub record Told (s : List ℕ) (d e : ℕ) : Type 0 where
-  pub document-count : u32At s 0 ≡ d
-  pub event-count : u32At s (4 + d) ≡ e
-  pub small : d ≤ 16384
-  pub few : e ≤ 2048
-  pub whole : length s ≡ 8 + d + 8 * e
-  pub no-return : (k : ℕ) → k < d → getD s (4 + k) 0 ≡ 13 → ⊥
-  pub sound-events : sound 64 d (eventsOf s d e) ≡ true
-  pub zero-bytes : (k : ℕ) → k < e → storedAt s (8 + d + 8 * k) .zeros ≡ 0
+    good-end f s (a .0) (b .0) d e (fitted _ _ _ _ _ (a .1)) (fitted _ _ _ _ _ (b .1)) (b .2)
 
 -- events of eight bytes
 events-by : (n : ℕ) (s : List ℕ) (at : ℕ) → eventsBy 8 n s at ≡ eventsAt n s at
@@ -199,26 +176,15 @@ unfolding eventsBy eventsAt
 events-by zero s at = refl
 events-by (suc n) s at = ap (λ (l : List Event). eventAt s at ∷ l) (events-by n s (at + 8))
 
-pub told : (s : List ℕ) (d e : ℕ) → checked s ≡ Good d e → Told s d e
+pub events-are-sound : {s : List ℕ} {d e : ℕ} → GoodRecord s d e → sound 64 d (eventsOf s d e) ≡ true
 unfolding eventsOf eventsIn
-told s d e q =
-    let t = told-in old s d e q in
-    record {
-      document-count = t .document-count;
-      event-count = t .event-count;
-      small = t .small;
-      few = t .few;
-      whole = t .whole;
-      no-return = t .no-return;
-      sound-events = ap (λ (l : List Event). sound 64 d l) (sym (events-by e s (8 + d))) ∙ t .sound-events;
-      zero-bytes = t .zero-bytes;
-    }
+events-are-sound {s} {d} {e} g = ap (λ (l : List Event). sound 64 d l) (sym (events-by e s (8 + d))) ∙ g .sound-events
 
 -- the same of a call's whole check, with the work memory and the options
 pub record Admitted (s : List ℕ) (options works d e : ℕ) : Type 0 where
   pub memory : 65536 ≤ works
   pub options-known : options ≤ 63
-  pub good : Told s d e
+  pub good : GoodRecord s d e
 
 pub admission : (s : List ℕ) (options works d e : ℕ) → admitted s options works ≡ Good d e → Admitted s options works d e
 unfolding admitted
@@ -227,5 +193,5 @@ admission s options works d e q =
     record {
       memory = ltb-false _ _ (other-test _ _ _ _ _ _ q);
       options-known = ltb-false _ _ (other-test _ _ _ _ _ _ r);
-      good = told s d e (other-side _ _ _ _ _ _ r);
+      good = good-record old s d e (other-side _ _ _ _ _ _ r);
     }

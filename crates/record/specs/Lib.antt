@@ -5,6 +5,7 @@ pub mod Form
 pub mod Event
 pub mod Stack
 pub mod Sound
+pub mod Good
 pub mod Check
 pub mod Order
 pub mod Rows

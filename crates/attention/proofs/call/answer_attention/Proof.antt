@@ -1,7 +1,8 @@
 -- `attention::call::answer_attention` meets its contract: each return is a case of the definition.
 -- Assumes nothing.
-use mathlib.Core.Path.{refl, sym, _∙_}
-use Rattle.attention.proofs.Calls.{refused-call, good-loadable, good-call}
+use mathlib.Core.Path.{sym, _∙_}
+use Rattle.record.proofs.Good.{admission}
+use Rattle.attention.proofs.Calls.{refused-call, good-call}
 use borrow.Author.Needs.{needs}
 use Rattle.attention.proofs.call.answer_attention.Statement.{statement}
 use Rattle.attention.proofs.call.answer_attention.Tie as tie
@@ -23,7 +24,7 @@ enum-known-document : tie.Need-enum-known-document
 enum-known-document c = search needs
 
 resolve-good-requires : tie.Need-resolve-good-requires
-resolve-good-requires c κs = good-loadable _ _ _ _ _ _ (sym (c .before .before .before .before .before .admit .ensures) ∙ c .before .before .before .document .given .1) refl
+resolve-good-requires c κs = let a = admission _ _ _ _ _ (sym (c .before .before .before .before .before .admit .ensures) ∙ c .before .before .before .document .given .1) in (a .good, search needs)
 
 same-length : tie.Need-same-length
 same-length c = search needs

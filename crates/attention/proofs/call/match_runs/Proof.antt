@@ -19,7 +19,7 @@ clear-heads-requires : tie.Need-clear-heads-requires
 clear-heads-requires c κs = search needs
 
 find-groups-requires : tie.Need-find-groups-requires
-find-groups-requires c κs = begun (c .before .before .before .before .before .before .before .before .before .pre .0) (c .before .before .before .before .before .before .before .before .before .pre .1) (c .before .before .before .clear-heads .ensures)
+find-groups-requires c κs = begun (c .before .before .before .before .before .before .before .before .before .pre .0) (c .before .before .before .before .before .before .before .before .before .pre .1) (c .before .before .before .before .before .before .before .before .before .pre .2) (c .before .before .before .clear-heads .ensures)
 
 enum-told : tie.Need-enum-told
 enum-told c = search needs
@@ -31,13 +31,13 @@ same-length : tie.Need-same-length
 same-length c = search needs
 
 returns : tie.Need-returns
-returns c = too-many (c .before .before .before .before .before .before .before .before .before .before .before .before .before .before .before .pre .0) (c .before .before .before .before .before .before .before .before .before .before .before .before .before .before .before .pre .1) (c .before .before .before .before .before .before .before .before .before .clear-heads .ensures) _ _ (by-crate _ (c .before .before .before .before .before .before .before .before .before .before .before .option-on .ensures) (c .before .before .before .before .before .find-groups .ensures)) (c .before .enum-told .given .1) _ _ (c .refused .ensures)
+returns c = too-many (c .before .before .before .before .before .before .before .before .before .before .before .before .before .before .before .pre .0) (c .before .before .before .before .before .before .before .before .before .before .before .before .before .before .before .pre .1) (c .before .before .before .before .before .before .before .before .before .before .before .before .before .before .before .pre .2) (c .before .before .before .before .before .before .before .before .before .clear-heads .ensures) _ _ (by-crate _ (c .before .before .before .before .before .before .before .before .before .before .before .option-on .ensures) (c .before .before .before .before .before .find-groups .ensures)) (c .before .enum-told .given .1) _ _ (c .refused .ensures)
 
 enum-known-groups : tie.Need-enum-known-groups
 enum-known-groups c = search needs
 
 finish-requires : tie.Need-finish-requires
-finish-requires c κs = matched (c .before .before .before .before .before .before .before .before .before .before .before .before .before .before .before .before .before .pre .0) (c .before .before .before .before .before .before .before .before .before .before .before .before .before .before .before .before .before .pre .1) (c .before .before .before .before .before .before .before .before .before .before .before .clear-heads .ensures) _ _ (by-crate _ (c .before .before .before .before .before .before .before .before .before .before .before .before .before .option-on .ensures) (c .before .before .before .before .before .before .before .find-groups .ensures)) _ _ (c .before .before .before .groups .given .1) (c .before .before .before .before .before .before .before .find-groups .kept .0)
+finish-requires c κs = matched (c .before .before .before .before .before .before .before .before .before .before .before .before .before .before .before .before .before .pre .0) (c .before .before .before .before .before .before .before .before .before .before .before .before .before .before .before .before .before .pre .1) (c .before .before .before .before .before .before .before .before .before .before .before .before .before .before .before .before .before .pre .2) (c .before .before .before .before .before .before .before .before .before .before .before .clear-heads .ensures) _ _ (by-crate _ (c .before .before .before .before .before .before .before .before .before .before .before .before .before .option-on .ensures) (c .before .before .before .before .before .before .before .find-groups .ensures)) _ _ (c .before .before .before .groups .given .1) (c .before .before .before .before .before .before .before .find-groups .kept .0)
 
 same-length-2 : tie.Need-same-length-2
 same-length-2 c = search needs

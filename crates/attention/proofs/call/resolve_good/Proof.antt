@@ -1,7 +1,7 @@
 -- `attention::call::resolve_good` meets its contract: each return is a case of the definition.
 -- Assumes nothing.
 use native.Mathlib.Omega.{arith}
-use Rattle.attention.proofs.Calls.{offender-low, offended-call, loaded-still}
+use Rattle.attention.proofs.Calls.{offender-low, offended-call}
 use borrow.Author.Needs.{needs}
 use Rattle.attention.proofs.call.resolve_good.Statement.{statement}
 use Rattle.attention.proofs.call.resolve_good.Tie as tie
@@ -22,12 +22,12 @@ add-refused c = search needs
 
 mul-refused : tie.Need-mul-refused
 mul-refused c =
-    let k = offender-low (c .before .before .before .before .before .before .before .before .before .before .pre) (c .before .before .before .before .before .load .ensures) _ (c .before .k .given .1) in
+    let k = offender-low (c .before .before .before .before .before .load .ensures) _ (c .before .k .given .1) in
     omega (arith, c .before .before .before .before .before .before .before .before .before .before .pre)
 
 add-refused-2 : tie.Need-add-refused-2
 add-refused-2 c =
-    let k = offender-low (c .before .before .before .before .before .before .before .before .before .before .pre) (c .before .before .before .before .before .load .ensures) _ (c .before .k .given .1) in
+    let k = offender-low (c .before .before .before .before .before .load .ensures) _ (c .before .k .given .1) in
     omega (arith, c .before .before .before .before .before .before .before .before .before .before .pre)
 
 refused-requires : tie.Need-refused-requires
@@ -37,13 +37,13 @@ same-length : tie.Need-same-length
 same-length c = search needs
 
 returns : tie.Need-returns
-returns c = offended-call (c .before .before .before .before .before .before .before .before .before .before .before .pre) (c .before .before .before .before .before .before .load .ensures) _ (c .before .before .k .given .1) _ _ (c .refused .ensures)
+returns c = offended-call (c .before .before .before .before .before .before .load .ensures) _ (c .before .before .k .given .1) _ _ (c .refused .ensures)
 
 enum-known-n : tie.Need-enum-known-n
 enum-known-n c = search needs
 
 match-runs-requires : tie.Need-match-runs-requires
-match-runs-requires c κs = (loaded-still (c .before .before .before .before .before .before .before .before .before .before .before .before .pre) (c .before .before .before .before .before .before .before .load .ensures), c .before .before .before .before .before .before .before .load .ensures .runs _ (c .before .before .before .n .given .1))
+match-runs-requires c κs = (c .before .before .before .before .before .before .before .before .before .before .before .before .pre .0, search needs, c .before .before .before .before .before .before .before .load .ensures .runs _ (c .before .before .before .n .given .1))
 
 same-length-2 : tie.Need-same-length-2
 same-length-2 c = search needs

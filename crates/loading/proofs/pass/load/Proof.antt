@@ -108,6 +108,7 @@ settle-requires c κs =
     (λ a. rw (a .2) (container-top (c .before .before .before .before .before .before .before .before .before .loop .inv) (a .0 .taken)))
     (λ a. rw (a .1) (container-none (c .before .before .before .before .before .before .before .before .before .loop .inv) (a .0 .left)))
     (c .before .if4 .came))
+    (search needs)
 
 add-n : tie.Need-add-n Inv-loop μ-loop
 add-n c = search needs
