@@ -194,7 +194,7 @@ pub record Told (s : List ℕ) (d e : ℕ) : Type 0 where
   pub zero-bytes : (k : ℕ) → k < e → storedAt s (8 + d + 8 * k) .zeros ≡ 0
 
 -- events of eight bytes
-events-by : (n : ℕ) (s : List ℕ) (at : ℕ) → eventsBy 8 n s at ≡ eventsAt n s at
+pub events-by : (n : ℕ) (s : List ℕ) (at : ℕ) → eventsBy 8 n s at ≡ eventsAt n s at
 unfolding eventsBy eventsAt
 events-by zero s at = refl
 events-by (suc n) s at = ap (λ (l : List Event). eventAt s at ∷ l) (events-by n s (at + 8))

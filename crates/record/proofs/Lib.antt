@@ -18,3 +18,7 @@ pub mod Exactly
 pub mod Second
 pub mod ExactlyWritten
 pub mod Parts
+pub mod ReadsBack
+pub mod RecordReadsBack
+pub mod Rewritten
+pub mod Shallow

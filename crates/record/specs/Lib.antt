@@ -6,6 +6,7 @@ pub mod Event
 pub mod Stack
 pub mod Sound
 pub mod Check
+pub mod ReadsBack
 pub mod Order
 pub mod Rows
 pub mod Second
