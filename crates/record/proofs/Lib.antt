@@ -10,6 +10,7 @@ pub mod Events
 pub mod Whole
 pub mod Good
 pub mod Soundness
+pub mod Depth
 pub mod Pairs
 pub mod Output
 pub mod Verdict
@@ -21,4 +22,3 @@ pub mod Parts
 pub mod ReadsBack
 pub mod RecordReadsBack
 pub mod Rewritten
-pub mod Shallow

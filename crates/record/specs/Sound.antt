@@ -24,6 +24,7 @@ soundFrom deep d last held (e ∷ es) =
 abbrev pub sound : ℕ → ℕ → List Event → Bool
 sound deep d es = soundFrom deep d 0 [] es
 
--- "Depth of open events": at most `deep` are open at once
+-- "Depth of open events": at most `deep` are open at once. With it a list that is sound with any room is sound with room for `deep`, and only with
+-- it (proofs/Depth.antt)
 abbrev pub OpenAtMost : ℕ → List Event → Type 0
 OpenAtMost deep es = (k : ℕ) → k ≤ length es → length (openAt es k) ≤ deep

@@ -1,9 +1,9 @@
--- Sound events of which few are open at once are sound with room for just these.
+-- Sound events and their depth: more room does no harm, and room for those that are open at once is enough.
 -- Assumes nothing.
 use mathlib.Core.Path.{_≡_, refl, ap}
 use mathlib.Core.Bool.{Bool, true, false}
 use mathlib.Core.List.{List, [], _∷_}
-use Prim.Native.Nat.{ℕ, suc, _+_, _≤_, _<_}
+use Prim.Native.Nat.{ℕ, zero, suc, _+_, _≤_, _<_}
 use native.Mathlib.Omega.{arith}
 use lib.ListN.{length, take}
 use lib.Dec.{ltb, eqb}
@@ -13,7 +13,7 @@ use Rattle.record.specs.Stack.{innermost, outer, fitsOpen, after, openAf
 use Rattle.record.specs.Sound.{soundFrom, sound, OpenAtMost}
 use Rattle.record.specs.declared.event.Event.{Event}
 use Rattle.record.proofs.Bools.{and-left, and-right, and-both}
-use Rattle.record.proofs.Soundness.{after-enter}
+use Rattle.record.proofs.Soundness.{fits-room, after-enter}
 
 -- an event fits where there is room for it
 fits-less : (deep more : ℕ) (e : Event) (held : List ℕ) → fitsOpen more e held ≡ true → (e .kind ≡ 0 → length held < deep) → fitsOpen deep e held ≡ true
@@ -58,3 +58,40 @@ shallow-from deep more d last i held opens (e ∷ es) l q f =
 
 pub sound-shallow : (deep more d : ℕ) (es : List Event) → sound more d es ≡ true → OpenAtMost deep es → sound deep d es ≡ true
 sound-shallow deep more d es q f = shallow-from deep more d 0 0 [] [] es refl q f
+
+pub sound-deeper : (deep more d last : ℕ) (held : List ℕ) (es : List Event) → deep ≤ more → soundFrom deep d last held es ≡ true → soundFrom more d last held es ≡ true
+unfolding soundFrom
+sound-deeper deep more d last held [] h q = q
+sound-deeper deep more d last held (e ∷ es) h q =
+    let f = and-left _ _ (and-right _ _ q) in
+    and-both _ _ (and-left _ _ q)
+    (and-both _ _ (fits-less more deep e held f (λ z. let l : length held < deep = fits-room deep e held f z in omega arith))
+    (sound-deeper deep more d (e .place) (after e (e .name) held) es h (and-right _ _ (and-right _ _ q))))
+
+outer-short : (xs : List ℕ) (n : ℕ) → length xs ≤ n → length (outer xs) ≤ n
+outer-short [] n h = h
+outer-short (x ∷ xs) n h = omega arith
+
+-- where an event fits there is room for what is then open
+after-room : (deep : ℕ) (e : Event) (held : List ℕ) → fitsOpen deep e held ≡ true → length held ≤ deep → length (after e (e .name) held) ≤ deep
+unfolding after choose
+after-room deep e held q h = go (eqb (e .kind) 0) refl
+  where
+    go : (b : Bool) → eqb (e .kind) 0 ≡ b → length (choose b (e .name ∷ held) (outer held)) ≤ deep
+    go true z =
+        let l : length held < deep = fits-room deep e held q (eqb-true _ _ z) in
+        omega arith
+    go false z = outer-short held deep h
+
+open-within : (deep d last i : ℕ) (held opens : List ℕ) (es : List Event) → length held ≡ length opens → length held ≤ deep →
+    soundFrom deep d last held es ≡ true → (k : ℕ) → k ≤ length es → length (openAfter (take k es) i opens) ≤ deep
+unfolding soundFrom openAfter
+open-within deep d last i held opens es l h q zero g = omega arith
+open-within deep d last i held opens [] l h q (suc k) g = absurd (omega arith)
+open-within deep d last i held opens (e ∷ es) l h q (suc k) g =
+    open-within deep d (e .place) (i + 1) (after e (e .name) held) (after e i opens) es (after-long e (e .name) i held opens l)
+    (after-room deep e held (and-left _ _ (and-right _ _ q)) h) (and-right _ _ (and-right _ _ q)) k (omega arith)
+
+-- sound events keep within the depth that they are sound with
+pub sound-open : (deep d : ℕ) (es : List Event) → sound deep d es ≡ true → OpenAtMost deep es
+sound-open deep d es q k h = open-within deep d 0 0 [] [] es refl (omega arith) q k h
