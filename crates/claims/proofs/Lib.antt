@@ -2,4 +2,5 @@
 pub mod Records
 pub mod Lines
 pub mod Accepted
+pub mod ReadsBack
 pub mod Matcher

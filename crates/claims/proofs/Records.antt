@@ -199,7 +199,7 @@ told {groups} {tried} {comes} {answers} {s} {options} {Offends} {resolve} {out} 
         let k : r ≡ refusal (y .number) (y .place) = q ∙ reads .of-refused (y .number) (y .place) in
         rw k refl
 
-at-most : (a b : ℕ) → (b < a → ⊥) → a ≤ b
+pub at-most : (a b : ℕ) → (b < a → ⊥) → a ≤ b
 at-most a b f = go (leb a b) refl
   where
     go : (z : Bool) → leb a b ≡ z → a ≤ b

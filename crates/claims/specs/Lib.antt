@@ -1,8 +1,9 @@
--- The index of the claim. The calls on a record, the calls on a line; what is true of what the resolvers accept; the matcher; the twelve cases of
--- document 01. Statements alone: proofs/ has a proof of each, and the cases are computed where they stand.
+-- The index of the claim. The calls on a record, the calls on a line; what is true of what the resolvers accept; that what is written reads back;
+-- the matcher; the twelve cases of document 01. Statements alone: proofs/ has a proof of each, and the cases are computed where they stand.
 pub mod Told
 pub mod Records
 pub mod Lines
 pub mod Accepted
+pub mod ReadsBack
 pub mod Matcher
 pub mod Cases

@@ -171,7 +171,7 @@ good-record f s d e q =
     good-end f s (a .0) (b .0) d e (fitted _ _ _ _ _ (a .1)) (fitted _ _ _ _ _ (b .1)) (b .2)
 
 -- events of eight bytes
-events-by : (n : ℕ) (s : List ℕ) (at : ℕ) → eventsBy 8 n s at ≡ eventsAt n s at
+pub events-by : (n : ℕ) (s : List ℕ) (at : ℕ) → eventsBy 8 n s at ≡ eventsAt n s at
 unfolding eventsBy eventsAt
 events-by zero s at = refl
 events-by (suc n) s at = ap (λ (l : List Event). eventAt s at ∷ l) (events-by n s (at + 8))

@@ -10,6 +10,7 @@ pub mod Events
 pub mod Whole
 pub mod Good
 pub mod Soundness
+pub mod Depth
 pub mod Pairs
 pub mod Output
 pub mod Verdict
@@ -18,3 +19,6 @@ pub mod Exactly
 pub mod Second
 pub mod ExactlyWritten
 pub mod Parts
+pub mod ReadsBack
+pub mod RecordReadsBack
+pub mod Rewritten

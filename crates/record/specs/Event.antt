@@ -57,6 +57,14 @@ flat (e ∷ es) = bytesOf e ++ flat es
 unfoldable pub sectionBytes : List Event → List ℕ
 sectionBytes es = u32Bytes (length es) ++ flat es
 
+-- the events of the section that stands at a place: as many as its count says
+abbrev pub sectionAt : List ℕ → ℕ → List Event
+sectionAt s at = eventsAt (u32At s at) s (at + 4)
+
+-- "First the document: count D, D bytes. Then the events": a document before its section
+unfoldable pub recordBytes : List ℕ → List Event → List ℕ
+recordBytes document es = u32Bytes (length document) ++ (document ++ sectionBytes es)
+
 -- the parts of a good record, whose counts are d and e
 unfoldable pub documentOf : List ℕ → ℕ → List ℕ
 documentOf s d = take d (drop 4 s)

@@ -7,6 +7,7 @@ pub mod Stack
 pub mod Sound
 pub mod Good
 pub mod Check
+pub mod ReadsBack
 pub mod Order
 pub mod Rows
 pub mod Second
