@@ -13,3 +13,8 @@ mod Outcomes
 pub mod Beginnings
 pub mod Offending
 pub mod Exactly
+mod Pairing
+mod Lying
+pub mod Once
+pub mod Gathering
+pub mod Mistakes
