@@ -137,7 +137,14 @@ module _ {document : List ℕ} {es : List Event} where
       (lies-no-item inside i (λ k h l e. f k (omega arith) (omega arith) e))
       (lies-no-item next r (λ k h l e. f k (omega arith) l e))
 
--- "14, 21, 22 and 23"
+-- "14, 21, 22 and 23": what may stand between is what the tree passes
+pub stands-between : {n : ℕ} → MayStand n → (between n ≡ true) × (n ≡ 15 → ⊥)
+unfolding between choose
+stands-between space = (refl, λ z. omega arith)
+stands-between ending = (refl, λ z. omega arith)
+stands-between blank = (refl, λ z. omega arith)
+stands-between quote = (refl, λ z. omega arith)
+
 may-stand : (n : ℕ) → between n ≡ true → MayStand n
 unfolding between choose
 may-stand n q = go (eqb n 14) (eqb n 21) (eqb n 22) (eqb n 23) refl refl refl refl q
@@ -148,13 +155,6 @@ may-stand n q = go (eqb n 14) (eqb n 21) (eqb n 22) (eqb n 23) refl refl refl re
     go false false true z a b c d q = rw (eqb-true n 22 c) blank
     go false false false true a b c d q = rw (eqb-true n 23 d) quote
     go false false false false a b c d q = absurd (clash q refl)
-
-pub stands-between : {n : ℕ} → MayStand n → (between n ≡ true) × (n ≡ 15 → ⊥)
-unfolding between choose
-stands-between space = (refl, λ z. omega arith)
-stands-between ending = (refl, λ z. omega arith)
-stands-between blank = (refl, λ z. omega arith)
-stands-between quote = (refl, λ z. omega arith)
 
 module _ {document : List ℕ} {es : List Event} {a b n from to : ℕ} {inside : Row} (x : Is es a (enter n from)) (i : Lies document es (a + 1) inside b)
     (y : Is es b (exit n to)) where
