@@ -18,3 +18,7 @@ mod Lying
 pub mod Once
 pub mod Gathering
 pub mod Mistakes
+mod Linking
+pub mod Coming
+mod Grouping
+pub mod Linked

@@ -6,7 +6,7 @@ use mathlib.Core.Bool.{Bool, true, false}
 use mathlib.Core.Logic.{_⊎_, inl, inr}
 use mathlib.Core.List.{List, [], _∷_}
 use native.Mathlib.Omega.{arith}
-use lib.ListN.{length, getD, drop}
+use lib.ListN.{length, drop}
 use lib.Dec.{eqb}
 use borrow.Author.Tests.{eq-eqb, ne-eqb, eqb-true, eqb-false}
 use Rattle.record.specs.Choice.{choose, and}
@@ -15,13 +15,14 @@ use Rattle.record.specs.Stack.{nth}
 use Rattle.record.specs.declared.event.Event.{Event}
 use Rattle.record.proofs.Bools.{and-left, and-right, and-both, clash}
 use Rattle.list.specs.Tree.{Row, none, pair, written}
-use Rattle.list.specs.Item.{pastLeaf, isNone, known, markerOf, prefixOf, markOf}
+use Rattle.list.specs.Item.{pastLeaf, known, markerOf, prefixOf, markOf}
 use Rattle.list.specs.Lists.{isItem, between, noItem, neighbour}
 use Rattle.list.specs.Offence.{Mark, star, plus, minus, point, bracket, Marker, bare, spaced, Prefix, unvalued, valued, Begins, at-once, indented}
-use Rattle.list.specs.Neighbours.{Enters, Exits, Whole, no-more, one-more, Pair, Item, firstMark, markAt, MayStand, space, ending, blank, quote, HoldsNoItem, Passed, Between, nothing, passing}
+use Rattle.list.specs.Neighbours.{Enters, Exits, Whole, no-more, one-more, Pair, Item, firstMark, markAt}
+use Rattle.list.specs.Neighbours.{MayStand, space, ending, blank, quote, Passed, Between, nothing, passing}
 use Rattle.list.proofs.Beginnings.{marked-begins}
 use Rattle.list.proofs.Earliest.{Shaped, no-pair, with-pair, passed-over}
-use Rattle.list.proofs.Pairing.{order, not-both, one-exit, rises}
+use Rattle.list.proofs.Pairing.{order, one-exit, rises}
 
 -- the mark of an item is the byte under its first 17
 known-same : {b : ℕ} → Mark b → known b ≡ b
@@ -37,7 +38,8 @@ unfolding firstMark written markerOf pastLeaf choose and
 marker-first document es (bare {from = from} {to = to} e m) = rw (eq-eqb to (from + 1) e, known-same m)
 marker-first document es (spaced {from = from} {to = to} e m) = rw (eq-eqb to (from + 1) e, known-same m)
 
-prefix-first : (document : List ℕ) {row : Row} (es : List Event) → Prefix document row → firstMark document (written row es) ≡ markerOf document (pastLeaf 18 row)
+prefix-first : (document : List ℕ) {row : Row} (es : List Event) → Prefix document row →
+    firstMark document (written row es) ≡ markerOf document (pastLeaf 18 row)
 unfolding firstMark written pastLeaf choose
 prefix-first document es (unvalued (bare {from = from} {to = to} e m)) = marker-first document es (bare {from = from} {to = to} e m)
 prefix-first document es (unvalued (spaced {from = from} {to = to} e m)) = marker-first document es (spaced {from = from} {to = to} e m)
@@ -73,7 +75,7 @@ pub data Lies (document : List ℕ) (es : List Event) : ℕ → Row → ℕ → 
       Lies document es a (pair n from to inside next) c
 
 -- the head of what is left is the event of that number
-split-off : (es : List Event) (k : ℕ) (x : Event) (rest : List Event) → drop k es ≡ x ∷ rest → Is es k x × (drop (k + 1) es ≡ rest)
+pub split-off : (es : List Event) (k : ℕ) (x : Event) (rest : List Event) → drop k es ≡ x ∷ rest → Is es k x × (drop (k + 1) es ≡ rest)
 split-off [] zero x rest q = let z : _≡_ {A = ℕ} 0 1 = cc in absurd (omega arith)
 split-off [] (suc k) x rest q = let z : _≡_ {A = ℕ} 0 1 = cc in absurd (omega arith)
 split-off (y ∷ es) zero x rest q = (record { within = omega arith; same = cc }, cc)
@@ -91,7 +93,9 @@ lying document es (pair n from to inside next) a rest (with-pair m si sn) q =
     let i = lying document es inside (a + 1) (exit n to ∷ written next rest) si (x .1) in
     let y = split-off es (i .0) (exit n to) (written next rest) (i .2) in
     let r = lying document es next (i .0 + 1) rest sn (y .1) in
-    (r .0, lies-pair (x .0) (i .1) (y .0) (r .1) (λ z. ap (λ (l : List Event). firstMark document l) q ∙ item-first document n from inside (exit n to ∷ written next rest) z (m z)) m, r .2)
+    let mark : n ≡ 15 → markAt document es a ≡ markOf document inside =
+    λ z. ap (λ (l : List Event). firstMark document l) q ∙ item-first document n from inside (exit n to ∷ written next rest) z (m z) in
+    (r .0, lies-pair (x .0) (i .1) (y .0) (r .1) mark m, r .2)
 
 module _ {document : List ℕ} {es : List Event} where
   pub lies-whole : {a c : ℕ} {row : Row} → Lies document es a row c → Whole es a c
@@ -202,7 +206,8 @@ module _ {document : List ℕ} {es : List Event} where
       go false e f w =
           let p = passed-over (and (between n) (noItem inside)) (neighbour document next) w in
           let h = f (p .1) in
-          rw (p .0) record { item = h .item; item-exit = h .item-exit; pairs = h .pairs; between = passing (passed-lies x i y (p .0)) (h .between); its-mark = h .its-mark }
+          let on = passing (passed-lies x i y (p .0)) (h .between) in
+          rw (p .0) record { item = h .item; item-exit = h .item-exit; pairs = h .pairs; between = on; its-mark = h .its-mark }
 
   -- what may follow a row is no enter
   pub met-neighbour : {a c k far : ℕ} (row : Row) → Lies document es a row c → ((n : ℕ) → Enters es n c → ⊥) → Between es a k → Item es k far →

@@ -1,7 +1,7 @@
 -- What document 01's words over event numbers allow as a result is one list of events.
 -- Assumes nothing.
-use Prim.Native.Nat.{ℕ, _+_}
-use mathlib.Core.Path.{_≡_, refl, sym, ap, _∙_}
+use Prim.Native.Nat.{ℕ}
+use mathlib.Core.Path.{_≡_, refl, ap}
 use mathlib.Core.List.{List, [], _∷_}
 use native.Mathlib.Omega.{arith}
 use Rattle.record.specs.Event.{enter, exit}
@@ -22,7 +22,7 @@ named-once (by-other p q) by-bracket = absurd (q refl)
 named-once (by-other p q) (by-other s t) = refl
 
 module _ {document : List ℕ} {es : List Event} {k : ℕ} where
-  before-once : {x y : List Event} → Before document es k x → Before document es k y → x ≡ y
+  pub before-once : {x y : List Event} → Before document es k x → Before document es k y → x ≡ y
   before-once (begins i f n) (begins j g m) = ap (λ (l : ℕ). enter l (nth es k .place) ∷ []) (named-once n m)
   before-once (begins i f n) (joined {i = e} j) = absurd (f e j)
   before-once (begins {far = far} i f n) (enters-none g) = absurd (g far i)
@@ -51,7 +51,7 @@ module _ {document : List ℕ} {es : List Event} {k : ℕ} where
   behind-once (exits-none g) (joins j h) = refl
   behind-once (exits-none g) (exits-none h) = refl
 
-once : {document : List ℕ} {es : List Event} {k : ℕ} {out other : List Event} → Gathered document es k out → Gathered document es k other → out ≡ other
+pub once : {document : List ℕ} {es : List Event} {k : ℕ} {out other : List Event} → Gathered document es k out → Gathered document es k other → out ≡ other
 once (finished h) (finished l) = refl
 once (finished h) (with-event l b e g) = absurd (omega arith)
 once (with-event l b e g) (finished h) = absurd (omega arith)

@@ -17,7 +17,7 @@ use Rattle.record.specs.Stack.{nth}
 use Rattle.record.specs.declared.event.Event.{Event}
 use Rattle.list.specs.Lists.{isItem}
 use Rattle.list.specs.Listing.{openItems}
-use Rattle.list.specs.Neighbours.{Stands, Enters, Exits, Whole, no-more, one-more, Pair, Item, itemsOpen, Passed, Between, nothing, passing}
+use Rattle.list.specs.Neighbours.{Stands, Enters, Exits, Whole, no-more, one-more, Pair, itemsOpen, Passed, Between, nothing, passing}
 
 pub order : (a b : ℕ) → (a < b) ⊎ ((a ≡ b) ⊎ (b < a))
 order zero zero = inr (inl refl)
@@ -55,7 +55,7 @@ pub one-exit : {es : List Event} {n m a b c : ℕ} → Pair es n a b → Pair es
 one-exit p q = one-end (p .held) (p .exits) (q .held) (q .exits)
 
 -- a pair that begins within whole pairs ends within them
-stays : {es : List Event} {n a b s t : ℕ} → Whole es s t → s ≤ a → a < t → Pair es n a b → b < t
+pub stays : {es : List Event} {n a b s t : ℕ} → Whole es s t → s ≤ a → a < t → Pair es n a b → b < t
 stays no-more h l p = absurd (omega arith)
 stays {es} {n} {a} {b} {s} {t} (one-more {name = name} {b = x} e i v r) h l p = go (order a s) (order a x) (λ u w. stays i u w p) (λ u. stays r u l p)
   where
@@ -83,12 +83,9 @@ one-enter {es} {n} {m} {a} {b} {c} p q = go (order a b)
         let z : c < c = stays (q .held) (omega arith) (pair-rises p) p in
         absurd (omega arith)
 
--- and both have one name
+-- and one name
 pub one-name : {es : List Event} {n m a b c : ℕ} → Pair es n a b → Pair es m a c → n ≡ m
 one-name p q = sym (p .enters .its-name) ∙ q .enters .its-name
-
-pub exit-name : {es : List Event} {n m a b c : ℕ} → Pair es n a c → Pair es m b c → n ≡ m
-exit-name p q = sym (p .exits .its-name) ∙ q .exits .its-name
 
 -- the items open after some events and then others
 opens-by : (z y : Bool) (a b c : ℕ) (ys : List Event) →
@@ -102,7 +99,8 @@ opens-append : (n : ℕ) (xs ys : List Event) → openItems n (xs ++ ys) ≡ ope
 unfolding openItems
 opens-append n [] ys = refl
 opens-append n (x ∷ xs) ys =
-    rw (opens-append (n + 1) xs ys, opens-append (n - 1) xs ys, opens-append n xs ys) (opens-by (isItem (x .name)) (eqb (x .kind) 0) (openItems (n + 1) xs) (openItems (n - 1) xs) (openItems n xs) ys)
+    rw (opens-append (n + 1) xs ys, opens-append (n - 1) xs ys, opens-append n xs ys)
+    (opens-by (isItem (x .name)) (eqb (x .kind) 0) (openItems (n + 1) xs) (openItems (n - 1) xs) (openItems n xs) ys)
 
 pub opens-next : (es : List Event) (k : ℕ) → k < length es → itemsOpen es (k + 1) ≡ openItems (itemsOpen es k) (nth es k ∷ [])
 opens-next es k h =
@@ -149,25 +147,6 @@ whole-opens {es} (one-more {name = n} {a = a} {b = b} {c = c} e i v r) = go (is-
     go : (n ≡ 15) ⊎ (n ≡ 15 → ⊥) → itemsOpen es (a + 1) ≡ itemsOpen es b → itemsOpen es (b + 1) ≡ itemsOpen es c → itemsOpen es a ≡ itemsOpen es c
     go (inl q) f g = omega (arith, item-opens e q, item-closes v q)
     go (inr q) f g = omega (arith, other-keeps e q, other-keeps v q)
-
--- and within them not fewer
-pub within-opens : {es : List Event} {s t k : ℕ} → Whole es s t → s ≤ k → k ≤ t → itemsOpen es s ≤ itemsOpen es k
-within-opens {es} {s} {t} {k} no-more h l =
-    let q : s ≡ k = omega arith in
-    rw q (omega arith)
-within-opens {es} {s} {t} {k} (one-more {name = n} {b = b} e i v r) h l = go (is-item n) (order s k) (order b k) (λ u w. within-opens i u w) (λ u. within-opens r u l)
-  where
-    raised : (n ≡ 15) ⊎ (n ≡ 15 → ⊥) → itemsOpen es s ≤ itemsOpen es (s + 1)
-    raised (inl q) = omega (arith, item-opens e q)
-    raised (inr q) = omega (arith, other-keeps e q)
-
-    go : (n ≡ 15) ⊎ (n ≡ 15 → ⊥) → (s < k) ⊎ ((s ≡ k) ⊎ (k < s)) → (b < k) ⊎ ((b ≡ k) ⊎ (k < b)) → (s + 1 ≤ k → k ≤ b → itemsOpen es (s + 1) ≤ itemsOpen es k) →
-        (b + 1 ≤ k → itemsOpen es (b + 1) ≤ itemsOpen es k) → itemsOpen es s ≤ itemsOpen es k
-    go q (inl x) (inl y) f g = omega (arith, whole-opens (one-more e i v no-more), g (omega arith))
-    go q (inl x) (inr (inl y)) f g = omega (arith, raised q, f (omega arith) (omega arith))
-    go q (inl x) (inr (inr y)) f g = omega (arith, raised q, f (omega arith) (omega arith))
-    go q (inr (inl x)) y f g = rw x (omega arith)
-    go q (inr (inr x)) y f g = absurd (omega arith)
 
 -- what stands between two items is whole
 pub between-whole : {es : List Event} {a b : ℕ} → Between es a b → Whole es a b

@@ -4,15 +4,16 @@
 use Prim.Native.Nat.{ℕ, _+_, _≤_, _<_}
 use mathlib.Core.Path.{_≡_}
 use mathlib.Core.Bool.{true}
+use mathlib.Core.Logic.{_⊎_}
 use mathlib.Core.List.{List, [], _∷_, _++_}
-use lib.ListN.{length}
+use lib.ListN.{length, drop}
 use Rattle.record.specs.Event.{enter, exit}
 use Rattle.record.specs.Outcome.{gives}
 use Rattle.record.specs.Sound.{sound}
 use Rattle.record.specs.Stack.{nth}
 use Rattle.record.specs.declared.event.Event.{Event}
 use Rattle.list.specs.Lists.{lists}
-use Rattle.list.specs.Neighbours.{Item, markAt, Joined, First, Last}
+use Rattle.list.specs.Neighbours.{Whole, Pair, Item, markAt, Joined, Linked, First, Last}
 
 -- "19 for `.` and `)`, else 20": of a mark and a list's name
 pub data Named : ℕ → ℕ → Type 0 where
@@ -50,3 +51,42 @@ ResultGathered =
 -- Theorem: and nothing else is. proofs/Once.antt
 abbrev pub GatheredOnce : Type 0
 GatheredOnce = (document : List ℕ) (es out other : List Event) → Gathered document es 0 out → Gathered document es 0 other → out ≡ other
+
+-- event k of the record is event m of the result: with what stands right before it, the result from there on is what is written from event k on
+pub record Comes (document : List ℕ) (es out : List Event) (k m : ℕ) : Type 0 where
+  pub within : m < length out
+  pub before : List Event
+  pub stands : Before document es k before
+  pub onward : Gathered document es k (before ++ drop m out)
+
+-- Theorem: every event of the record comes, as it was. proofs/Coming.antt
+abbrev pub EveryEventComes : Type 0
+EveryEventComes =
+    (document : List ℕ) (es out : List Event) → Gathered document es 0 out → (k : ℕ) → k < length es →
+    (m : ℕ) × Comes document es out k m × (nth out m ≡ nth es k)
+
+-- event m of the result stands in the pair of its events from and to, and in no pair inside of that
+pub record StandsIn (out : List Event) (name from to m : ℕ) : Type 0 where
+  pub around : Pair out name from to
+  pub held : Whole out (from + 1) m
+  pub to-come : m < to
+
+-- events m and l of the result stand in one list
+pub record InOneList (out : List Event) (m l : ℕ) : Type 0 where
+  pub name : ℕ
+  pub from : ℕ
+  pub to : ℕ
+  pub is-list : (name ≡ 19) ⊎ (name ≡ 20)
+  pub one : StandsIn out name from to m
+  pub other : StandsIn out name from to l
+
+-- two items of the record stand in one list of the result exactly where a chain links them
+abbrev pub OneListWhereLinked : List ℕ → List Event → List Event → Type 0
+OneListWhereLinked document es out =
+    (i k i-exit k-exit m l : ℕ) → Item es i i-exit → Item es k k-exit → Comes document es out i m → Comes document es out k l →
+    (InOneList out m l → Linked document es i k) × (Linked document es i k → InOneList out m l)
+
+-- Theorem: so it is in every result. proofs/Linked.antt
+abbrev pub ResultLinked : Type 0
+ResultLinked =
+    (deep d : ℕ) (document : List ℕ) (es out : List Event) → sound deep d es ≡ true → lists document es ≡ gives out → OneListWhereLinked document es out
