@@ -15,6 +15,8 @@ use Rattle.heading.proofs.Resound.{resolved-sound}
 use Rattle.heading.proofs.Kept.{outside-kept}
 use Rattle.list.proofs.Added.{listing}
 use Rattle.list.proofs.Nesting.{nested}
+use Rattle.list.proofs.Gathering.{result-gathered}
+use Rattle.list.proofs.Linked.{result-linked}
 use Rattle.claims.specs.Records.{docOf, allEvents}
 use Rattle.claims.specs.Accepted.{AcceptedAttention, AcceptedHeadings, AcceptedLists}
 use Rattle.claims.proofs.Records.{no-row-sound, attention-claim, headings-claim, lists-claim}
@@ -52,4 +54,6 @@ accepted-lists s options out work r out′ work′ p z =
       accepted = a;
       nests = nested (documentCount s) (docOf s) (allEvents s) (a .events) good (a .made-so);
       kept = listing 64 (documentCount s) (docOf s) (allEvents s) (a .events) good (a .made-so);
+      gathered = result-gathered 64 (documentCount s) (docOf s) (allEvents s) (a .events) good (a .made-so);
+      linked = result-linked 64 (documentCount s) (docOf s) (allEvents s) (a .events) good (a .made-so);
     }

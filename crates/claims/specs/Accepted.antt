@@ -17,6 +17,7 @@ use Rattle.heading.specs.Headings.{headings}
 use Rattle.heading.specs.Outside.{outside}
 use Rattle.list.specs.Lists.{lists}
 use Rattle.list.specs.Listing.{Listing}
+use Rattle.list.specs.Gathered.{Gathered, OneListWhereLinked}
 use Rattle.ledgerlark.specs.Answers.{AttentionAs, HeadingsAs, ListsAs}
 use Rattle.ledgerlark.specs.declared.resolve.LarkResolved.{LarkResolved}
 use Rattle.claims.specs.Records.{docOf, allEvents, Accepts}
@@ -44,11 +45,14 @@ AcceptedHeadings =
     (s : List ℕ) (options : ℕ) (out work : List ℕ) (r : LarkResolved) (out′ work′ : List ℕ) →
     HeadingsAs s options out work r out′ work′ → r .number ≡ 0 → HeadingsNest s out r out′
 
--- lists: the result is sound, at most twice as deep as a record may be, and it is the record's events with lists added, each round an item
+-- lists: the result is sound, at most twice as deep as a record may be, and it is the record's events with lists added, each round an item; what is
+-- added is what document 01's words over event numbers say, and two items stand in one list exactly where a chain of neighbours links them
 pub record ListsNest (s out : List ℕ) (r : LarkResolved) (out′ : List ℕ) : Type 0 where
   pub accepted : Accepts (lists (docOf s) (allEvents s)) 0 0 out r out′
   pub nests : sound 128 (documentCount s) (accepted .events) ≡ true
   pub kept : Listing (allEvents s) (accepted .events)
+  pub gathered : Gathered (docOf s) (allEvents s) 0 (accepted .events)
+  pub linked : OneListWhereLinked (docOf s) (allEvents s) (accepted .events)
 
 abbrev pub AcceptedLists : Type 0
 AcceptedLists =

@@ -13,3 +13,12 @@ mod Outcomes
 pub mod Beginnings
 pub mod Offending
 pub mod Exactly
+mod Pairing
+mod Lying
+pub mod Once
+pub mod Gathering
+pub mod Mistakes
+mod Linking
+pub mod Coming
+mod Grouping
+pub mod Linked

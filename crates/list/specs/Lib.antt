@@ -3,6 +3,8 @@ pub mod Item
 pub mod Lists
 pub mod Offence
 pub mod Listing
+pub mod Neighbours
+pub mod Gathered
 pub mod Walk
 pub mod Noting
 pub mod Promise

@@ -1,5 +1,5 @@
 -- What the list resolver makes of a good record: the earliest item that offends against the shape rule, or the events with a list round
--- each longest chain of items. Both are read off the event tree.
+-- each longest chain of items. Both are read off the event tree. Gathered.antt says the result a second time, off the events alone.
 -- Assumes nothing.
 use Prim.Native.Nat.{ℕ, _+_}
 use mathlib.Core.Bool.{Bool, true, false}
