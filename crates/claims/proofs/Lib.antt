@@ -2,4 +2,6 @@
 pub mod Records
 pub mod Lines
 pub mod Accepted
+pub mod ChainsAsLists
+pub mod Positions
 pub mod Matcher

@@ -4,5 +4,7 @@ pub mod Told
 pub mod Records
 pub mod Lines
 pub mod Accepted
+pub mod ChainsAsLists
+pub mod Positions
 pub mod Matcher
 pub mod Cases
