@@ -17,7 +17,11 @@ use Rattle.slots.specs.Layout.{linkOf, headOf}
 use Rattle.matcher.specs.Chains.{on, latest}
 use Rattle.matcher.specs.State.{Ready}
 use Rattle.matcher.proofs.Lists.{on-opener, on-chain, latest-le}
-use Rattle.claims.specs.ChainsAsLists.{Container, nothing-open, entered, chainFor, chain-of-a-run, linked, chain, stillOpens, stillOpen, ChainsList}
+use Rattle.claims.specs.ChainsAsLists.{Container, nothing-open, entered, chainFor, ChainOfARun, linked, stillOpens, stillOpen, ChainsList}
+
+pub chain-of-a-run : ChainOfARun
+unfolding chainNumber
+chain-of-a-run r = refl
 
 -- a run that stands for its chain
 abbrev like : ℕ → Option ℕ → Standing

@@ -1,6 +1,6 @@
 -- Demand 3, proved: the statements of specs/Matcher.antt, from the promises of the functions and the theorems on groups.
 -- Assumes nothing.
-use Prim.Native.Nat.{ℕ, _+_}
+use Prim.Native.Nat.{ℕ}
 use native.Mathlib.Omega.{arith}
 use mathlib.Core.Path.{_≡_, refl, sym, ap, _∙_}
 use mathlib.Core.List.{List}
@@ -22,13 +22,12 @@ use Rattle.attention.specs.Attention.{unlessOffended, attention}
 use Rattle.attention.proofs.Beginning.{begins}
 use Rattle.ledgerlark.specs.declared.resolve.LarkResolved.{LarkResolved}
 use Rattle.matcher.specs.Closer.{closerFrom}
-use Rattle.matcher.specs.Along.{chained}
 use Rattle.matcher.proofs.Chained.{onward-went}
 use Rattle.claims.specs.Records.{docOf, allEvents}
-use Rattle.claims.specs.Positions.{at-the-first}
 use Rattle.claims.specs.Matcher.{AcceptedAsThePlainRule, AcceptedNests, GroupsAreThePlainRule's, AcceptedBegins, AcceptedGroups, StandsByThePlainRule, ChainsAfterEach, StandsAfterEach, PromisedAtTheExit, AnswersThroughThese, ChainsFindTheSame}
 use Rattle.claims.proofs.ChainsAsLists.{chains-list}
 use Rattle.claims.proofs.Positions.{stands-both, up-to-plain, leads, each}
+use Rattle.claims.proofs.OnTheWay.{on-the-way}
 use Rattle.claims.proofs.Records.{no-row-sound, attention-claim}
 
 the-output : (o : Option ℕ) (all es : List Event) → unlessOffended o all ≡ gives es → es ≡ all
@@ -107,8 +106,9 @@ promised-at-the-exit rule w height n i made tried next height′ made′ tried�
 )
 
 pub answers-through-these : AnswersThroughThese
-unfolding chained
-answers-through-these rule n w₀ rs₀ found w′ f a = rw (a .along) (leads (n + 1) rule n w₀ rs₀ w₀ 0 0 0 0 f at-the-first (omega arith))
+answers-through-these rule n w₀ rs₀ w height i made tried found w′ f a st =
+    let o = on-the-way f st in
+    rw (a .along ∙ o .way) (leads (o .turns) rule n w₀ rs₀ w height i made tried f st (o .enough))
 
 pub chains-find-the-same : ChainsFindTheSame
 chains-find-the-same rule n w₀ rs₀ w height i made tried m t f st h =

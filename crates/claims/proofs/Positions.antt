@@ -182,11 +182,14 @@ abbrev ComesTo : Finish → ℕ → Step × List ℕ → Type 0
 ComesTo f n (Closed next height made tried, w) = Closes f n next height made tried w
 ComesTo f n (Full, w) = 1000 < length (f .groups)
 
-closer-suc : (k : ℕ) (rule : Rule) (w : List ℕ) (height at until made count : ℕ)
-    → closerAlong (suc k) rule w height at until made count
-    ≡ walked (onward (until - at) rule w height at 0)
-    (λ u v h. (Closed until h made (count + u), v))
+-- one turn for one closer: its walk found nothing, or a match
+abbrev pub turn : ℕ → Rule → ℕ → ℕ → ℕ → Next × (List ℕ × ℕ) → Step × List ℕ
+turn k rule until made count x =
+    walked x (λ u v h. (Closed until h made (count + u), v))
     (λ o c u v h. choose (eqb made 1000) (Full, v) (closerAlong k rule (matchedAt v h o c made .0) (matchedAt v h o c made .1) c (c + 1) (made + 1) (count + u)))
+
+pub closer-suc : (k : ℕ) (rule : Rule) (w : List ℕ) (height at until made count : ℕ)
+    → closerAlong (suc k) rule w height at until made count ≡ turn k rule until made count (onward (until - at) rule w height at 0)
 unfolding closerAlong
 closer-suc k rule w height at until made count = refl
 
@@ -206,9 +209,7 @@ closer-comes (suc k) rule w height rs gs n at until made count r a b size l =
     go : ((v : List ℕ) (h : ℕ) (ts : List Standing) (hs : List Group) (n at until made count : ℕ) → Ready v h ts hs n at → at ≤ until → until ≤ n → length hs ≡ made → 1000 - made < k →
         ComesTo (finish (total ts + 1) rule ts at until hs count) n (closerAlong k rule v h at until made count)) →
         (x : Next × (List ℕ × ℕ)) → Went rule rs gs n (until - at) at 0 x →
-        ComesTo (finish (total rs + 1) rule rs at until gs count) n (walked x
-        (λ u v h. (Closed until h made (count + u), v))
-        (λ o c u v h. choose (eqb made 1000) (Full, v) (closerAlong k rule (matchedAt v h o c made .0) (matchedAt v h o c made .1) c (c + 1) (made + 1) (count + u))))
+        ComesTo (finish (total rs + 1) rule rs at until gs count) n (turn k rule until made count x)
     go ih (Done u, (v, h)) went =
         rw (finish-done rule (total rs) rs at until gs count u (sym (went .next))) (record { at = refl; size = sym size; count = refl; ready = rw there at (went .ready) })
     go ih (Match o c u, (v, h)) went = room (eqb made 1000) refl
@@ -228,8 +229,7 @@ closer-comes (suc k) rule w height rs gs n at until made count r a b size l =
         more : length (andGroup gs rs o c) ≡ made + 1
         more = length-append gs (group o c (takenBy rs o c) ∷ []) ∙ ap (λ y. y + 1) size
 
-        room : (z : Bool) → eqb made 1000 ≡ z → ComesTo (finish (total rs + 1) rule rs at until gs count) n
-            (choose (eqb made 1000) (Full, v) (closerAlong k rule (matchedAt v h o c made .0) (matchedAt v h o c made .1) c (c + 1) (made + 1) (count + u)))
+        room : (z : Bool) → eqb made 1000 ≡ z → ComesTo (finish (total rs + 1) rule rs at until gs count) n (turn k rule until made count (Match o c u, (v, h)))
         room true e =
             rw (e, next) (omega (arith, eqb-true made 1000 e, more, finish-longer rule (total (matched rs o c) + 1) (matched rs o c) c (c + 1) (andGroup gs rs o c) (count + u)))
         room false e =
@@ -289,7 +289,7 @@ module _ {rule : Rule} {n : ℕ} {rs₀ : List Standing} {w : List ℕ} {height 
           size = sym (closes .size);
         }
 
-    closes-onward : i < n → i < next
+    pub closes-onward : i < n → i < next
     closes-onward l = rw (closes .at) (finish-onward rule (b .runs) i n (b .groups) tried l long)
 
     -- the next closer is this run, if it takes an opener
@@ -310,7 +310,7 @@ pub stands-both : {rule : Rule} {n : ℕ} {w₀ : List ℕ} {rs₀ : List Standi
 unfolding plainUpTo
 stands-both {n = n} {w₀ = w₀} {rs₀ = rs₀} f at-the-first = record { runs = rs₀; groups = []; up = refl; ready = fresh-ready w₀ rs₀ n f; size = refl }
 stands-both f (after-passing st l e) = both-passed (stands-both f st) l e
-stands-both f (after-a-closer st e) = both-closed (stands-both f st) e
+stands-both f (after-a-closer st l e) = both-closed (stands-both f st) e
 
 -- the way to the answer
 pub leads : (k : ℕ) (rule : Rule) (n : ℕ) (w₀ : List ℕ) (rs₀ : List Standing) (w : List ℕ) (height i made tried : ℕ) → Fresh w₀ rs₀ n → Stands rule n w₀ w height i made tried → n - i < k →
@@ -328,12 +328,12 @@ leads (suc k) rule n w₀ rs₀ w height i made tried f st l = go (leads k rule 
         let same : i ≡ n = omega (arith, b .ready .within) in
         rw (end-way rule w height n i made tried (suc k) h) (rw same (at-the-last (rw same at st)))
     go ih true e (Full, w′) q =
-        rw (full-all rule w height n i made tried (sym q) (ltb-true i n e) (suc k) l refl) (no-room st (sym q))
+        rw (full-all rule w height n i made tried (sym q) (ltb-true i n e) (suc k) l refl) (no-room st (ltb-true i n e) (sym q))
     go ih true e (Closed next h m t, w′) q =
         let lt : i < n = ltb-true i n e in
         let z : suc k - 1 ≡ k = omega arith in
         let on = closes-onward b (sym q) lt in
-        rw (again-all rule w height n i made tried (sym q) lt (suc k) l refl, z) (by-a-closer st (sym q) (ih w′ h next m t f (after-a-closer st (sym q)) (omega arith)))
+        rw (again-all rule w height n i made tried (sym q) lt (suc k) l refl, z) (by-a-closer st lt (sym q) (ih w′ h next m t f (after-a-closer st lt (sym q)) (omega arith)))
 
 -- a place after each run, where there is room for all groups
 pub each : (rule : Rule) (n : ℕ) (w₀ : List ℕ) (rs₀ : List Standing) → Fresh w₀ rs₀ n → length (plain rule rs₀ .groups) ≤ 1000 → (i : ℕ) → i ≤ n → StandsAt rule n w₀ i
@@ -363,4 +363,4 @@ each rule n w₀ rs₀ f fits (suc i) h = next (each rule n w₀ rs₀ f fits i 
             let r = b .ready in
             let same = seek-look rule (p .memory) (p .height) (b .runs) n i 0 (r .reads) (r .falls) (r .chains i l) l (r .listed) in
             let there : j ≡ suc i = closes-here b (sym q) l (sym same ∙ e) ∙ add-one i in
-            record { memory = w′; height = h; made = m; tried = t; stands = rw there at (after-a-closer (p .stands) (sym q)) }
+            record { memory = w′; height = h; made = m; tried = t; stands = rw there at (after-a-closer (p .stands) l (sym q)) }

@@ -2,7 +2,7 @@
 -- that can still open, latest first". What a memory lists is read from the head of a chain by its links; what it has to list goes by the runs alone.
 -- Assumes nothing.
 use Prim.Native.Nat.{ℕ, zero, suc, _+_, _-_, _*_, _<_}
-use mathlib.Core.Path.{_≡_, refl}
+use mathlib.Core.Path.{_≡_}
 use mathlib.Core.Bool.{Bool, true}
 use mathlib.Core.List.{List, [], _∷_}
 use mathlib.Core.Option.{Option, none, some}
@@ -22,9 +22,8 @@ pub data Container : Option ℕ → Type 0 where
 abbrev pub chainFor : ℕ → Option ℕ → ℕ
 chainFor marker container = 3 * containerNumber container + markerNumber marker
 
-pub chain-of-a-run : (r : Standing) → chainNumber r ≡ chainFor (r .marker) (r .container)
-unfolding chainNumber
-chain-of-a-run r = refl
+abbrev pub ChainOfARun : Type 0
+ChainOfARun = (r : Standing) → chainNumber r ≡ chainFor (r .marker) (r .container)
 
 -- the runs that a memory lists from p on, by their links: p is a run's number plus 1, or 0 at the end. At most k of them
 unfoldable pub linked : ℕ → List ℕ → ℕ → List ℕ

@@ -1,5 +1,5 @@
--- The index of the claim. The calls on a record, the calls on a line; what is true of what the resolvers accept; the matcher; the twelve cases of
--- document 01. Statements alone: proofs/ has a proof of each, and the cases are computed where they stand.
+-- The index of the claim. The calls on a record, the calls on a line; what is true of what the resolvers accept; the matcher, its chains as
+-- lists and where it stands; the twelve cases of document 01. Statements alone: proofs/ has a proof of each, and the cases are computed where they stand.
 pub mod Told
 pub mod Records
 pub mod Lines

@@ -121,13 +121,13 @@ StandsByThePlainRule =
     × (plain rule rs₀ ≡ roundsLeft rule (plainUpTo rule rs₀ i))
 
 -- "After each closer the chains, one per marker and container, list exactly the runs up to it with markers left that can still open, latest first,
--- as the plain rule has them on finishing that closer": whether it took an opener or was passed, or was a run that cannot close
+-- as the plain rule has them on finishing that closer". The run i stands behind the closer, which took an opener or was passed
 abbrev pub ChainsAfterEach : Type 0
 ChainsAfterEach =
     (rule : Rule) (n : ℕ) (w₀ : List ℕ) (rs₀ : List Standing) (w : List ℕ) (height i made tried : ℕ) →
     Fresh w₀ rs₀ n → Stands rule n w₀ w height i made tried → ChainsList w (plainUpTo rule rs₀ i .runs) i
 
--- and after each run there is such a place, from the first to the last
+-- and there is such a place behind each run, from the first to the last, wherever all groups have room
 abbrev pub StandsAfterEach : Type 0
 StandsAfterEach =
     (rule : Rule) (n : ℕ) (w₀ : List ℕ) (rs₀ : List Standing) (made tried : ℕ) (w′ : List ℕ) →
@@ -143,12 +143,12 @@ PromisedAtTheExit =
     × ((rs : List Standing) (gs : List Group) → Ready w height rs gs n i → length gs ≡ made →
     (next ≡ closerFrom rule rs i gs tried .next) × ChainsList w′ (closerFrom rule rs i gs tried .runs) next)
 
--- these are the memories that `find_groups` goes through: its steps lead from the first such place over such places alone to the last, where its
--- answer and memory are
+-- these are the memories that `find_groups` goes through: from each such place, the first among them, its steps lead over such places alone to the
+-- last, where its answer and memory are
 abbrev pub AnswersThroughThese : Type 0
 AnswersThroughThese =
-    (rule : Rule) (n : ℕ) (w₀ : List ℕ) (rs₀ : List Standing) (found : Found) (w′ : List ℕ) →
-    Fresh w₀ rs₀ n → Answers rule w₀ n found w′ → Leads rule n w₀ w₀ 0 0 0 0 (found, w′)
+    (rule : Rule) (n : ℕ) (w₀ : List ℕ) (rs₀ : List Standing) (w : List ℕ) (height i made tried : ℕ) (found : Found) (w′ : List ℕ) →
+    Fresh w₀ rs₀ n → Answers rule w₀ n found w′ → Stands rule n w₀ w height i made tried → Leads rule n w₀ w height i made tried (found, w′)
 
 -- "the call that finds the next match": from such a place, what `onward` finds along the chains, and how many it tries, is what the plain rule finds
 -- among all earlier runs

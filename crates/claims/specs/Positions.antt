@@ -32,7 +32,7 @@ pub data Stands (rule : Rule) (n : ℕ) (w₀ : List ℕ) : List ℕ → ℕ →
   at-the-first : Stands rule n w₀ w₀ 0 0 0 0
   after-passing : {w : List ℕ} {height i made tried u : ℕ} → Stands rule n w₀ w height i made tried → i < n → seek rule w i 0 ≡ miss u →
       Stands rule n w₀ (passed w height i) (raised w height i) (i + 1) made (tried + u)
-  after-a-closer : {w w′ : List ℕ} {height i made tried next height′ made′ tried′ : ℕ} → Stands rule n w₀ w height i made tried →
+  after-a-closer : {w w′ : List ℕ} {height i made tried next height′ made′ tried′ : ℕ} → Stands rule n w₀ w height i made tried → i < n →
       (Closed next height′ made′ tried′, w′) ≡ closerBy rule w height i n made tried → Stands rule n w₀ w′ height′ next made′ tried′
 
 -- a memory after the run before i
@@ -48,8 +48,8 @@ pub record StandsAt (rule : Rule) (n : ℕ) (w₀ : List ℕ) (i : ℕ) : Type 0
 pub data Leads (rule : Rule) (n : ℕ) (w₀ : List ℕ) : List ℕ → ℕ → ℕ → ℕ → ℕ → Found × List ℕ → Type 0 where
   at-the-last : {w : List ℕ} {height made tried : ℕ} → Stands rule n w₀ w height n made tried →
       Leads rule n w₀ w height n made tried (Groups made tried, w)
-  no-room : {w w′ : List ℕ} {height i made tried : ℕ} → Stands rule n w₀ w height i made tried →
+  no-room : {w w′ : List ℕ} {height i made tried : ℕ} → Stands rule n w₀ w height i made tried → i < n →
       (Full, w′) ≡ closerBy rule w height i n made tried → Leads rule n w₀ w height i made tried (TooMany, w′)
-  by-a-closer : {w w′ : List ℕ} {height i made tried next height′ made′ tried′ : ℕ} {answer : Found × List ℕ} → Stands rule n w₀ w height i made tried →
-      (Closed next height′ made′ tried′, w′) ≡ closerBy rule w height i n made tried → Leads rule n w₀ w′ height′ next made′ tried′ answer →
-      Leads rule n w₀ w height i made tried answer
+  by-a-closer : {w w′ : List ℕ} {height i made tried next height′ made′ tried′ : ℕ} {answer : Found × List ℕ} →
+      Stands rule n w₀ w height i made tried → i < n → (Closed next height′ made′ tried′, w′) ≡ closerBy rule w height i n made tried →
+      Leads rule n w₀ w′ height′ next made′ tried′ answer → Leads rule n w₀ w height i made tried answer
