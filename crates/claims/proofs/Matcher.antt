@@ -1,8 +1,8 @@
 -- Demand 3, proved: the statements of specs/Matcher.antt, from the promises of the functions and the theorems on groups.
 -- Assumes nothing.
-use Prim.Native.Nat.{ℕ, _+_}
+use Prim.Native.Nat.{ℕ}
 use native.Mathlib.Omega.{arith}
-use mathlib.Core.Path.{_≡_, refl, ap, _∙_}
+use mathlib.Core.Path.{_≡_, refl, sym, ap, _∙_}
 use mathlib.Core.List.{List}
 use mathlib.Core.Option.{Option, none, some}
 use lib.ListN.{length}
@@ -12,8 +12,7 @@ use Rattle.record.proofs.Exactly.{exactly}
 use Rattle.record.specs.Outcome.{gives, onto}
 use Rattle.record.specs.declared.event.Event.{Event}
 use Rattle.runs.specs.Runs.{offender}
-use Rattle.runs.specs.Plain.{Standing, Group}
-use Rattle.runs.specs.Rule.{Rule, Profile}
+use Rattle.runs.specs.Rule.{Profile}
 use Rattle.runs.specs.Pieces.{outcome}
 use Rattle.runs.specs.Output.{output}
 use Rattle.groups.specs.Matches.{begin}
@@ -22,11 +21,13 @@ use Rattle.output.proofs.MarkerBytes as pieces
 use Rattle.attention.specs.Attention.{unlessOffended, attention}
 use Rattle.attention.proofs.Beginning.{begins}
 use Rattle.ledgerlark.specs.declared.resolve.LarkResolved.{LarkResolved}
-use Rattle.matcher.specs.State.{Fresh, Ready}
+use Rattle.matcher.specs.Closer.{closerFrom}
 use Rattle.matcher.proofs.Chained.{onward-went}
-use Rattle.matcher.proofs.Resolving.{fresh-ready}
 use Rattle.claims.specs.Records.{docOf, allEvents}
-use Rattle.claims.specs.Matcher.{Stands, at-the-first, after-a-closer, AcceptedAsThePlainRule, AcceptedNests, GroupsAreThePlainRule's, AcceptedBegins, AcceptedGroups, ChainsAfterAMatch, ChainsAfterPassing, ChainsAfterEach, ChainsOnTheWay, ChainsFindTheSame}
+use Rattle.claims.specs.Matcher.{AcceptedAsThePlainRule, AcceptedNests, GroupsAreThePlainRule's, AcceptedBegins, AcceptedGroups, StandsByThePlainRule, ChainsAfterEach, StandsAfterEach, PromisedAtTheExit, AnswersThroughThese, ChainsFindTheSame}
+use Rattle.claims.proofs.ChainsAsLists.{chains-list}
+use Rattle.claims.proofs.Positions.{stands-both, up-to-plain, leads, each}
+use Rattle.claims.proofs.OnTheWay.{on-the-way}
 use Rattle.claims.proofs.Records.{no-row-sound, attention-claim}
 
 the-output : (o : Option ℕ) (all es : List Event) → unlessOffended o all ≡ gives es → es ≡ all
@@ -83,26 +84,33 @@ pub accepted-groups : AcceptedGroups
 unfolding outcome
 accepted-groups profile s options n made tried w w′ f a = groups-are-the-plain-rule's (profile .rule options) w n made tried w′ a .1 (begin profile options (docOf s) (allEvents s)) f
 
-pub chains-after-a-match : ChainsAfterAMatch
-chains-after-a-match rule w height n from groups tried next height′ groups′ tried′ w′ h rs gs r e = let x = h .of rs gs r e in (h .along, x .at, x .ready .listed)
-
-pub chains-after-passing : ChainsAfterPassing
-chains-after-passing rule w height rs gs n from passed t u w′ height′ r h e =
-    let went = onward-went passed rule w height rs gs n from t r h in
-    let at-end : Ready w′ height′ rs gs n (from + passed) = rw e at (went .ready) in
-    at-end .listed
-
-ready-there : {rule : Rule} {n : ℕ} {w₀ : List ℕ} {rs₀ : List Standing} {w : List ℕ} {height from tried : ℕ} {gs : List Group} {rs : List Standing} →
-    Fresh w₀ rs₀ n → Stands rule n w₀ rs₀ w height from tried gs rs → Ready w height rs gs n from
-ready-there f at-the-first = fresh-ready _ _ _ f
-ready-there f (after-a-closer st h) = let x = h .of _ _ (ready-there f st) refl in rw (x .at) (x .ready)
+pub stands-by-the-plain-rule : StandsByThePlainRule
+stands-by-the-plain-rule rule n w₀ rs₀ w height i made tried f st =
+    let b = stands-both f st in
+    (rw (b .up) (sym (b .size)), rw (b .up), rw (b .up) (b .ready .grouped), up-to-plain rule rs₀ i (omega (arith, b .ready .within, f .reads .len)))
 
 pub chains-after-each : ChainsAfterEach
-chains-after-each rule n w₀ rs₀ w height from tried gs rs f st = ready-there f st .listed
+chains-after-each rule n w₀ rs₀ w height i made tried f st =
+    let b = stands-both f st in
+    rw (b .up) (chains-list w height (b .runs) (b .groups) n i (b .ready))
 
-pub chains-on-the-way : ChainsOnTheWay
-chains-on-the-way rule n w₀ rs₀ w height from tried gs rs passed t u w′ height′ f st h e =
-    chains-after-passing rule w height rs gs n from passed t u w′ height′ (ready-there f st) h e
+pub stands-after-each : StandsAfterEach
+stands-after-each rule n w₀ rs₀ made tried w′ f a = each rule n w₀ rs₀ f (a .of rs₀ f .fits)
+
+pub promised-at-the-exit : PromisedAtTheExit
+promised-at-the-exit rule w height n i made tried next height′ made′ tried′ w′ h = (
+  h .along,
+  λ rs gs r e.
+      let x = h .of rs gs r e in
+      (x .at, rw (x .at) (chains-list w′ height′ (closerFrom rule rs i gs tried .runs) (closerFrom rule rs i gs tried .groups) n (closerFrom rule rs i gs tried .next) (x .ready))),
+)
+
+pub answers-through-these : AnswersThroughThese
+answers-through-these rule n w₀ rs₀ w height i made tried found w′ f a st =
+    let o = on-the-way f st in
+    rw (a .along ∙ o .way) (leads (o .turns) rule n w₀ rs₀ w height i made tried f st (o .enough))
 
 pub chains-find-the-same : ChainsFindTheSame
-chains-find-the-same rule w height rs gs n from m t r h = onward-went m rule w height rs gs n from t r h .next
+chains-find-the-same rule n w₀ rs₀ w height i made tried m t f st h =
+    let b = stands-both f st in
+    rw (b .up) (onward-went m rule w height (b .runs) (b .groups) n i t (b .ready) h .next)

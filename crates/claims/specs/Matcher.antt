@@ -3,27 +3,27 @@
 -- tried, and after each closer its chains hold exactly the runs up to it that can still open. No two groups cross, and no group crosses a
 -- container. Each marker byte of a run lies in exactly one piece of a group or one leftover piece of data."
 --
--- The plain rule (`plain`, and `closerFrom` for one closer) stands over the list of all earlier runs and knows of no chain. The chained matcher is a
--- definition too: `onward` (crates/chains/specs/Walk.antt) finds the next match, reading run by run onward only that run's own slot and, at a
--- closer, its chain from the head; `chained` (crates/matcher/specs/Along.antt) goes on by it closer by closer. Three contracts say that this is
--- what is done: `next_match` (crates/chains/src/walk.rt) is equal to `onward`, and `handle_closer` and `find_groups` (crates/matcher/src/closers.rt)
--- to `closerBy` and `chained`, each in answer and memory. That only chains are looked at is in the first: its premises say nothing of slots off
--- the chain. That the functions above it, up to the call, find their groups by it is seen in their bodies: on memory that is as they require, a
--- search over all runs would come to the same. What the promises of those two, `Handles` and `Answers`, say is drawn out here.
+-- The plain rule (`plain`, `plainUpTo` for the runs before a run, `closerFrom` for one closer) stands over the list of all earlier runs and knows of
+-- no chain. The chained matcher is a definition too: `onward` (crates/chains/specs/Walk.antt) finds the next match, reading run by run onward only that
+-- run's own slot and, at a closer, its chain from the head; `chained` (crates/matcher/specs/Along.antt) goes on by it closer by closer. Three contracts
+-- say that this is what is done: `next_match` (crates/chains/src/walk.rt) is equal to `onward`, and `handle_closer` and `find_groups`
+-- (crates/matcher/src/closers.rt) to `closerBy` and `chained`, each in answer and memory. That only chains are looked at is in the first: its premises
+-- say nothing of slots off the chain. That the functions above it, up to the call, find their groups by it is seen in their bodies: on memory that is
+-- as they require, a search over all runs would come to the same. What the promises of those two, `Handles` and `Answers`, say is drawn out here.
 --
--- First the call: what it reports and writes, and that nothing crosses. Then the matcher, from the memory that a record's runs are loaded into,
--- closer by closer: its groups, and its chains. These are the statements; proofs/Matcher.antt proves each under the name in small letters.
+-- First the call: what it reports and writes, and that nothing crosses. Then the matcher, from the memory that a record's runs are loaded into: its
+-- groups and its count; its chains after each closer, as lists of runs (ChainsAsLists.antt) wherever it stands (Positions.antt), and that this is the
+-- way to its answer; and what it finds along them. These are the statements; proofs/Matcher.antt proves each under the name in small letters.
 -- Assumes nothing.
 use Prim.Native.Nat.{ℕ, _+_, _<_, _≤_}
 use mathlib.Core.Path.{_≡_}
-use mathlib.Core.List.{List, []}
+use mathlib.Core.List.{List}
 use lib.ListN.{length}
 use Rattle.record.specs.Event.{sectionBytes}
 use Rattle.record.specs.Rows.{documentCount, eventCount}
 use Rattle.record.specs.Outcome.{onto}
 use Rattle.runs.specs.Runs.{runsOf}
 use Rattle.runs.specs.Plain.{Standing, Group, forth, plain}
-use Rattle.runs.specs.declared.Next.the-variants.{Done}
 use Rattle.runs.specs.Rule.{Rule, Profile}
 use Rattle.runs.specs.Pieces.{outcome}
 use Rattle.runs.specs.Output.{output}
@@ -41,14 +41,16 @@ use Rattle.loading.specs.Promise.{Loads}
 use Rattle.loading.specs.declared.pass.Loaded.the-variants.{Runs}
 use Rattle.matcher.specs.Promise.{Answers, Handles}
 use Rattle.matcher.specs.Closer.{closerFrom}
-use Rattle.matcher.specs.Chains.{Listed}
 use Rattle.matcher.specs.Along.{closerBy, chained}
 use Rattle.matcher.specs.Groups.{Grouped}
 use Rattle.matcher.specs.State.{Fresh, Ready}
 use Rattle.chains.specs.Walk.{onward}
 use Rattle.claims.specs.Records.{docOf, allEvents}
 use Rattle.matcher.specs.declared.closers.Step.the-variants.{Closed}
+use Rattle.matcher.specs.declared.closers.Found.{Found}
 use Rattle.matcher.specs.declared.closers.Found.the-variants.{Groups}
+use Rattle.claims.specs.ChainsAsLists.{ChainsList}
+use Rattle.claims.specs.Positions.{plainUpTo, roundsLeft, Stands, StandsAt, Leads}
 
 -- the groups that the plain rule makes of a record
 abbrev pub plainGroups : Profile → List ℕ → ℕ → List Group
@@ -109,48 +111,49 @@ AcceptedGroups =
     Answers (profile .rule options) w n (Groups made tried) w′ →
     (made ≡ length (plainGroups profile s options)) × (tried ≡ outcome profile options (docOf s) (allEvents s) .tried) × Grouped w′ (plainGroups profile s options) n
 
--- after each closer the chains hold exactly the runs up to it that can still open, as the plain rule has them on finishing that closer. A closer
--- that takes an opener is a step of its own: this is what the step promises
-abbrev pub ChainsAfterAMatch : Type 0
-ChainsAfterAMatch =
-    (rule : Rule) (w : List ℕ) (height n from groups tried next height′ groups′ tried′ : ℕ) (w′ : List ℕ) →
-    Handles rule w height n from groups tried (Closed next height′ groups′ tried′) w′ → (rs : List Standing) (gs : List Group) →
-    Ready w height rs gs n from → length gs ≡ groups →
-    ((Closed next height′ groups′ tried′, w′) ≡ closerBy rule w height from n groups tried)
-    × (next ≡ closerFrom rule rs from gs tried .next)
-    × Listed w′ height′ (closerFrom rule rs from gs tried .runs) (closerFrom rule rs from gs tried .next)
+-- where the matcher stands after a run, as Positions.antt has it, the plain rule stands too: it has made as many groups, which the memory holds, and
+-- has tried as many candidates; and what it makes of the first runs is what the rounds that are left make of the runs as they stand then
+abbrev pub StandsByThePlainRule : Type 0
+StandsByThePlainRule =
+    (rule : Rule) (n : ℕ) (w₀ : List ℕ) (rs₀ : List Standing) (w : List ℕ) (height i made tried : ℕ) →
+    Fresh w₀ rs₀ n → Stands rule n w₀ w height i made tried →
+    (made ≡ length (plainUpTo rule rs₀ i .groups)) × (tried ≡ plainUpTo rule rs₀ i .tried) × Grouped w (plainUpTo rule rs₀ i .groups) n
+    × (plain rule rs₀ ≡ roundsLeft rule (plainUpTo rule rs₀ i))
 
--- and a closer that takes none is passed: `onward`, which `next_match` is equal to, has after any number of passed runs chains that list exactly
--- the runs up to the last of them
-abbrev pub ChainsAfterPassing : Type 0
-ChainsAfterPassing =
-    (rule : Rule) (w : List ℕ) (height : ℕ) (rs : List Standing) (gs : List Group) (n from passed t u : ℕ) (w′ : List ℕ) (height′ : ℕ) →
-    Ready w height rs gs n from → from + passed ≤ n → onward passed rule w height from t ≡ (Done u, (w′, height′)) →
-    Listed w′ height′ rs (from + passed)
-
--- where a matcher stands that began on the memory w₀ with the runs rs₀, and has gone on by steps that keep the promise of `handle_closer`: its
--- memory, the height of its open runs, the run to go on from, the candidates tried; and the groups and runs as the plain rule has them by then
-pub data Stands (rule : Rule) (n : ℕ) (w₀ : List ℕ) (rs₀ : List Standing) : List ℕ → ℕ → ℕ → ℕ → List Group → List Standing → Type 0 where
-  at-the-first : Stands rule n w₀ rs₀ w₀ 0 0 0 [] rs₀
-  after-a-closer : {w w′ : List ℕ} {height from tried next height′ groups′ tried′ : ℕ} {gs : List Group} {rs : List Standing} →
-      Stands rule n w₀ rs₀ w height from tried gs rs → Handles rule w height n from (length gs) tried (Closed next height′ groups′ tried′) w′ →
-      Stands rule n w₀ rs₀ w′ height′ next tried′ (closerFrom rule rs from gs tried .groups) (closerFrom rule rs from gs tried .runs)
-
--- so after each closer that takes an opener, from the first to the last, the chains hold exactly the runs up to it that can still open
+-- "After each closer the chains, one per marker and container, list exactly the runs up to it with markers left that can still open, latest first,
+-- as the plain rule has them on finishing that closer". The run i stands behind the closer, which took an opener or was passed
 abbrev pub ChainsAfterEach : Type 0
 ChainsAfterEach =
-    (rule : Rule) (n : ℕ) (w₀ : List ℕ) (rs₀ : List Standing) (w : List ℕ) (height from tried : ℕ) (gs : List Group) (rs : List Standing) →
-    Fresh w₀ rs₀ n → Stands rule n w₀ rs₀ w height from tried gs rs → Listed w height rs from
+    (rule : Rule) (n : ℕ) (w₀ : List ℕ) (rs₀ : List Standing) (w : List ℕ) (height i made tried : ℕ) →
+    Fresh w₀ rs₀ n → Stands rule n w₀ w height i made tried → ChainsList w (plainUpTo rule rs₀ i .runs) i
 
--- and so they do after each closer that is passed on the way from there to the next match
-abbrev pub ChainsOnTheWay : Type 0
-ChainsOnTheWay =
-    (rule : Rule) (n : ℕ) (w₀ : List ℕ) (rs₀ : List Standing) (w : List ℕ) (height from tried : ℕ) (gs : List Group) (rs : List Standing)
-    (passed t u : ℕ) (w′ : List ℕ) (height′ : ℕ) → Fresh w₀ rs₀ n → Stands rule n w₀ rs₀ w height from tried gs rs → from + passed ≤ n →
-    onward passed rule w height from t ≡ (Done u, (w′, height′)) → Listed w′ height′ rs (from + passed)
+-- and there is such a place behind each run, from the first to the last, wherever all groups have room
+abbrev pub StandsAfterEach : Type 0
+StandsAfterEach =
+    (rule : Rule) (n : ℕ) (w₀ : List ℕ) (rs₀ : List Standing) (made tried : ℕ) (w′ : List ℕ) →
+    Fresh w₀ rs₀ n → Answers rule w₀ n (Groups made tried) w′ → (i : ℕ) → i ≤ n → StandsAt rule n w₀ i
 
--- where chains and runs agree, what `onward` finds along the chains, and how many it tries, is what the plain rule finds among all earlier runs
+-- "the step that handles one closer promises this at its exit": it is a step of `along`, so from such a place it comes to such a place; and of
+-- whatever runs and groups the memory has, the chains then list those up to the closer as the plain rule has them on finishing it
+abbrev pub PromisedAtTheExit : Type 0
+PromisedAtTheExit =
+    (rule : Rule) (w : List ℕ) (height n i made tried next height′ made′ tried′ : ℕ) (w′ : List ℕ) →
+    Handles rule w height n i made tried (Closed next height′ made′ tried′) w′ →
+    ((Closed next height′ made′ tried′, w′) ≡ closerBy rule w height i n made tried)
+    × ((rs : List Standing) (gs : List Group) → Ready w height rs gs n i → length gs ≡ made →
+    (next ≡ closerFrom rule rs i gs tried .next) × ChainsList w′ (closerFrom rule rs i gs tried .runs) next)
+
+-- these are the memories that `find_groups` goes through: from each such place, the first among them, its steps lead over such places alone to the
+-- last, where its answer and memory are
+abbrev pub AnswersThroughThese : Type 0
+AnswersThroughThese =
+    (rule : Rule) (n : ℕ) (w₀ : List ℕ) (rs₀ : List Standing) (w : List ℕ) (height i made tried : ℕ) (found : Found) (w′ : List ℕ) →
+    Fresh w₀ rs₀ n → Answers rule w₀ n found w′ → Stands rule n w₀ w height i made tried → Leads rule n w₀ w height i made tried (found, w′)
+
+-- "the call that finds the next match": from such a place, what `onward` finds along the chains, and how many it tries, is what the plain rule finds
+-- among all earlier runs
 abbrev pub ChainsFindTheSame : Type 0
 ChainsFindTheSame =
-    (rule : Rule) (w : List ℕ) (height : ℕ) (rs : List Standing) (gs : List Group) (n from m t : ℕ) →
-    Ready w height rs gs n from → from + m ≤ n → onward m rule w height from t .0 ≡ forth rule m rs from t
+    (rule : Rule) (n : ℕ) (w₀ : List ℕ) (rs₀ : List Standing) (w : List ℕ) (height i made tried m t : ℕ) →
+    Fresh w₀ rs₀ n → Stands rule n w₀ w height i made tried → i + m ≤ n →
+    onward m rule w height i t .0 ≡ forth rule m (plainUpTo rule rs₀ i .runs) i t

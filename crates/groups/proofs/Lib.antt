@@ -2,6 +2,7 @@ pub mod Search
 pub mod Laws
 pub mod Matches
 pub mod Accounts
+pub mod AtFirst
 pub mod Groups
 pub mod Places
 pub mod Crossing

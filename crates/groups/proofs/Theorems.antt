@@ -1,11 +1,12 @@
 -- The theorems of specs/Theorems.antt, each from the file that has its proof.
 -- Assumes nothing.
-use Rattle.groups.specs.Theorems.{groupsOf, withTildes, AccountsHold, NoneOverspent, EachMade, EachTook, EachJoined, ClosersInOrder, TildesAsTheRuleSays, EachHeld, GroupsNeverCross, EventsArePaired, ContainersNeverCrossed, ContainerIsOne, PlainRuleEnds, NothingWithoutRuns}
+use Rattle.groups.specs.Theorems.{groupsOf, withTildes, AccountsHold, NoneOverspent, EachMade, EachTook, BothAsAtFirst, EachJoined, ClosersInOrder, TildesAsTheRuleSays, EachHeld, GroupsNeverCross, EventsArePaired, ContainersNeverCrossed, ContainerIsOne, PlainRuleEnds, NothingWithoutRuns}
 use Rattle.record.specs.Options.{optionOn}
 use Rattle.groups.specs.Matches.{begin}
 use Rattle.groups.proofs.Matches.{outcome-matched}
 use Rattle.groups.proofs.Accounts.{outcome-account, spent-within}
 use Rattle.groups.proofs.Groups.{made, took, rising}
+use Rattle.groups.proofs.AtFirst.{at-first}
 use Rattle.groups.proofs.Crossing.{outcome-joined, never-cross}
 use Rattle.groups.proofs.Spans.{held}
 use Rattle.groups.proofs.Tildes.{strikes}
@@ -24,6 +25,9 @@ each-made profile options doc es = made (outcome-matched profile options doc es 
 
 pub each-took : EachTook
 each-took rule rs₀ gs i w = took w
+
+pub both-as-at-first : BothAsAtFirst
+both-as-at-first = at-first
 
 pub each-joined : EachJoined
 each-joined = outcome-joined

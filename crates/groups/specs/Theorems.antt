@@ -11,10 +11,10 @@ use Rattle.record.specs.Sound.{sound}
 use Rattle.record.specs.declared.event.Event.{Event}
 use Rattle.runs.specs.Runs.{runsOf}
 use Rattle.runs.specs.Rule.{Side, Rule, Profile, ruleOver, crate, standard}
-use Rattle.runs.specs.Plain.{Standing, Group, at, groupAt, plain}
+use Rattle.runs.specs.Plain.{Standing, Group, at, sideOf, candidate, groupAt, plain}
 use Rattle.runs.specs.Pieces.{outcome, closed, opened}
 use Rattle.runs.specs.Output.{output}
-use Rattle.groups.specs.Matches.{begin}
+use Rattle.groups.specs.Matches.{Matches, begin}
 use Rattle.groups.specs.Accounts.{Accounts}
 use Rattle.groups.specs.Groups.{Made, Amount, Joined, Rising}
 use Rattle.groups.specs.Tildes.{Strikes}
@@ -51,6 +51,14 @@ abbrev pub EachTook : Type 0
 EachTook =
     (rule : Rule) (rs₀ : List Standing) (gs : List Group) (i : ℕ) (w : Made rule rs₀ gs i) →
     Amount (at (w .runs) (groupAt gs i .opener) .left) (at (w .runs) (groupAt gs i .closer) .left) (groupAt gs i .taken)
+
+-- whether a run "can both open and close": the standard goes by what it can do at first, the plain rule by what it can do as it stands. Wherever a
+-- candidate is tried they agree, of the opener and of the closer: after any matches, a candidate that is tried by a run at or behind their last closer
+abbrev pub BothAsAtFirst : Type 0
+BothAsAtFirst =
+    (rule : Rule) (rs₀ : List Standing) (gs : List Group) (rs : List Standing) (last : ℕ) → Matches rule rs₀ gs rs last →
+    (o c : ℕ) → last ≤ c → candidate (at rs o) (at rs c) ≡ true →
+    (sideOf (at rs o) .both ≡ sideOf (at rs₀ o) .both) × (sideOf (at rs c) .both ≡ sideOf (at rs₀ c) .both)
 
 -- opener before closer, one marker and one container on both sides, 1 or 2 taken
 abbrev pub EachJoined : Type 0
