@@ -63,7 +63,6 @@ pub record Keeps (rule : Rule) (w₀ : List ℕ) (height n from groups tried : �
   pub order : InOrder w held n at
   pub upto : at ≤ until
   pub within : until ≤ n
-  pub start : from ≤ at
   pub low : from < n
   pub room : made ≤ 1000
   pub few : count ≤ (made + from) * 1048576
@@ -72,7 +71,7 @@ pub record Keeps (rule : Rule) (w₀ : List ℕ) (height n from groups tried : �
 
 pub keeps-start : {rule : Rule} {w : List ℕ} {height n from groups tried : ℕ} → Begun w height n from groups tried → Keeps rule w height n from groups tried w from n height groups tried
 keeps-start {rule} {w} {height} {n} {from} {groups} {tried} b =
-    record { order = b .order; upto = b .order .sound .within; within = omega arith; start = omega arith; low = b .more; room = b .room; few = b .few; len = refl; way = refl }
+    record { order = b .order; upto = b .order .sound .within; within = omega arith; low = b .more; room = b .room; few = b .few; len = refl; way = refl }
 
 module _ {rule : Rule} {w₀ : List ℕ} {height n from groups tried : ℕ} {w : List ℕ} {at until held made count : ℕ} (k : Keeps rule w₀ height n from groups tried w at until held made count) where
   -- fewer runs in sight
@@ -120,7 +119,6 @@ module _ {rule : Rule} {w₀ : List ℕ} {height n from groups tried : ℕ} {w :
               order = rw (← f) at (match-order w₁ h₁ n o c made (walk-order rule (k .order) (k .upto) (k .within) e d) keeps-takable);
               upto = omega arith;
               within = omega (arith, walk-below rule (k .order) (k .upto) (k .within) e d);
-              start = omega (arith, k .start, met rule (k .order) (k .upto) (k .within) e d .from);
               low = k .low;
               room = omega (arith, k .room);
               few = omega (arith, k .few, keeps-few);

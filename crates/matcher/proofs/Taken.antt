@@ -17,14 +17,15 @@ use Rattle.runs.specs.Plain.{Standing, Group, group, at, opener, closer, takenB
 use Rattle.slots.specs.Layout.{leftOf, opensOf, withLeft}
 use Rattle.matcher.specs.Chains.{openers, Reads, Listed}
 use Rattle.matcher.specs.Groups.{Grouped}
-use Rattle.matcher.specs.State.{Ready}
+use Rattle.matcher.specs.State.{Ready, InOrder}
+use Rattle.chains.specs.Walk.{Sound}
 use Rattle.chains.specs.Step.{unchained, cleared, leaves, lowered, joined, takenAt, matchedAt, Takable}
 use Rattle.matcher.proofs.Lists.{openers-on}
 use Rattle.matcher.proofs.Frames.{SameRuns, grouped-same, listed-same}
 use Rattle.matcher.proofs.Chained.{closer-left}
 use Rattle.chains.proofs.Pops.{leaves-on, leaves-off, lowered-on, lowered-off}
-use Rattle.matcher.proofs.Order.{takable, ready-order, ready-open}
-use Rattle.matcher.proofs.Writes.{Lasting, cleared-lasting, match-amount, match-chain, match-room, match-length, match-runs, match-opens, match-links, match-left-own, match-left-closer, match-left-other, match-chains, match-groups}
+use Rattle.matcher.proofs.Order.{takable, match-order, ready-order, ready-open}
+use Rattle.matcher.proofs.Writes.{Lasting, cleared-lasting, match-amount, match-chain, match-room, match-runs, match-opens, match-left-own, match-left-closer, match-left-other, match-chains, match-groups}
 use Rattle.matcher.proofs.Matched.{matched-length, whole-same, marker-same, closes-same, chain-kept, left-own, left-closer, left-other, left-le, opens-between, opens-before, opens-after, level-low, level-own, shut-between, shut-own}
 use Rattle.matcher.proofs.Between.{Clears, cleared-clears, listed-unchained, listed-move}
 use Rattle.matcher.proofs.Joins.{joined-grouped}
@@ -35,9 +36,12 @@ unfolding opener and
 no-opener s h e = rw (lt-ltb 0 (s .left) h) at e
 
 module _ (w : List ℕ) (height : ℕ) (rs : List Standing) (gs : List Group) (n o c : ℕ) (r : Ready w height rs gs n c) (lo : o < c) (lc : c < n) (op : opener (at rs o) ≡ true) (cl : closer (at rs c) ≡ true) (lg : length gs < 1000) where
+  order : InOrder w height n c
+  order = ready-order w height rs gs n c r
+
   t : Takable w height o c (length gs)
   t =
-      takable (ready-order w height rs gs n c r) lc (omega (arith, r .reads .left c lc, closer-left (at rs c) cl)) (ready-open w height rs gs n c r o lo op) lg
+      takable order lc (omega (arith, r .reads .left c lc, closer-left (at rs c) cl)) (ready-open w height rs gs n c r o lo op) lg
 
   ko : o < 1024
   ko = omega (arith, r .few)
@@ -177,15 +181,18 @@ module _ (w : List ℕ) (height : ℕ) (rs : List Standing) (gs : List Group) (n
   grouped : Grouped f (gs ++ (group o c (takenBy rs o c) ∷ [])) n
   grouped = rw (← ek) (joined-grouped x₂ gs n o c k (grouped-same w x₂ gs n (r .few) (match-groups w height o c (length gs) t) (r .grouped)) (r .few) (omega arith) lc lg (omega (arith, match-room w height o c (length gs) t, r .room)))
 
+  sound : Sound (matchedAt w height o c (length gs) .0) (matchedAt w height o c (length gs) .1) n c
+  sound = match-order w height n o c (length gs) order t .sound
+
   pub match-ready : Ready (matchedAt w height o c (length gs) .0) (matchedAt w height o c (length gs) .1) (matched rs o c) (gs ++ (group o c (takenBy rs o c) ∷ [])) n c
   unfolding matchedAt
   match-ready =
       record {
-        room = omega (arith, match-length w height o c (length gs) t, r .room);
+        room = sound .room;
         few = r .few;
         within = r .within;
-        falls = λ j h. omega (arith, match-links w height o c (length gs) t j (omega (arith, r .few)), r .falls j h);
-        chains = λ j h. omega (arith, runs .chain j (omega (arith, r .few)), r .chains j h);
+        falls = sound .links;
+        chains = sound .chains;
         reads = reads;
         listed = listed;
         grouped = grouped;
