@@ -26,13 +26,13 @@ abbrev pub Falls : List ℕ → ℕ → Type 0
 Falls w n = (o : ℕ) → o < n → linkOf w o ≤ o
 
 -- one step down, its tests as arguments that rewriting finds
-down-suc : (k : ℕ) (rule : Rule) (w : List ℕ) (i p t : ℕ)
+pub down-suc : (k : ℕ) (rule : Rule) (w : List ℕ) (i p t : ℕ)
     → down (suc k) rule w i p t
     ≡ choose (eqb p 0) (miss t) (choose (takesAt rule w (p - 1) i) (hit (p - 1) (t + 1)) (down k rule w i (linkOf w (p - 1)) (t + 1)))
 unfolding down
 down-suc k rule w i p t = refl
 
-down-zero : (rule : Rule) (w : List ℕ) (i p t : ℕ) → down zero rule w i p t ≡ miss t
+pub down-zero : (rule : Rule) (w : List ℕ) (i p t : ℕ) → down zero rule w i p t ≡ miss t
 unfolding down
 down-zero rule w i p t = refl
 

@@ -7,9 +7,11 @@
 -- no chain. The chained matcher is a definition too: `onward` (crates/chains/specs/Walk.antt) finds the next match, reading run by run onward only that
 -- run's own slot and, at a closer, its chain from the head; `chained` (crates/matcher/specs/Along.antt) goes on by it closer by closer. Three contracts
 -- say that this is what is done: `next_match` (crates/chains/src/walk.rt) is equal to `onward`, and `handle_closer` and `find_groups`
--- (crates/matcher/src/closers.rt) to `closerBy` and `chained`, each in answer and memory. That only chains are looked at is in the first: its premises
--- say nothing of slots off the chain. That the functions above it, up to the call, find their groups by it is seen in their bodies: on memory that is
--- as they require, a search over all runs would come to the same. What the promises of those two, `Handles` and `Answers`, say is drawn out here.
+-- (crates/matcher/src/closers.rt) to `closerBy` and `chained`, each in answer and memory. That only chains are looked at is in the first two: their
+-- premises say of no slot that it is emptied, can't open or has another marker or container, and what is off the chains is not taken
+-- (crates/matcher/specs/OffChains.antt). That `find_groups`, which begins with empty chains, and the call above it go by them is seen in their bodies:
+-- on memory that is as they require, a search over all runs would come to the same. What the promises of those two, `Handles` and `Answers`, say is
+-- drawn out here.
 --
 -- First the call: what it reports and writes, and that nothing crosses. Then the matcher, from the memory that a record's runs are loaded into: its
 -- groups and its count; its chains after each closer, as lists of runs (ChainsAsLists.antt) wherever it stands (Positions.antt), and that this is the

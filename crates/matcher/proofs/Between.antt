@@ -7,7 +7,7 @@
 use Prim.Native.Nat.{ℕ, zero, suc, _+_, _-_, _*_, _<_, _≤_}
 use mathlib.Core.Path.{_≡_, refl, _∙_, sym, ap}
 use mathlib.Core.List.{List}
-use mathlib.Core.Bool.{Bool, true, false, not}
+use mathlib.Core.Bool.{Bool, true, false}
 use native.Mathlib.Omega.{arith}
 use lib.Dec.{eqb, ltb}
 use lib.ListN.{length}
@@ -20,8 +20,9 @@ use Rattle.slots.specs.Layout.{opensOf, linkOf, headOf, chainOf, openAt}
 use Rattle.matcher.specs.Chains.{on, latest, openers, Listed}
 use Rattle.chains.specs.Step.{unchained, popped, cleared}
 use Rattle.matcher.proofs.Lists.{on-chain, on-yes, latest-off, latest-shut, latest-level, openers-on, openers-past, openers-shut, openers-level, Level, level-less, Shut}
-use Rattle.matcher.proofs.Frames.{SameRuns, SameLeft, SameGroups, SameChains, same-runs, runs-then, groups-then, listed-same}
-use Rattle.chains.proofs.Pops.{cleared-stop, cleared-pop, unchained-word, unchained-own, unchained-other, popped-word, popped-byte, popped-own, popped-head, popped-length, popped-chain, popped-stack}
+use Rattle.matcher.proofs.Frames.{listed-same}
+use Rattle.matcher.proofs.Writes.{popped-opens, popped-chains}
+use Rattle.chains.proofs.Pops.{cleared-stop, cleared-pop, unchained-word, unchained-own, unchained-other, popped-own, popped-length, popped-chain}
 
 -- the latest run below b that can open, which is the top of the open runs
 pub record Top (rs : List Standing) (b h : ℕ) : Type 0 where
@@ -112,52 +113,11 @@ module _ (w : List ℕ) (h : ℕ) (rs : List Standing) (q : ℕ) (lq : q < 1024)
           go false e =
               unchained-other w q k (λ y. clash (on-yes rs k q op (sym ch ∙ y)) e) ∙ l .heads k x ∙ latest-off rs q k e
 
--- what the loop over the open runs leaves
+-- what the loop over the open runs comes to, besides what it leaves as it was
 pub record Clears (w : List ℕ) (rs : List Standing) (o b : ℕ) (v : List ℕ) (h : ℕ) : Type 0 where
-  pub runs : SameRuns w v
-  pub left : SameLeft w v
-  pub groups : SameGroups w v
-  pub links : (j : ℕ) → j < 1024 → linkOf v j ≡ linkOf w j
-  pub len : length v ≡ length w
   pub kept : (j : ℕ) → j < 1024 → (o < j → j < b → opener (at rs j) ≡ true → ⊥) → opensOf v j ≡ opensOf w j
   pub shut : (j : ℕ) → o < j → j < b → opener (at rs j) ≡ true → opensOf v j ≡ false
   pub listed : Listed v h rs (o + 1)
-
--- the frame of a run that is popped
-module _ (w : List ℕ) (q : ℕ) (lq : q < 1024) (lk : chainOf w q < 6147) where
-  popped-runs : SameRuns w (popped w q)
-  popped-runs =
-      same-runs w (popped w q)
-      (λ j h. popped-word w q (j * 16) (λ y z. omega arith) (λ y z. omega arith))
-      (λ j h. popped-word w q (j * 16 + 8) (λ y z. omega arith) (λ y z. omega arith))
-      (λ j h. popped-byte w q (j * 16 + 4) (λ y z. omega arith) (λ y. omega arith))
-      (λ j h. popped-byte w q (j * 16 + 6) (λ y z. omega arith) (λ y. omega arith))
-
-  popped-left : SameLeft w (popped w q)
-  popped-left j h = popped-word w q (j * 16 + 2) (λ y z. omega arith) (λ y z. omega arith)
-
-  popped-groups : SameGroups w (popped w q)
-  popped-groups =
-      record {
-        first = λ j h. popped-word w q (j * 16 + 12) (λ y z. omega arith) (λ y z. omega arith);
-        latest = λ j h. popped-word w q (j * 16 + 14) (λ y z. omega arith) (λ y z. omega arith);
-        group = λ p h. popped-word w q p (λ y z. omega arith) (λ y z. omega arith);
-      }
-
-  popped-links : (j : ℕ) → j < 1024 → linkOf (popped w q) j ≡ linkOf w j
-  popped-links j h = popped-word w q (j * 16 + 10) (λ y z. omega arith) (λ y z. omega arith)
-
-  popped-opens : (j : ℕ) → j < 1024 → (j ≡ q → ⊥) → opensOf (popped w q) j ≡ opensOf w j
-  popped-opens j h ne = ap (λ x. not (eqb x 0)) (popped-byte w q (j * 16 + 5) (λ y z. omega arith) (λ y. ne (omega arith)))
-
-  -- the flag touches no chain
-  popped-chains : SameChains (unchained w q) (popped w q)
-  popped-chains =
-      record {
-        link = λ j h. popped-links j h ∙ sym (unchained-word w q (j * 16 + 10) (λ y z. omega arith));
-        head = λ k h. popped-head w q k h lq;
-        stack = λ x h. popped-stack w q x h lq lk ∙ sym (unchained-word w q (28678 + x * 2) (λ y z. omega arith));
-      }
 
 abbrev Clearing : ℕ → Type 0
 Clearing h = (w : List ℕ) (rs : List Standing) (o b : ℕ) → b ≤ 1024 → 38726 ≤ length w → ((j : ℕ) → j < b → chainOf w j < 6147)
@@ -186,11 +146,6 @@ cleared-clears (suc h) w rs o b lb room lk ch l op ls = go (cleared-clears h) (t
         by false e =
             let f : openAt w h ≤ o = ltb-false o (openAt w h) e in
             rw (cleared-stop h w o f) (record {
-              runs = same-runs w w (λ j x. refl) (λ j x. refl) (λ j x. refl) (λ j x. refl);
-              left = λ j x. refl;
-              groups = record { first = λ j x. refl; latest = λ j x. refl; group = λ p x. refl };
-              links = λ j x. refl;
-              len = refl;
               kept = λ j x n. refl;
               shut = λ j x y z. absurd (clash z (t .shut j (omega (arith, tops)) y));
               listed = rw here at low;
@@ -211,11 +166,6 @@ cleared-clears (suc h) w rs o b lb room lk ch l op ls = go (cleared-clears h) (t
             (λ j x. omega (arith, popped-chain w (t .run) j (omega arith) lq kq, lk j (omega (arith, t .below))))
             (λ j x. popped-chain w (t .run) j (omega arith) lq kq ∙ ch j (omega (arith, t .below))) oq op lv in
             rw (cleared-pop h w o f, tops) (record {
-              runs = runs-then (popped-runs w (t .run) lq kq) (i .runs);
-              left = λ j x. i .left j x ∙ popped-left w (t .run) lq kq j x;
-              groups = groups-then (popped-groups w (t .run) lq kq) (i .groups);
-              links = λ j x. i .links j x ∙ popped-links w (t .run) lq kq j x;
-              len = i .len ∙ popped-length w (t .run);
               kept = λ j x n. i .kept j x (λ a y z. n a (omega (arith, t .below)) z) ∙ popped-opens w (t .run) lq kq j x (λ y. n (omega arith) (omega (arith, t .below)) (rw y (t .opens)));
               shut = shut (i .kept) (i .shut);
               listed = i .listed;

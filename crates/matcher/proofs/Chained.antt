@@ -232,7 +232,11 @@ module _ (w : List ℕ) (height : ℕ) (rs : List Standing) (gs : List Group) (n
         grouped = grouped-same w (passed w height i) gs n (r .few) same-groups (r .grouped);
       }
 
-onward-suc : (m : ℕ) (rule : Rule) (w : List ℕ) (height i t : ℕ)
+pub onward-zero : (rule : Rule) (w : List ℕ) (height i t : ℕ) → onward zero rule w height i t ≡ (Done t, (w, height))
+unfolding onward
+onward-zero rule w height i t = refl
+
+pub onward-suc : (m : ℕ) (rule : Rule) (w : List ℕ) (height i t : ℕ)
     → onward (suc m) rule w height i t
     ≡ settle (seek rule w i t) (λ o u. (Match o i u, (w, height))) (λ u. onward m rule (passed w height i) (raised w height i) (i + 1) u)
 unfolding onward

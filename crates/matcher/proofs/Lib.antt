@@ -3,10 +3,13 @@ pub mod Lists
 pub mod Frames
 pub mod Chained
 pub mod Matched
-pub mod Between
-pub mod Joins
-pub mod Taken
 pub mod Rounds
+pub mod Joins
+pub mod Writes
+pub mod Order
+pub mod Between
+pub mod Taken
 pub mod Handling
 pub mod Resolving
 pub mod Rising
+pub mod OffChains

@@ -2,6 +2,7 @@
 --     on-opener, on-chain, on-yes, on-not     when a run is on a chain
 --     latest-more, latest-le, latest-same     the latest one further on, its bound, and that it goes by what is on the chain
 --     openers-more, openers-same ..           the same of the count
+--     latest-named, place                     which run is the latest, and which one has so many that can open before it
 --     candidate-on                            the plain rule's candidates are the runs on the closer's chain
 -- Assumes nothing.
 use Prim.Native.Nat.{ℕ, zero, suc, _+_, _-_, _<_, _≤_}
@@ -10,8 +11,8 @@ use mathlib.Core.List.{List}
 use mathlib.Core.Bool.{Bool, true, false}
 use native.Mathlib.Omega.{arith}
 use native.Mathlib.Numerals.{add-one}
-use lib.Dec.{eqb}
-use borrow.Author.Tests.{eq-eqb, eqb-true}
+use lib.Dec.{eqb, ltb}
+use borrow.Author.Tests.{eq-eqb, eqb-true, ltb-true, ltb-false}
 use Rattle.record.specs.Choice.{choose}
 use Rattle.record.proofs.Bools.{and-left, and-right, and-both, clash}
 use Rattle.runs.specs.Runs.{isMarker}
@@ -102,6 +103,45 @@ openers-past rs j i h o =
     let e : j + 1 + (i - (j + 1)) ≡ i = omega arith in
     let u : openers rs (j + 1) ≤ openers rs i = rw e at (openers-up rs (j + 1) (i - (j + 1))) in
     omega (arith, openers-on rs j o)
+
+-- the latest run below q, if there is one
+pub record Named (rs : List Standing) (k q p : ℕ) : Type 0 where
+  pub run : ℕ
+  pub below : run < q
+  pub there : on rs k run ≡ true
+  pub is : run + 1 ≡ p
+
+pub latest-named : (rs : List Standing) (k q p : ℕ) → latest rs k q ≡ p → 0 < p → Named rs k q p
+unfolding latest choose
+latest-named rs k zero p e h = absurd (omega arith)
+latest-named rs k (suc j) p e h = go (latest-named rs k j p) (on rs k j) refl
+  where
+    go : (latest rs k j ≡ p → 0 < p → Named rs k j p) → (z : Bool) → on rs k j ≡ z → Named rs k (suc j) p
+    go ih true o = let f : j + 1 ≡ p = rw o at e in record { run = j; below = omega arith; there = o; is = f }
+    go ih false o = let f : latest rs k j ≡ p = rw o at e in let a = ih f h in record { run = a .run; below = omega (arith, a .below); there = a .there; is = a .is }
+
+-- which run stands at a height of the open runs
+pub record Place (rs : List Standing) (i x : ℕ) : Type 0 where
+  pub run : ℕ
+  pub below : run < i
+  pub opens : opener (at rs run) ≡ true
+  pub count : openers rs run ≡ x
+
+pub place : (rs : List Standing) (i x : ℕ) → x < openers rs i → Place rs i x
+unfolding openers choose
+place rs zero x h = absurd (omega arith)
+place rs (suc i) x h = go (place rs i x) (opener (at rs i)) refl (ltb x (openers rs i)) refl
+  where
+    wider : Place rs i x → Place rs (suc i) x
+    wider p = record { run = p .run; below = omega (arith, p .below); opens = p .opens; count = p .count }
+
+    go : (x < openers rs i → Place rs i x) → (y : Bool) → opener (at rs i) ≡ y → (z : Bool) → ltb x (openers rs i) ≡ z → Place rs (suc i) x
+    go ih y o true l = wider (ih (ltb-true x (openers rs i) l))
+    go ih false o false l = let f : x < openers rs i = rw o at h in wider (ih f)
+    go ih true o false l =
+        let f : x < openers rs i + 1 = rw o at h in
+        let g : openers rs i ≤ x = ltb-false x (openers rs i) l in
+        record { run = i; below = omega arith; opens = o; count = omega arith }
 
 -- both go by what can open, and where, below the number
 module _ (rs ts : List Standing) where

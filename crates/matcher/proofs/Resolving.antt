@@ -17,6 +17,7 @@ use Rattle.matcher.specs.State.{Fresh, Ready}
 use Rattle.matcher.specs.Closer.{Finish, closerFrom}
 use Rattle.matcher.specs.Along.{along, chained}
 use Rattle.matcher.specs.Promise.{Begun, ClosedAs, Handles, Loaded, Answered}
+use Rattle.matcher.proofs.Order.{ready-order}
 use Rattle.matcher.proofs.Rounds.{rounds-finish, rounds-longer, rounds-end}
 
 -- before the first match all is ready at the first run
@@ -69,7 +70,7 @@ resolve-loaded k l = k .of (l .runs) (l .fresh)
 
 module _ {rule : Rule} {rs : List Standing} {n : ℕ} {w : List ℕ} {from height groups tried : ℕ} (g : Resolving rule rs n w from height groups tried) where
   pub resolve-begun : from < n → Begun w height n from groups tried
-  resolve-begun h = record { runs = g .runs; made = g .made; ready = g .ready; count = g .size; more = h; few = g .few }
+  resolve-begun h = record { order = ready-order w height (g .runs) (g .made) n from (g .ready); more = h; room = let f = g .ready .grouped .fits in let s = g .size in omega arith; few = g .few }
 
   long : length (g .runs) ≡ n
   long = g .ready .reads .len

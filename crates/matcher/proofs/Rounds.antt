@@ -1,13 +1,12 @@
 -- The plain rule, match by match and closer by closer, over any rule and with no memory in sight.
 --     forth-found               what a next match is: an opener before a closer, both with markers left
---     forth-count               how many candidates it tried at most
 --     forth-split, forth-shift  onward in two parts, and from another count
 --     matched-total             a match leaves fewer markers
 --     rounds-match, -skip, -end the plain rule, by what is found up to some run
 --     finish-match, finish-done one closer to its end, in the same way
 --     rounds-finish             the plain rule is the plain rule from where that closer was finished
 -- Assumes nothing.
-use Prim.Native.Nat.{ℕ, zero, suc, _+_, _-_, _*_, _<_, _≤_}
+use Prim.Native.Nat.{ℕ, zero, suc, _+_, _-_, _<_, _≤_}
 use mathlib.Core.Path.{_≡_, refl, _∙_, sym, ap}
 use mathlib.Core.List.{List, [], _∷_, _++_}
 use mathlib.Core.Bool.{Bool, true, false}
@@ -26,10 +25,10 @@ use Rattle.matcher.proofs.Matched.{matched-length, left-le, left-closer
 use Rattle.chains.proofs.Pops.{amount-le}
 
 -- two answers of a search are never both
-hit-miss : {o u t : ℕ} → hit o u ≡ miss t → ⊥
+pub hit-miss : {o u t : ℕ} → hit o u ≡ miss t → ⊥
 hit-miss e = let z : _≡_ {A = ℕ} 0 1 = cc in omega arith
 
-match-done : {o c u t : ℕ} → Match o c u ≡ Done t → ⊥
+pub match-done : {o c u t : ℕ} → Match o c u ≡ Done t → ⊥
 match-done e = let z : _≡_ {A = ℕ} 0 1 = cc in omega arith
 
 -- what a search back hits is an earlier run that can open
@@ -83,44 +82,6 @@ forth-found rule (suc m) rs i t o c u e = go (λ v. forth-found rule m rs (i + 1
         let f : forth rule m rs (i + 1) q ≡ Match o c u = sym (forth-suc rule m rs i t ∙ ap (λ x. settle x (λ o u. Match o i u) (λ u. forth rule m rs (i + 1) u)) a) ∙ e in
         let r = ih q f in
         record { from = omega (arith, r .from); within = omega (arith, r .within); before = r .before; opens = r .opens; closes = r .closes }
-
--- how many candidates are tried
-abbrev pub lookTried : Look → ℕ
-lookTried (hit o u) = u
-lookTried (miss u) = u
-
-abbrev pub triedBy : Next → ℕ
-triedBy (Match o c u) = u
-triedBy (Done u) = u
-
-back-count : (rule : Rule) (j : ℕ) (rs : List Standing) (c t : ℕ) → lookTried (back rule j rs c t) ≤ t + j
-unfolding choose
-back-count rule zero rs c t = rw (back-zero rule rs c t) (omega arith)
-back-count rule (suc j) rs c t = rw (back-suc rule j rs c t) (go (back-count rule j rs c t) (back-count rule j rs c (t + 1)) (candidate (at rs j) (at rs c)) (takes rule (at rs j) (at rs c)))
-  where
-    go : lookTried (back rule j rs c t) ≤ t + j → lookTried (back rule j rs c (t + 1)) ≤ t + 1 + j → (y z : Bool)
-        → lookTried (choose y (choose z (hit j (t + 1)) (back rule j rs c (t + 1))) (back rule j rs c t)) ≤ t + suc j
-    go p q false z = omega arith
-    go p q true false = omega arith
-    go p q true true = omega arith
-
-look-count : (rule : Rule) (rs : List Standing) (c t : ℕ) → lookTried (look rule rs c t) ≤ t + c
-unfolding look choose
-look-count rule rs c t = go (back-count rule c rs c t) (closer (at rs c))
-  where
-    go : lookTried (back rule c rs c t) ≤ t + c → (z : Bool) → lookTried (choose z (back rule c rs c t) (miss t)) ≤ t + c
-    go p true = p
-    go p false = omega arith
-
-pub forth-count : (rule : Rule) (m : ℕ) (rs : List Standing) (i t : ℕ) → i + m ≤ 1024 → triedBy (forth rule m rs i t) ≤ t + m * 1024
-unfolding forth
-forth-count rule zero rs i t h = omega arith
-forth-count rule (suc m) rs i t h = go (λ u. forth-count rule m rs (i + 1) u (omega arith)) (look rule rs i t) (look-count rule rs i t)
-  where
-    go : ((u : ℕ) → triedBy (forth rule m rs (i + 1) u) ≤ u + m * 1024) → (x : Look) → lookTried x ≤ t + i
-        → triedBy (settle x (λ o u. Match o i u) (λ u. forth rule m rs (i + 1) u)) ≤ t + suc m * 1024
-    go ih (hit o u) l = omega arith
-    go ih (miss u) l = let a = ih u in omega arith
 
 -- onward in two parts
 pub forth-split : (rule : Rule) (m l : ℕ) (rs : List Standing) (i t : ℕ)

@@ -1,7 +1,9 @@
 -- The chained matcher as a definition: the next match along the chains, taken, and the next, until a closer is finished; and so closer by closer.
 -- It reads what `onward` reads, that is each run's own slot and at a closer its chain from the head, and writes what passing a run and taking a match
--- write. Being equal to it fixes answer and memory, not what was looked at: where the chains list the runs rightly, a search over all of them comes to
--- the same. That only chains are looked at is the promise of `next_match`, whose premises say nothing of slots off the chain.
+-- write. Being equal to it fixes answer and memory, not what was looked at. The step that handles one closer is equal to `closerBy` on all memory that
+-- is in order (`InOrder`), whatever the slots off the chains hold, and there a search over all runs comes to something else (OffChains.antt). All
+-- closers together are asked of memory whose chains are empty and are equal to `chained`; these chains are the matcher's own, and a search over all
+-- runs would come to the same.
 -- Assumes nothing.
 use Prim.Native.Nat.{ℕ, zero, suc, _+_, _-_}
 use mathlib.Core.List.{List}

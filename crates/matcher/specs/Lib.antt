@@ -4,3 +4,4 @@ pub mod State
 pub mod Closer
 pub mod Along
 pub mod Promise
+pub mod OffChains

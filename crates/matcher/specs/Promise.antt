@@ -14,17 +14,17 @@ use Rattle.matcher.specs.declared.closers.Found.{Found}
 use Rattle.matcher.specs.declared.closers.Found.the-variants.{Groups, TooMany}
 use Rattle.matcher.specs.Chains.{Reads}
 use Rattle.matcher.specs.Groups.{Grouped}
-use Rattle.matcher.specs.State.{Fresh, Ready}
+use Rattle.matcher.specs.State.{Fresh, Ready, InOrder}
 use Rattle.matcher.specs.Closer.{Finish, closerFrom}
 use Rattle.matcher.specs.Along.{closerBy, chained}
 
--- there is a run to go on from, and some runs and groups that the memory has; so few were tried that the count does not run over
+-- what the step asks, of the memory alone: it is in order, there is a run to go on from, and there is room for the groups; and so few were tried that
+-- the count does not run over. It names no list of runs, and does not say of any slot that it is emptied, can't open or has another marker or
+-- container
 pub record Begun (w : List ℕ) (height n from groups tried : ℕ) : Type 0 where
-  pub runs : List Standing
-  pub made : List Group
-  pub ready : Ready w height runs made n from
-  pub count : length made ≡ groups
+  pub order : InOrder w height n from
   pub more : from < n
+  pub room : groups ≤ 1000
   pub few : tried ≤ (groups + from) * 1048576
 
 -- the closer is finished as the plain rule finishes it, and the memory is ready for the next: its chains list exactly the runs up to it
@@ -40,7 +40,8 @@ abbrev pub Handled : Rule → List Standing → List Group → ℕ → ℕ → �
 Handled rule rs gs n from t (Closed next height groups tried) w = ClosedAs (closerFrom rule rs from gs t) n from next height groups tried w
 Handled rule rs gs n from t Full w = 1000 < length (closerFrom rule rs from gs t .groups)
 
--- this, for all runs and groups that the memory had; and step and memory are what going along the chains comes to
+-- this, for all runs and groups that the memory had, if it had any; and, on all memory that is as asked, step and memory are what going along the
+-- chains comes to
 pub record Handles (rule : Rule) (w : List ℕ) (height n from groups tried : ℕ) (step : Step) (w′ : List ℕ) : Type 0 where
   pub of : (rs : List Standing) (gs : List Group) → Ready w height rs gs n from → length gs ≡ groups → Handled rule rs gs n from tried step w′
   pub along : (step, w′) ≡ closerBy rule w height from n groups tried

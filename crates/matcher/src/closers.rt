@@ -19,6 +19,7 @@ pub enum Step {
 }
 
 // Handles one closer: the first from the run `from` on that takes an opener, as long as it takes one. If there is none, all runs are passed.
+// It asks of the memory what the chains and the open runs need, and nothing of runs that are on neither: what is found is found along the chains.
 pub fn handle_closer(
     w: &mut [u8],
     height: usize,
