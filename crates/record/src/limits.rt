@@ -22,21 +22,9 @@ pub const ATTENTION_SEQUENCE: u8 = 1;
 
 pub const EMPHASIS: u8 = 2;
 
-pub const EMPHASIS_SEQUENCE: u8 = 3;
-
-pub const EMPHASIS_TEXT: u8 = 4;
-
 pub const STRONG: u8 = 5;
 
-pub const STRONG_SEQUENCE: u8 = 6;
-
-pub const STRONG_TEXT: u8 = 7;
-
 pub const STRIKETHROUGH: u8 = 8;
-
-pub const STRIKETHROUGH_SEQUENCE: u8 = 9;
-
-pub const STRIKETHROUGH_TEXT: u8 = 10;
 
 pub const HEADING: u8 = 11;
 
@@ -64,8 +52,6 @@ pub const BLANK_LINE_ENDING: u8 = 22;
 
 pub const BLOCK_QUOTE_PREFIX: u8 = 23;
 
-pub const OTHER_CONTAINER: u8 = 24;
-
 pub const LAST_NAME: u8 = 24;
 
 // Options are summed.
@@ -74,11 +60,5 @@ pub const OPTION_ATTENTION: u32 = 1;
 pub const OPTION_STRIKETHROUGH: u32 = 2;
 
 pub const OPTION_SINGLE_TILDE: u32 = 4;
-
-pub const OPTION_HEADING: u32 = 8;
-
-pub const OPTION_LIST_ITEM: u32 = 16;
-
-pub const OPTION_CODE_INDENTED: u32 = 32;
 
 pub const MAX_OPTIONS: u32 = 63;
