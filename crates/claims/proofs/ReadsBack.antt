@@ -113,9 +113,9 @@ resolved-back {options = options} {works = works} s out r out′ deep a none q =
     }
 
 pub attention-reads-back : AttentionReadsBack
-attention-reads-back s options out work r out′ work′ p z =
-    let n = accepted-attention s options out work r out′ work′ p z in
-    resolved-back s out r out′ (length (n .accepted .events)) (n .accepted) (attention-claim s options .exactly out work r out′ work′ p .none-holds z) (n .nests)
+attention-reads-back profile s options out work r out′ work′ p z =
+    let n = accepted-attention profile s options out work r out′ work′ p z in
+    resolved-back s out r out′ (length (n .accepted .events)) (n .accepted) (attention-claim profile s options .exactly out work r out′ work′ p .none-holds z) (n .nests)
 
 pub headings-read-back : HeadingsReadBack
 headings-read-back s options out work r out′ work′ p z =

@@ -14,8 +14,9 @@
 -- drawn out here.
 --
 -- First the call: what it reports and writes, and that nothing crosses. Then the matcher, from the memory that a record's runs are loaded into: its
--- groups and its count; its chains after each closer, as lists of runs (ChainsAsLists.antt) wherever it stands (Positions.antt), and that this is the
--- way to its answer; and what it finds along them. These are the statements; proofs/Matcher.antt proves each under the name in small letters.
+-- groups and its count; its chains after each closer, as lists of runs (ChainsAsLists.antt), wherever it and the plain rule stand (Positions.antt), and
+-- that this is the way to its answer; and what it finds along them. These are the statements; proofs/Matcher.antt proves each under the name in small
+-- letters.
 -- Assumes nothing.
 use Prim.Native.Nat.{ℕ, _+_, _<_, _≤_}
 use mathlib.Core.Path.{_≡_}

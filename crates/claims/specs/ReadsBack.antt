@@ -15,6 +15,7 @@ use Rattle.record.specs.Outcome.{Resolution, gives}
 use Rattle.record.specs.declared.event.Event.{Event}
 use Rattle.scan.specs.Line.{lineOf}
 use Rattle.atx.specs.Heading.{headingEvents}
+use Rattle.runs.specs.Rule.{Profile}
 use Rattle.attention.specs.Attention.{attention}
 use Rattle.heading.specs.Headings.{headings}
 use Rattle.list.specs.Lists.{lists}
@@ -41,8 +42,8 @@ pub record ResolvedReadsBack (made : Resolution) (s : List ℕ) (r : LarkResolve
 
 abbrev pub AttentionReadsBack : Type 0
 AttentionReadsBack =
-    (s : List ℕ) (options : ℕ) (out work : List ℕ) (r : LarkResolved) (out′ work′ : List ℕ) →
-    AttentionAs s options out work r out′ work′ → r .number ≡ 0 → ResolvedReadsBack (attention options (docOf s) (allEvents s)) s r out′
+    (profile : Profile) (s : List ℕ) (options : ℕ) (out work : List ℕ) (r : LarkResolved) (out′ work′ : List ℕ) →
+    AttentionAs profile s options out work r out′ work′ → r .number ≡ 0 → ResolvedReadsBack (attention profile options (docOf s) (allEvents s)) s r out′
 
 abbrev pub HeadingsReadBack : Type 0
 HeadingsReadBack =

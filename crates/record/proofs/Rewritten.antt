@@ -8,10 +8,12 @@ use lib.ListN.{length, getD, take, drop, take-append-drop, drop-of-length-le}
 use lib.Seq.{drop-cons, drop-drop}
 use Rattle.record.specs.Bytes.{u32At, u32Bytes}
 use Rattle.record.specs.Event.{eventAt, eventsAt, storedAt, bytesOf, flat, sectionBytes, recordBytes, documentOf, eventsOf}
+use Rattle.record.specs.Form.{old}
+use Rattle.record.specs.Good.{GoodRecord}
 use Rattle.record.specs.ReadsBack.{AreBytes, Holdable, GoodIsRewritten}
 use Rattle.record.proofs.Sections.{length-eventsAt}
 use Rattle.record.proofs.Parts.{length-document, document-byte}
-use Rattle.record.proofs.Good.{Told, told}
+use Rattle.record.proofs.Good.{good-record, events-are-sound}
 
 -- four bytes are those of the number that they make
 bytes-of-number : (a b c e : ℕ) → a < 256 → b < 256 → c < 256 → e < 256 →
@@ -98,7 +100,7 @@ unfolding eventsOf
 counted s d e = length-eventsAt e s (8 + d)
 
 -- the events' count, the events, and nothing behind them
-section-rewritten : (s : List ℕ) (d e : ℕ) → AreBytes s → Told s d e → drop (4 + d) s ≡ sectionBytes (eventsOf s d e)
+section-rewritten : (s : List ℕ) (d e : ℕ) → AreBytes s → GoodRecord s d e → drop (4 + d) s ≡ sectionBytes (eventsOf s d e)
 unfolding sectionBytes eventsOf
 section-rewritten s d e b t =
     let long : length s ≡ 8 + d + 8 * e = t .whole in
@@ -114,7 +116,7 @@ section-rewritten s d e b t =
     ∙ ap (λ (l : List ℕ). u32Bytes (u32At s (4 + d)) ++ l) events
     ∙ ap (λ (n : ℕ). u32Bytes n ++ flat (eventsAt e s (8 + d))) count
 
-record-rewritten : (s : List ℕ) (d e : ℕ) → AreBytes s → Told s d e → s ≡ recordBytes (documentOf s d) (eventsOf s d e)
+record-rewritten : (s : List ℕ) (d e : ℕ) → AreBytes s → GoodRecord s d e → s ≡ recordBytes (documentOf s d) (eventsOf s d e)
 unfolding recordBytes
 record-rewritten s d e b t =
     let long : length s ≡ 8 + d + 8 * e = t .whole in
@@ -122,7 +124,7 @@ record-rewritten s d e b t =
     ∙ ap (λ (l : List ℕ). u32Bytes d ++ (documentOf s d ++ l)) (section-rewritten s d e b t)
     ∙ ap (λ (n : ℕ). u32Bytes n ++ (documentOf s d ++ sectionBytes (eventsOf s d e))) (sym (length-document s d (omega arith)))
 
-pub good-holdable : (s : List ℕ) (d e : ℕ) → Told s d e → Holdable (documentOf s d) (eventsOf s d e)
+pub good-holdable : (s : List ℕ) (d e : ℕ) → GoodRecord s d e → Holdable (documentOf s d) (eventsOf s d e)
 good-holdable s d e t =
     let long : length s ≡ 8 + d + 8 * e = t .whole in
     let n : length (documentOf s d) ≡ d = length-document s d (omega arith) in
@@ -130,10 +132,10 @@ good-holdable s d e t =
       small = rw n (t .small);
       no-return = λ k h r. let g : k < d = omega arith in t .no-return k g (sym (document-byte s d k g) ∙ r);
       few = rw (counted s d e) (t .few);
-      sound-events = rw n (t .sound-events);
+      sound-events = rw n (events-are-sound t);
     }
 
 pub good-is-rewritten : GoodIsRewritten
 good-is-rewritten s d e b q =
-    let t = told s d e q in
+    let t = good-record old s d e q in
     record { same = record-rewritten s d e b t; holdable = good-holdable s d e t }
