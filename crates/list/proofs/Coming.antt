@@ -1,4 +1,4 @@
--- Every event of the record comes in the result, as it was.
+-- Every event of the record comes in the result, as it was, and as one event alone.
 -- Assumes nothing.
 use Prim.Native.Nat.{ℕ, zero, suc, _+_, _≤_, _<_}
 use mathlib.Core.Path.{_≡_, refl, sym, ap, _∙_}
@@ -6,13 +6,14 @@ use mathlib.Core.Logic.{_⊎_, inl, inr}
 use mathlib.Core.List.{List, [], _∷_, _++_}
 use native.Mathlib.Nat.{zero-add}
 use native.Mathlib.Omega.{arith}
-use lib.ListN.{length, drop}
+use lib.ListN.{length, drop, length-append, length-drop}
 use lib.Seq.{drop-nil, drop-append-seam}
 use Rattle.record.specs.Stack.{nth}
 use Rattle.record.specs.declared.event.Event.{Event}
 use Rattle.list.specs.Gathered.{Gathered, finished, with-event, Comes, EveryEventComes}
 use Rattle.list.proofs.Pairing.{order}
 use Rattle.list.proofs.Lying.{split-off}
+use Rattle.list.proofs.Once.{before-once, once}
 
 drop-plus : (p q : ℕ) (xs : List Event) → drop (p + q) xs ≡ drop q (drop p xs)
 drop-plus zero q xs = ap (λ (k : ℕ). drop k xs) (zero-add q)
@@ -42,5 +43,17 @@ module _ {document : List ℕ} {es : List Event} (out : List Event) where
       go (inr (inl z)) c f = rw z at c
       go (inr (inr z)) c f = absurd (omega arith)
 
+module _ {document : List ℕ} {es : List Event} where
+  -- and as one event alone
+  pub comes-once : {out : List Event} {k m l : ℕ} → Comes document es out k m → Comes document es out k l → m ≡ l
+  comes-once {out} {k} {m} {l} p q =
+      let b : p .before ≡ q .before = before-once (p .stands) (q .stands) in
+      let same = ap length (once (p .onward) (q .onward)) in
+      let x = length-append (p .before) (drop m out) in
+      let y = length-append (q .before) (drop l out) in
+      omega (arith, ap length b, same, x, y, length-drop m out, length-drop l out, p .within, q .within)
+
 pub every-event-comes : EveryEventComes
-every-event-comes document es out g k h = coming out 0 g refl (omega arith) h
+every-event-comes document es out g k h =
+    let c = coming out 0 g refl (omega arith) h in
+    (c .0, c .1, c .2, λ l d. comes-once (c .1) d)

@@ -16,8 +16,9 @@ use Rattle.list.specs.Lists.{lists}
 use Rattle.list.specs.Neighbours.{Item, Chain, itself, onward, Linked}
 use Rattle.list.specs.Gathered.{Gathered, finished, with-event, Comes, StandsIn, InOneList, ResultLinked}
 use Rattle.list.proofs.Pairing.{order, rises, stays, one-exit, one-name}
-use Rattle.list.proofs.Once.{before-once, once}
+use Rattle.list.proofs.Once.{once}
 use Rattle.list.proofs.Gathering.{tree-lies, nothing-behind, nothing-before}
+use Rattle.list.proofs.Coming.{comes-once}
 use Rattle.list.proofs.Linking.{chain-then, chains-from, one-first}
 use Rattle.list.proofs.Grouping.{Home, row-grouped}
 
@@ -62,15 +63,6 @@ module _ {document : List ℕ} {es : List Event} where
   chain-within : {i k : ℕ} → Chain document es i k → k < length es → i < length es
   chain-within itself h = h
   chain-within (onward j c) h = j .earlier .enters .within
-
-  -- an event of the record comes once
-  comes-once : {out : List Event} {k m l : ℕ} → Comes document es out k m → Comes document es out k l → m ≡ l
-  comes-once {out} {k} {m} {l} p q =
-      let b : p .before ≡ q .before = before-once (p .stands) (q .stands) in
-      let same = ap length (once (p .onward) (q .onward)) in
-      let x = length-append (p .before) (drop m out) in
-      let y = length-append (q .before) (drop l out) in
-      omega (arith, ap length b, same, x, y, length-drop m out, length-drop l out, p .within, q .within)
 
 drop-once : (out : List Event) (x y : ℕ) → x < length out → y < length out → drop x out ≡ drop y out → x ≡ y
 drop-once out x y h l q = omega (arith, ap length q, length-drop x out, length-drop y out)

@@ -59,11 +59,11 @@ pub record Comes (document : List ℕ) (es out : List Event) (k m : ℕ) : Type 
   pub stands : Before document es k before
   pub onward : Gathered document es k (before ++ drop m out)
 
--- Theorem: every event of the record comes, as it was. proofs/Coming.antt
+-- Theorem: every event of the record comes, as it was, and as one event alone. proofs/Coming.antt
 abbrev pub EveryEventComes : Type 0
 EveryEventComes =
     (document : List ℕ) (es out : List Event) → Gathered document es 0 out → (k : ℕ) → k < length es →
-    (m : ℕ) × Comes document es out k m × (nth out m ≡ nth es k)
+    (m : ℕ) × Comes document es out k m × (nth out m ≡ nth es k) × ((l : ℕ) → Comes document es out k l → m ≡ l)
 
 -- event m of the result stands in the pair of its events from and to, and in no pair inside of that
 pub record StandsIn (out : List Event) (name from to m : ℕ) : Type 0 where
