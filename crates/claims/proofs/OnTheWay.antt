@@ -17,14 +17,17 @@ use Rattle.runs.specs.declared.Next.the-variants.{Match, Done}
 use Rattle.runs.specs.Rule.{Rule}
 use Rattle.runs.specs.Plain.{Standing, Look, hit, miss, settle}
 use Rattle.slots.specs.Layout.{linkOf}
+use Rattle.chains.specs.Step.{matchedAt}
 use Rattle.chains.specs.Walk.{takesAt, first, down, closing, seek, passed, raised, onward}
 use Rattle.matcher.specs.State.{Fresh}
-use Rattle.matcher.specs.Along.{closerBy, stepped, along, chained}
-use Rattle.matcher.specs.declared.closers.Step.the-variants.{Closed}
+use Rattle.matcher.specs.Along.{walked, closerAlong, closerBy, stepped, along, chained}
+use Rattle.matcher.specs.declared.closers.Step.{Step}
+use Rattle.matcher.specs.declared.closers.Step.the-variants.{Closed, Full}
+use Rattle.matcher.proofs.Chained.{onward-suc}
 use Rattle.matcher.proofs.Rounds.{raise}
 use Rattle.matcher.proofs.Ways.{done-way, end-way, again-all}
 use Rattle.claims.specs.Positions.{Stands, at-the-first, after-passing, after-a-closer}
-use Rattle.claims.proofs.Positions.{stands-both, turn, closer-suc, closes-onward}
+use Rattle.claims.proofs.Positions.{stands-both, closes-onward}
 
 -- from another count
 abbrev later : ℕ → Look → Look
@@ -58,12 +61,6 @@ seek-shift rule w i s t = go (down-shift (first w i) rule w i (first w i) s t) (
 abbrev raised-by : ℕ → Next × (List ℕ × ℕ) → Next × (List ℕ × ℕ)
 raised-by s x = (raise s (x .0), x .1)
 
-onward-suc : (m : ℕ) (rule : Rule) (w : List ℕ) (height i t : ℕ)
-    → onward (suc m) rule w height i t
-    ≡ settle (seek rule w i t) (λ o u. (Match o i u, (w, height))) (λ u. onward m rule (passed w height i) (raised w height i) (i + 1) u)
-unfolding onward
-onward-suc m rule w height i t = refl
-
 onward-shift : (m : ℕ) (rule : Rule) (w : List ℕ) (height i s t : ℕ) → onward m rule w height i (s + t) ≡ raised-by s (onward m rule w height i t)
 unfolding onward
 onward-shift zero rule w height i s t = refl
@@ -75,6 +72,18 @@ onward-shift (suc m) rule w height i s t = rw (seek-shift rule w i s t) (go (λ 
     go ih (hit o u) = refl
     go ih (miss u) = ih u
 
+-- one turn for one closer: its walk found nothing, or a match
+abbrev turn : ℕ → Rule → ℕ → ℕ → ℕ → Next × (List ℕ × ℕ) → Step × List ℕ
+turn k rule until made count x =
+    walked x (λ u v h. (Closed until h made (count + u), v))
+    (λ o c u v h. choose (eqb made 1000) (Full, v) (closerAlong k rule (matchedAt v h o c made .0) (matchedAt v h o c made .1) c (c + 1) (made + 1) (count + u)))
+
+closer-suc : (k : ℕ) (rule : Rule) (w : List ℕ) (height at until made count : ℕ)
+    → closerAlong (suc k) rule w height at until made count ≡ turn k rule until made count (onward (until - at) rule w height at 0)
+unfolding closerAlong
+closer-suc k rule w height at until made count = refl
+
+-- a run is passed: one closer, from behind it
 module _ (rule : Rule) (w : List ℕ) (height i n u : ℕ) (l : i < n) (none : seek rule w i 0 ≡ miss u) where
   onward-passing : onward (n - i) rule w height i 0 ≡ raised-by u (onward (n - (i + 1)) rule (passed w height i) (raised w height i) (i + 1) 0)
   onward-passing =
@@ -143,5 +152,5 @@ on-the-way {rule} {n} f (after-passing {w} {height} {i} {made} {tried} {u} st l 
     record { turns = o .turns; enough = omega (arith, o .enough); way = o .way ∙ along-passing rule w height i n u l e made tried (o .turns) (o .enough) }
 on-the-way {rule} {n} f (after-a-closer {w} {w′} {height} {i} {made} {tried} st l e) =
     let o = on-the-way f st in
-    let more = closes-onward (stands-both f st) e l in
+    let more = closes-onward (stands-both f st) l e in
     record { turns = o .turns - 1; enough = omega (arith, o .enough); way = o .way ∙ again-all rule w height n i made tried e l (o .turns) (o .enough) refl }

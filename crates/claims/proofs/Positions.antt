@@ -1,35 +1,34 @@
 -- Where the plain rule and the chained matcher stand after each run, proved together: by induction on the runs, and on the matcher's steps.
 --     up-to-plain        what the plain rule makes is what its rounds make that are left after any run
 --     finish-up-to       a closer found further on and finished is the runs up to it, one by one
---     closer-comes       one closer along the chains comes to what the plain rule makes of it
 --     stands-both        where the matcher stands, the plain rule stands too
 --     leads, each        the matcher's way to its answer, and a place after each run
 -- Assumes nothing.
-use Prim.Native.Nat.{ℕ, zero, suc, _+_, _-_, _<_, _≤_}
+use Prim.Native.Nat.{ℕ, zero, suc, _+_, _-_, _*_, _<_, _≤_}
 use mathlib.Core.Path.{_≡_, refl, sym, ap, _∙_}
 use mathlib.Core.Bool.{Bool, true, false}
-use mathlib.Core.List.{List, [], _∷_}
+use mathlib.Core.List.{List, []}
 use native.Mathlib.Omega.{arith}
 use native.Mathlib.Numerals.{add-one}
-use lib.Dec.{eqb, ltb}
-use lib.ListN.{length, length-append}
-use borrow.Author.Tests.{eqb-true, eqb-false, ltb-true, ltb-false}
-use Rattle.record.specs.Choice.{choose}
+use lib.Dec.{ltb}
+use lib.ListN.{length}
+use borrow.Author.Tests.{ltb-true, ltb-false}
 use Rattle.runs.specs.declared.Next.{Next}
 use Rattle.runs.specs.declared.Next.the-variants.{Match, Done}
 use Rattle.runs.specs.Rule.{Rule}
-use Rattle.runs.specs.Plain.{Standing, Group, group, Look, hit, miss, settle, look, forth, takenBy, matched, ends, total, plain}
+use Rattle.runs.specs.Plain.{Standing, Group, Look, hit, miss, settle, look, forth, matched, ends, total, plain}
 use Rattle.chains.specs.Walk.{seek, passed, raised, onward}
-use Rattle.chains.specs.Step.{matchedAt}
-use Rattle.matcher.specs.State.{Fresh, Ready}
-use Rattle.matcher.specs.Closer.{Finish, finish}
-use Rattle.matcher.specs.Along.{walked, closerAlong, closerBy, along}
+use Rattle.matcher.specs.State.{Fresh, Ready, InOrder}
+use Rattle.matcher.specs.Closer.{Finish, finish, closerFrom}
+use Rattle.matcher.specs.Along.{closerBy, along}
+use Rattle.matcher.specs.Promise.{ClosedAs, Handled}
 use Rattle.matcher.specs.declared.closers.Step.{Step}
 use Rattle.matcher.specs.declared.closers.Step.the-variants.{Closed, Full}
-use Rattle.matcher.proofs.Chained.{forth-suc, seek-look, passed-ready, Went, onward-went}
+use Rattle.matcher.proofs.Chained.{forth-suc, seek-look, passed-ready}
 use Rattle.matcher.proofs.Matched.{matched-length}
-use Rattle.matcher.proofs.Taken.{match-ready}
-use Rattle.matcher.proofs.Rounds.{Found, forth-found, forth-split, forth-shift, raise, andGroup, finish-match, finish-done, finish-longer, rounds-finish, rounds-longer}
+use Rattle.matcher.proofs.Order.{onward-walks, ready-order}
+use Rattle.matcher.proofs.Handling.{handled-by-closer-by}
+use Rattle.matcher.proofs.Rounds.{forth-found, forth-split, forth-shift, raise, andGroup, finish-match, finish-done, rounds-finish, rounds-longer}
 use Rattle.matcher.proofs.Resolving.{fresh-ready}
 use Rattle.matcher.proofs.Ways.{end-way, full-all, again-all}
 use Rattle.claims.specs.Positions.{plainUpTo, roundsLeft, Stands, at-the-first, after-passing, after-a-closer, StandsAt, Leads, at-the-last, no-room, by-a-closer}
@@ -57,17 +56,6 @@ finish-next (suc k) rule rs c gs t = go (λ ts d hs u. finish-next k rule ts d h
         let same : d ≡ c = omega (arith, f .from, f .within) in
         ih (matched rs o d) d (andGroup gs rs o d) (t + u) ∙ ap (λ y. y + 1) same
     go ih (Done u) e = refl
-
--- and it is further on
-finish-onward : (rule : Rule) (rs : List Standing) (c until : ℕ) (gs : List Group) (t : ℕ) → c < until → until ≤ length rs → c < finish (total rs + 1) rule rs c until gs t .next
-finish-onward rule rs c until gs t h l = go (forth rule (until - c) rs c 0) refl
-  where
-    go : (x : Next) → forth rule (until - c) rs c 0 ≡ x → c < finish (total rs + 1) rule rs c until gs t .next
-    go (Match o d u) e =
-        let f = forth-found rule (until - c) rs c 0 o d u e in
-        let n = finish-next (total (matched rs o d) + 1) rule (matched rs o d) d (andGroup gs rs o d) (t + u) in
-        rw (finish-match rule rs c until gs t o d u (omega arith) l e) (omega (arith, f .from))
-    go (Done u) e = rw (finish-done rule (total rs) rs c until gs t u e) h
 
 -- the plain rule up to a run
 up-to-suc : (rule : Rule) (rs : List Standing) (i : ℕ)
@@ -171,73 +159,6 @@ finish-up-to (suc m) rule rs₀ i gs t rs e h = go (finish-up-to m rule rs₀ (i
         let z : i + suc m ≡ i + 1 + m = omega arith in
         rw (skip, z) (ih gs (t + u) rs (up-to-more rule rs₀ i gs t rs e ∙ finish-done rule (total rs) rs i (i + 1) gs t u none) (omega arith))
 
--- what one closer along the chains comes to: what the plain rule makes of it, in memory that is ready for the next; or more groups than there is room for
-record Closes (f : Finish) (n next height made tried : ℕ) (w : List ℕ) : Type 0 where
-  at : next ≡ f .next
-  size : made ≡ length (f .groups)
-  count : tried ≡ f .tried
-  ready : Ready w height (f .runs) (f .groups) n (f .next)
-
-abbrev ComesTo : Finish → ℕ → Step × List ℕ → Type 0
-ComesTo f n (Closed next height made tried, w) = Closes f n next height made tried w
-ComesTo f n (Full, w) = 1000 < length (f .groups)
-
--- one turn for one closer: its walk found nothing, or a match
-abbrev pub turn : ℕ → Rule → ℕ → ℕ → ℕ → Next × (List ℕ × ℕ) → Step × List ℕ
-turn k rule until made count x =
-    walked x (λ u v h. (Closed until h made (count + u), v))
-    (λ o c u v h. choose (eqb made 1000) (Full, v) (closerAlong k rule (matchedAt v h o c made .0) (matchedAt v h o c made .1) c (c + 1) (made + 1) (count + u)))
-
-pub closer-suc : (k : ℕ) (rule : Rule) (w : List ℕ) (height at until made count : ℕ)
-    → closerAlong (suc k) rule w height at until made count ≡ turn k rule until made count (onward (until - at) rule w height at 0)
-unfolding closerAlong
-closer-suc k rule w height at until made count = refl
-
-closer-comes : (k : ℕ) (rule : Rule) (w : List ℕ) (height : ℕ) (rs : List Standing) (gs : List Group) (n at until made count : ℕ) → Ready w height rs gs n at → at ≤ until → until ≤ n →
-    length gs ≡ made → 1000 - made < k → ComesTo (finish (total rs + 1) rule rs at until gs count) n (closerAlong k rule w height at until made count)
-unfolding choose
-closer-comes zero rule w height rs gs n at until made count r a b size l = absurd (omega arith)
-closer-comes (suc k) rule w height rs gs n at until made count r a b size l =
-    rw (closer-suc k rule w height at until made count) (go (closer-comes k rule) (onward (until - at) rule w height at 0) (onward-went (until - at) rule w height rs gs n at 0 r (omega arith)))
-  where
-    long : until ≤ length rs
-    long = omega (arith, r .reads .len)
-
-    there : at + (until - at) ≡ until
-    there = omega arith
-
-    go : ((v : List ℕ) (h : ℕ) (ts : List Standing) (hs : List Group) (n at until made count : ℕ) → Ready v h ts hs n at → at ≤ until → until ≤ n → length hs ≡ made → 1000 - made < k →
-        ComesTo (finish (total ts + 1) rule ts at until hs count) n (closerAlong k rule v h at until made count)) →
-        (x : Next × (List ℕ × ℕ)) → Went rule rs gs n (until - at) at 0 x →
-        ComesTo (finish (total rs + 1) rule rs at until gs count) n (turn k rule until made count x)
-    go ih (Done u, (v, h)) went =
-        rw (finish-done rule (total rs) rs at until gs count u (sym (went .next))) (record { at = refl; size = sym size; count = refl; ready = rw there at (went .ready) })
-    go ih (Match o c u, (v, h)) went = room (eqb made 1000) refl
-      where
-        one : forth rule (until - at) rs at 0 ≡ Match o c u
-        one = sym (went .next)
-
-        what : Found rs at (until - at) o c
-        what = forth-found rule (until - at) rs at 0 o c u one
-
-        below : c < n
-        below = omega (arith, what .within)
-
-        next : finish (total rs + 1) rule rs at until gs count ≡ finish (total (matched rs o c) + 1) rule (matched rs o c) c (c + 1) (andGroup gs rs o c) (count + u)
-        next = finish-match rule rs at until gs count o c u a long one
-
-        more : length (andGroup gs rs o c) ≡ made + 1
-        more = length-append gs (group o c (takenBy rs o c) ∷ []) ∙ ap (λ y. y + 1) size
-
-        room : (z : Bool) → eqb made 1000 ≡ z → ComesTo (finish (total rs + 1) rule rs at until gs count) n (turn k rule until made count (Match o c u, (v, h)))
-        room true e =
-            rw (e, next) (omega (arith, eqb-true made 1000 e, more, finish-longer rule (total (matched rs o c) + 1) (matched rs o c) c (c + 1) (andGroup gs rs o c) (count + u)))
-        room false e =
-            let fits = r .grouped .fits in
-            let less : made ≡ 1000 → ⊥ = eqb-false made 1000 e in
-            let after = rw size at (match-ready v h rs gs n o c (went .ready) (what .before) below (what .opens) (what .closes) (omega arith)) in
-            rw (e, next) (ih (matchedAt v h o c made .0) (matchedAt v h o c made .1) (matched rs o c) (andGroup gs rs o c) n c (c + 1) (made + 1) (count + u) after (omega arith) (omega (arith, below)) more (omega arith))
-
 -- where the matcher stands the plain rule stands too, with runs and groups that the memory has
 pub record Both (rule : Rule) (n : ℕ) (rs₀ : List Standing) (w : List ℕ) (height i made tried : ℕ) : Type 0 where
   pub runs : List Standing
@@ -245,39 +166,52 @@ pub record Both (rule : Rule) (n : ℕ) (rs₀ : List Standing) (w : List ℕ) (
   pub up : plainUpTo rule rs₀ i ≡ standing groups tried runs i
   pub ready : Ready w height runs groups n i
   pub size : length groups ≡ made
+  pub few : tried ≤ (made + i) * 1048576
 
-module _ {rule : Rule} {n : ℕ} {rs₀ : List Standing} {w : List ℕ} {height i made tried : ℕ} (b : Both rule n rs₀ w height i made tried) where
-  -- the closer that is found from here on
-  abbrev found : Finish
-  found = finish (total (b .runs) + 1) rule (b .runs) i n (b .groups) tried
+module _ {rule : Rule} {n : ℕ} {rs₀ : List Standing} {w : List ℕ} {height i made tried : ℕ} (b : Both rule n rs₀ w height i made tried) (l : i < n) where
+  order : InOrder w height n i
+  order = ready-order w height (b .runs) (b .groups) n i (b .ready)
 
-  long : n ≤ length (b .runs)
-  long = omega (arith, b .ready .reads .len)
+  long : length (b .runs) ≡ n
+  long = b .ready .reads .len
 
-  comes : ComesTo found n (closerBy rule w height i n made tried)
-  comes = closer-comes (suc (1000 - made)) rule w height (b .runs) (b .groups) n i n made tried (b .ready) (b .ready .within) (omega arith) (b .size) (omega arith)
-
-  found-up : plainUpTo rule rs₀ (found .next) ≡ found
-  found-up =
-      let z : i + (n - i) ≡ n = omega (arith, b .ready .within) in
-      rw z at (finish-up-to (n - i) rule rs₀ i (b .groups) tried (b .runs) (b .up) (omega (arith, b .ready .within, long)))
-
-  both-passed : {u : ℕ} → i < n → seek rule w i 0 ≡ miss u → Both rule n rs₀ (passed w height i) (raised w height i) (i + 1) made (tried + u)
-  both-passed {u} l e =
+  -- a run is passed
+  both-passed : {u : ℕ} → seek rule w i 0 ≡ miss u → Both rule n rs₀ (passed w height i) (raised w height i) (i + 1) made (tried + u)
+  unfolding onward
+  both-passed {u} e =
       let r = b .ready in
       let same = seek-look rule w height (b .runs) n i 0 (r .reads) (r .falls) (r .chains i l) l (r .listed) in
       let none = forth-none rule (b .runs) i u (sym same ∙ e) in
+      let walk = onward-walks (suc zero) rule w height n i 0 order (omega arith) in
+      let count : u ≤ 0 + suc zero * 1024 = rw e at (walk .count) in
       record {
         runs = b .runs;
         groups = b .groups;
         up = up-to-more rule rs₀ i (b .groups) tried (b .runs) (b .up) ∙ finish-done rule (total (b .runs)) (b .runs) i (i + 1) (b .groups) tried u none;
         ready = passed-ready w height (b .runs) (b .groups) n i r l;
         size = b .size;
+        few = omega (arith, b .few);
       }
 
+  -- the closer that is found from here on
+  abbrev found : Finish
+  found = closerFrom rule (b .runs) i (b .groups) tried
+
+  found-up : plainUpTo rule rs₀ (found .next) ≡ found
+  unfolding closerFrom
+  found-up =
+      let z : i + (n - i) ≡ length (b .runs) = omega (arith, long) in
+      rw z at (finish-up-to (n - i) rule rs₀ i (b .groups) tried (b .runs) (b .up) (omega (arith, long)))
+
+  comes : (step : Step) (w′ : List ℕ) → (step, w′) ≡ closerBy rule w height i n made tried → Handled rule (b .runs) (b .groups) n i tried step w′
+  comes step w′ e =
+      let size = b .size in
+      let fits = b .ready .grouped .fits in
+      handled-by-closer-by rule step w′ (record { order = order; more = l; room = omega arith; few = b .few }) e (b .runs) (b .groups) (b .ready) (b .size)
+
   module _ {next height′ made′ tried′ : ℕ} {w′ : List ℕ} (e : (Closed next height′ made′ tried′, w′) ≡ closerBy rule w height i n made tried) where
-    closes : Closes found n next height′ made′ tried′ w′
-    closes = rw (← e) at comes
+    closes : ClosedAs found n i next height′ made′ tried′ w′
+    closes = comes (Closed next height′ made′ tried′) w′ e
 
     both-closed : Both rule n rs₀ w′ height′ next made′ tried′
     both-closed =
@@ -286,31 +220,34 @@ module _ {rule : Rule} {n : ℕ} {rs₀ : List Standing} {w : List ℕ} {height 
           groups = found .groups;
           up = rw (closes .at, closes .count) found-up;
           ready = rw (closes .at) (closes .ready);
-          size = sym (closes .size);
+          size = sym (closes .made);
+          few = closes .few;
         }
 
-    pub closes-onward : i < n → i < next
-    closes-onward l = rw (closes .at) (finish-onward rule (b .runs) i n (b .groups) tried l long)
+    pub closes-onward : i < next
+    closes-onward = omega (arith, closes .onward, closes .at)
 
     -- the next closer is this run, if it takes an opener
-    closes-here : {o u : ℕ} → i < n → look rule (b .runs) i 0 ≡ hit o u → next ≡ i + 1
-    closes-here {o} {u} l h =
-        let m = finish-match rule (b .runs) i n (b .groups) tried o i u (b .ready .within) long (forth-one rule (n - i) (b .runs) i o u (omega arith) h) in
+    closes-here : {o u : ℕ} → look rule (b .runs) i 0 ≡ hit o u → next ≡ i + 1
+    unfolding closerFrom
+    closes-here {o} {u} h =
+        let m = finish-match rule (b .runs) i (length (b .runs)) (b .groups) tried o i u (omega (arith, long)) (omega arith) (forth-one rule (length (b .runs) - i) (b .runs) i o u (omega (arith, long)) h) in
         closes .at ∙ ap (λ (f : Finish). f .next) m ∙ finish-next (total (matched (b .runs) o i) + 1) rule (matched (b .runs) o i) i (andGroup (b .groups) (b .runs) o i) (tried + u)
 
   full-over : {w′ : List ℕ} → (Full, w′) ≡ closerBy rule w height i n made tried → length rs₀ ≡ n → 1000 < length (plain rule rs₀ .groups)
-  full-over e len =
-      let over : 1000 < length (found .groups) = rw (← e) at comes in
-      let here : plain rule rs₀ ≡ roundsLeft rule (standing (b .groups) tried (b .runs) i) = rw (b .up) at (up-to-plain rule rs₀ i (omega (arith, b .ready .within))) in
-      let on = rounds-finish rule (total (b .runs) + 1) (b .runs) i n (b .groups) tried (b .ready .within) long (omega arith) in
+  unfolding closerFrom
+  full-over {w′} e len =
+      let over : 1000 < length (found .groups) = comes Full w′ e in
+      let here : plain rule rs₀ ≡ roundsLeft rule (standing (b .groups) tried (b .runs) i) = rw (b .up) at (up-to-plain rule rs₀ i (omega arith)) in
+      let on = rounds-finish rule (total (b .runs) + 1) (b .runs) i (length (b .runs)) (b .groups) tried (omega (arith, long)) (omega arith) (omega arith) in
       rw (here ∙ on) (omega (arith, rounds-longer rule (total (found .runs) + 1) (found .runs) (found .next) (found .groups) (found .tried)))
 
 pub stands-both : {rule : Rule} {n : ℕ} {w₀ : List ℕ} {rs₀ : List Standing} {w : List ℕ} {height i made tried : ℕ} → Fresh w₀ rs₀ n → Stands rule n w₀ w height i made tried →
     Both rule n rs₀ w height i made tried
 unfolding plainUpTo
-stands-both {n = n} {w₀ = w₀} {rs₀ = rs₀} f at-the-first = record { runs = rs₀; groups = []; up = refl; ready = fresh-ready w₀ rs₀ n f; size = refl }
+stands-both {n = n} {w₀ = w₀} {rs₀ = rs₀} f at-the-first = record { runs = rs₀; groups = []; up = refl; ready = fresh-ready w₀ rs₀ n f; size = refl; few = omega arith }
 stands-both f (after-passing st l e) = both-passed (stands-both f st) l e
-stands-both f (after-a-closer st l e) = both-closed (stands-both f st) e
+stands-both f (after-a-closer st l e) = both-closed (stands-both f st) l e
 
 -- the way to the answer
 pub leads : (k : ℕ) (rule : Rule) (n : ℕ) (w₀ : List ℕ) (rs₀ : List Standing) (w : List ℕ) (height i made tried : ℕ) → Fresh w₀ rs₀ n → Stands rule n w₀ w height i made tried → n - i < k →
@@ -332,7 +269,7 @@ leads (suc k) rule n w₀ rs₀ w height i made tried f st l = go (leads k rule 
     go ih true e (Closed next h m t, w′) q =
         let lt : i < n = ltb-true i n e in
         let z : suc k - 1 ≡ k = omega arith in
-        let on = closes-onward b (sym q) lt in
+        let on = closes-onward b lt (sym q) in
         rw (again-all rule w height n i made tried (sym q) lt (suc k) l refl, z) (by-a-closer st lt (sym q) (ih w′ h next m t f (after-a-closer st lt (sym q)) (omega arith)))
 
 -- a place after each run, where there is room for all groups
@@ -358,9 +295,9 @@ each rule n w₀ rs₀ f fits (suc i) h = next (each rule n w₀ rs₀ f fits i 
               tried = p .tried + u;
               stands = rw (add-one i) at (after-passing (p .stands) l e);
             }
-        go (hit o u) e (Full, w′) q = absurd (omega (arith, full-over b (sym q) (f .reads .len)))
+        go (hit o u) e (Full, w′) q = absurd (omega (arith, full-over b l (sym q) (f .reads .len)))
         go (hit o u) e (Closed j h m t, w′) q =
             let r = b .ready in
             let same = seek-look rule (p .memory) (p .height) (b .runs) n i 0 (r .reads) (r .falls) (r .chains i l) l (r .listed) in
-            let there : j ≡ suc i = closes-here b (sym q) l (sym same ∙ e) ∙ add-one i in
+            let there : j ≡ suc i = closes-here b l (sym q) (sym same ∙ e) ∙ add-one i in
             record { memory = w′; height = h; made = m; tried = t; stands = rw there at (after-a-closer (p .stands) l (sym q)) }

@@ -7,6 +7,8 @@ use mathlib.Core.Bool.{Bool, true, false}
 use mathlib.Core.List.{List, [], _∷_, _++_}
 use lib.ListN.{length, getD, take, drop, length-append}
 use lib.Seq.{take-at}
+use Rattle.record.specs.Form.{old}
+use Rattle.record.specs.Good.{GoodRecord}
 use Rattle.record.specs.Choice.{choose}
 use Rattle.record.specs.Bytes.{u32At, u32Bytes}
 use Rattle.record.specs.Event.{sectionBytes, sectionAt, recordBytes, documentOf, eventsOf}
@@ -17,7 +19,7 @@ use Rattle.record.specs.Written.{WrittenRow, by-check, row-7}
 use Rattle.record.specs.Outcome.{Resolution, gives, onto}
 use Rattle.record.specs.declared.event.Event.{Event}
 use Rattle.record.proofs.Exactly.{exactly}
-use Rattle.record.proofs.Good.{Told as GoodRecord, told, admission}
+use Rattle.record.proofs.Good.{good-record, admission}
 use Rattle.record.proofs.Whole.{record-checked}
 use Rattle.record.proofs.Parts.{length-document}
 use Rattle.record.proofs.Sections.{length-section}
@@ -32,7 +34,7 @@ use Rattle.atx.specs.Heading.{isHeading, headingEvents, headedOf}
 use Rattle.atx.specs.declared.Headed.{Headed}
 use Rattle.atx.specs.declared.Headed.the-variants.{Heading, NotHeading, Refused}
 use Rattle.atx.proofs.Covering.{heading-lawful}
-use Rattle.ledgerlark.specs.Answers.{readingOf, headedOf as headedNumbers}
+use Rattle.ledgerlark.specs.Answers.{larkReading, larkHeaded}
 use Rattle.ledgerlark.specs.declared.resolve.LarkResolved.{LarkResolved}
 use Rattle.ledgerlark.specs.declared.line.LarkHeaded.{LarkHeaded}
 use Rattle.claims.specs.Records.{docOf, Accepts}
@@ -52,12 +54,12 @@ section-there es out out′ n deep d q h w =
 again : (document : List ℕ) (es : List Event) → Holdable document es → ReadAgain document es
 again document es h =
     let t = record-reads-back document es h in
-    let g : GoodRecord (recordBytes document es) (length document) (length es) = told (recordBytes document es) (length document) (length es) (t .good) in
+    let g : GoodRecord (recordBytes document es) (length document) (length es) = good-record old (recordBytes document es) (length document) (length es) (t .good) in
     let d : documentCount (recordBytes document es) ≡ length document = g .document-count in
     let e : eventCount (recordBytes document es) ≡ length es = rw (sym d) at (g .event-count) in
     record {
       accepted = λ options work r work′ ho hw a.
-          a .answer ∙ ap readingOf (sym (record-checked (recordBytes document es) options (length work) hw ho) ∙ t .good);
+          a .answer ∙ ap larkReading (sym (record-checked (recordBytes document es) options (length work) hw ho) ∙ t .good);
       its-document = ap (λ (n : ℕ). documentOf (recordBytes document es) n) d ∙ t .its-document;
       its-events =
           ap (λ (n : ℕ). eventsOf (recordBytes document es) n (eventCount (recordBytes document es))) d
@@ -66,8 +68,8 @@ again document es h =
     }
 
 -- a record that no row refuses
-good-record : (s : List ℕ) (options works : ℕ) → ((n p : ℕ) → Row s options works n p → ⊥) → GoodRecord s (documentCount s) (eventCount s)
-good-record s options works none = admission s options works (documentCount s) (eventCount s) (exactly s options works .accepted none) .good
+unrefused-good : (s : List ℕ) (options works : ℕ) → ((n p : ℕ) → Row s options works n p → ⊥) → GoodRecord s (documentCount s) (eventCount s)
+unrefused-good s options works none = admission s options works (documentCount s) (eventCount s) (exactly s options works .accepted none) .good
 
 -- the front of the record and the section of the output, as they stand
 in-memory : (s : List ℕ) (d : ℕ) (es : List Event) (out out′ : List ℕ) (n : ℕ) → AreBytes s → u32At s 0 ≡ d → 4 + d ≤ length s → n ≡ length es →
@@ -89,7 +91,7 @@ resolved-back : {made : Resolution} {groups tried options works outs : ℕ} {Off
     (a : Accepts made groups tried out r out′) → ((n p : ℕ) → WrittenRow s options works Offends made outs n p → ⊥) →
     sound deep (documentCount s) (a .events) ≡ true → ResolvedReadsBack made s r out′
 resolved-back {options = options} {works = works} s out r out′ deep a none q =
-    let g : GoodRecord s (documentCount s) (eventCount s) = good-record s options works (λ n p x. none n p (by-check x)) in
+    let g : GoodRecord s (documentCount s) (eventCount s) = unrefused-good s options works (λ n p x. none n p (by-check x)) in
     let small : documentCount s ≤ 16384 = g .small in
     let whole : length s ≡ 8 + documentCount s + 8 * eventCount s = g .whole in
     let few : length (a .events) ≤ 8000 = at-most (length (a .events)) 8000 (λ h. none 7 0 (row-7 (a .events) (a .made-so) h refl refl)) in
@@ -128,12 +130,12 @@ lists-read-back s options out work r out′ work′ p z =
     resolved-back s out r out′ 128 (n .accepted) (lists-claim s options .exactly out work r out′ work′ p .none-holds z) (n .nests)
 
 -- the heading reader: what is found has number 0, and is a heading
-found-zero : (a : Headed) → headedNumbers a .found ≡ 1 → headedNumbers a .number ≡ 0
+found-zero : (a : Headed) → larkHeaded a .found ≡ 1 → larkHeaded a .number ≡ 0
 found-zero (Heading events) q = refl
 found-zero NotHeading q = refl
 found-zero (Refused x) q = absurd (omega arith)
 
-found-heading : (b : Bool) (n : ℕ) → headedNumbers (choose b (Heading n) NotHeading) .found ≡ 1 → b ≡ true
+found-heading : (b : Bool) (n : ℕ) → larkHeaded (choose b (Heading n) NotHeading) .found ≡ 1 → b ≡ true
 unfolding choose
 found-heading true n q = refl
 found-heading false n q = absurd (omega arith)
@@ -182,7 +184,7 @@ heading-reads-back s options out r out′ p z =
     let few : length (headingEvents (lineOf s)) ≤ 8000 =
     at-most (length (headingEvents (lineOf s))) 8000 (λ h. none 7 0 (heading-row-7 is h refl refl)) in
     let line : length (lineOf s) ≤ length s = line-short s in
-    let answer : r ≡ headedNumbers (Heading (length (headingEvents (lineOf s)))) = rw is at (found .0) in
+    let answer : r ≡ larkHeaded (Heading (length (headingEvents (lineOf s)))) = rw is at (found .0) in
     let written : out′ ≡ onto (sectionBytes (headingEvents (lineOf s))) out = rw is at (found .1) in
     let t = section-there (headingEvents (lineOf s)) out out′ (omega arith) 2 (length (lineOf s)) (heading-lawful (lineOf s) .balanced) (omega arith) written in
     let count : r .events ≡ length (headingEvents (lineOf s)) = ap (λ (x : LarkHeaded). x .events) answer in
