@@ -8,15 +8,16 @@ use Prim.Native.Nat.{ℕ, zero, suc, _+_, _-_, _≤_, _<_}
 use native.Mathlib.Omega.{arith}
 use lib.ListN.{length, take, drop, length-append, length-drop, take-append-drop, List·getD-append}
 use lib.Seq.{split-at}
-use lib.Dec.{eqb, ltb}
-use borrow.Author.Tests.{eqb-false, ltb-true, lt-ltb}
+use lib.Dec.{eqb}
+use borrow.Author.Tests.{eqb-false}
 use Rattle.record.specs.Choice.{choose}
 use Rattle.record.specs.Event.{event, enter, exit}
-use Rattle.record.specs.Stack.{nth, innermost, fitsOpen, after}
+use Rattle.record.specs.Stack.{nth, after}
 use Rattle.record.specs.Sound.{soundFrom, sound}
 use Rattle.record.specs.Outcome.{offends, gives}
 use Rattle.record.specs.declared.event.Event.{Event}
 use Rattle.record.proofs.Bools.{and-left, and-right, and-both}
+use Rattle.record.proofs.Depth.{fits-deeper}
 use Rattle.record.proofs.Soundness.{stands, sound-rest, sound-enter, sound-exit, after-enter, after-exit}
 use Rattle.heading.specs.Headings.{isOf, beforeFirst, throughLast, innerOf, leaves, shaped, textRound, withText, resolvedFrom, earliest, headings}
 use Rattle.heading.proofs.Leaves.{of-is, first-leaf, rest-leaves, data-ends, last-is, through-le}
@@ -75,21 +76,13 @@ leaves-through (x ∷ y ∷ xs) b ys q k =
     (both-leaves x y (xs ++ (b ∷ ys)) (xs ++ (b ∷ [])) q (r .0), r .1)
 
 -- the front of a sound list, and then what is sound where it ends, one event deeper
-fits-deeper : (deep : ℕ) (e : Event) (held : List ℕ) → fitsOpen deep e held ≡ true → fitsOpen (deep + 1) e held ≡ true
-unfolding fitsOpen choose
-fits-deeper deep e held q = go (eqb (e .kind) 0) q
-  where
-    go : (b : Bool) → choose b (ltb (length held) deep) (innermost (e .name) held) ≡ true → choose b (ltb (length held) (deep + 1)) (innermost (e .name) held) ≡ true
-    go true q = lt-ltb (length held) (deep + 1) (omega (arith, ltb-true (length held) deep q))
-    go false q = q
-
 sound-front : (xs ys zs : List Event) (deep d last : ℕ) (held : List ℕ) → soundFrom deep d last held (xs ++ ys) ≡ true →
     soundFrom (deep + 1) d (lastPlace last xs) (openNames held xs) zs ≡ true → soundFrom (deep + 1) d last held (xs ++ zs) ≡ true
 unfolding soundFrom lastPlace openNames
 sound-front [] ys zs deep d last held s t = t
 sound-front (x ∷ xs) ys zs deep d last held s t =
     and-both _ _ (and-left _ _ s)
-    (and-both _ _ (fits-deeper deep x held (and-left _ _ (and-right _ _ s)))
+    (and-both _ _ (fits-deeper deep (deep + 1) x held (omega arith) (and-left _ _ (and-right _ _ s)))
     (sound-front xs ys zs deep d (x .place) (after x (x .name) held) (and-right _ _ (and-right _ _ s)) t))
 
 sound-behind : (xs ys : List Event) (deep d last : ℕ) (held : List ℕ) → soundFrom deep d last held (xs ++ ys) ≡ true →

@@ -1,7 +1,8 @@
 -- What lent work memory says of a list of runs: each run's slot, and the chains.
 -- Document 01: "After each closer the chains, one per marker and container, list exactly the runs up to it with markers left that can still
 -- open, latest first, as the plain rule has them on finishing that closer".
--- The list is said without lists: the head of a chain is the latest such run, and the link of each is the latest such run before it.
+-- Here it is said as the memory has it, link by link: the head of a chain is the latest such run, and the link of each is the latest such run before
+-- it. crates/claims/specs/ChainsAsLists.antt has the lists themselves.
 -- Assumes nothing.
 use Prim.Native.Nat.{ℕ, zero, suc, _+_, _<_}
 use mathlib.Core.Path.{_≡_}

@@ -59,13 +59,15 @@ shallow-from deep more d last i held opens (e ∷ es) l q f =
 pub sound-shallow : (deep more d : ℕ) (es : List Event) → sound more d es ≡ true → OpenAtMost deep es → sound deep d es ≡ true
 sound-shallow deep more d es q f = shallow-from deep more d 0 0 [] [] es refl q f
 
+pub fits-deeper : (deep more : ℕ) (e : Event) (held : List ℕ) → deep ≤ more → fitsOpen deep e held ≡ true → fitsOpen more e held ≡ true
+fits-deeper deep more e held h q = fits-less more deep e held q (λ z. let l : length held < deep = fits-room deep e held q z in omega arith)
+
 pub sound-deeper : (deep more d last : ℕ) (held : List ℕ) (es : List Event) → deep ≤ more → soundFrom deep d last held es ≡ true → soundFrom more d last held es ≡ true
 unfolding soundFrom
 sound-deeper deep more d last held [] h q = q
 sound-deeper deep more d last held (e ∷ es) h q =
-    let f = and-left _ _ (and-right _ _ q) in
     and-both _ _ (and-left _ _ q)
-    (and-both _ _ (fits-less more deep e held f (λ z. let l : length held < deep = fits-room deep e held f z in omega arith))
+    (and-both _ _ (fits-deeper deep more e held h (and-left _ _ (and-right _ _ q)))
     (sound-deeper deep more d (e .place) (after e (e .name) held) es h (and-right _ _ (and-right _ _ q))))
 
 outer-short : (xs : List ℕ) (n : ℕ) → length xs ≤ n → length (outer xs) ≤ n

@@ -14,7 +14,7 @@ use Rattle.record.specs.Choice.{choose, and}
 use Rattle.record.specs.Bytes.{u32At}
 use Rattle.record.specs.Form.{form, mateIn}
 use Rattle.record.specs.Event.{storedAt, allStoredAt}
-use Rattle.record.specs.Stack.{upTo, none, innermostOf, fitsOpen, after}
+use Rattle.record.specs.Stack.{upTo, none, fitsOpen, after}
 use Rattle.record.specs.Check.{formed, paired, truly, judge, refuse}
 use Rattle.record.specs.declared.check.Reading.{Reading}
 use Rattle.record.specs.declared.check.Reading.the-variants.{Good}

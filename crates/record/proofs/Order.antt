@@ -1,8 +1,8 @@
 -- The order of the refusals: while the list of specs/Order.antt has the numbers in their own order, a lower number comes first; and whatever the
 -- list is, the row that is given is one only.
 -- Assumes nothing.
-use Prim.Native.Nat.{ℕ, zero, suc, _+_, _≤_, _<_}
-use mathlib.Core.Path.{_≡_, refl, sym, ap, _∙_}
+use Prim.Native.Nat.{ℕ, zero, suc, _≤_, _<_}
+use mathlib.Core.Path.{_≡_, refl, ap}
 use mathlib.Core.Logic.{⊎-elim}
 use native.Mathlib.Omega.{arith}
 use Rattle.record.specs.Choice.{choose}

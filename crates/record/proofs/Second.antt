@@ -4,7 +4,7 @@ use mathlib.Core.Path.{_≡_, refl, sym, _∙_}
 use mathlib.Core.Bool.{Bool, true, false}
 use mathlib.Core.Logic.{_⊎_, inl, inr}
 use mathlib.Core.List.{List}
-use Prim.Native.Nat.{ℕ, _+_, _≤_, _<_}
+use Prim.Native.Nat.{ℕ, _≤_, _<_}
 use native.Mathlib.Omega.{arith}
 use lib.ListN.{length, getD}
 use lib.Dec.{ltb, eqb}
@@ -17,7 +17,6 @@ use Rattle.record.specs.Order.{rank, Least}
 use Rattle.record.specs.Rows.{Inner, in-3, in-4, in-5, documentCountIn, eventCountIn}
 use Rattle.record.specs.Second.{checkedSecond, admittedSecond, SecondRow, memory, other-count, over-options, no-count, runs-past, inner, ExactlySecond}
 use Rattle.record.specs.declared.check.Reading.{Reading}
-use Rattle.record.specs.declared.check.Reading.the-variants.{Good}
 use Rattle.record.proofs.Order.{lower-first, least-only}
 use Rattle.record.proofs.Exactly.{Found, least-row, no-row, same-refusal, apart, same-good, found-first}
 
