@@ -44,7 +44,7 @@ bulletMark b = or (eqb b 42) (or (eqb b 43) (eqb b 45))
 unfoldable pub orderedMark : ℕ → Bool
 orderedMark b = or (eqb b 46) (eqb b 41)
 
--- §5.2: "When the first list item in a list interrupts a paragraph", it "must start with 1".
+-- §5.2: "When the first list item in a list interrupts a paragraph", and is ordered, its number must be 1.
 -- Amendment D9: the digits are exactly `1`; in the standard `01` starts with 1 as well (`standardStartsWithOne` in specs/Standard.antt).
 unfoldable pub startsWithOne : List ℕ → Bool
 startsWithOne l = and (eqb (leading digit l) 1) (eqb (first l) 49)

@@ -16,7 +16,7 @@ unfoldable pub numberFrom : ℕ → List ℕ → ℕ
 numberFrom n [] = n
 numberFrom n (b ∷ l) = choose (digit b) (numberFrom (10 * n + (b - 48)) l) n
 
--- §5.2: "if the list item is ordered, the list item must start with 1"
+-- §5.2: the number of an ordered item that interrupts a paragraph must be 1
 unfoldable pub standardStartsWithOne : List ℕ → Bool
 standardStartsWithOne l = eqb (numberFrom 0 l) 1
 
@@ -25,7 +25,7 @@ abbrev pub OneDigit : Type 0
 OneDigit = (l : List ℕ) → startsWithOne l ≡ and (eqb (leading digit l) 1) (standardStartsWithOne l)
 
 -- §5.2, rule 1: "M is a list marker of width W followed by 1 ≤ N ≤ 4 spaces of indentation", and further lines are indented "by W + N spaces":
--- the size of an item whose marker ends before column w, where a tab at column c has `tab c` columns
+-- the size of an item with a filled rest, whose marker ends before column w, where a tab at column c has `tab c` columns
 unfoldable pub sizeBy : (ℕ → ℕ) → ℕ → List ℕ → ℕ
 sizeBy tab w rest = w + padding (columnsBy tab w rest)
 

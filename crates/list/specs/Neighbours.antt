@@ -1,5 +1,5 @@
 -- Which items join, in document 01's words, over the numbers of a record's events: "Neighbouring items join when they have the same mark and the
--- same number of open items, and only whole 14, 21, 22 and 23 holding no item stand between." No tree is read here, and nothing is carried along
+-- same number of open items, and only whole 14, 21, 22 and 23 holding no item stand between." No tree is read here, and no flag is carried along
 -- from one event to the next.
 -- Assumes nothing.
 use Prim.Native.Nat.{ℕ, _+_, _<_}
@@ -45,7 +45,7 @@ unfoldable pub firstMark : List ℕ → List Event → ℕ
 firstMark document [] = 0
 firstMark document (x ∷ es) = choose (eqb (x .name) 17) (getD document (x .place) 0) (firstMark document es)
 
--- the mark of the item that event k enters
+-- the mark of the item that event k enters, whose prefix holds a 17 by the shape rule
 abbrev pub markAt : List ℕ → List Event → ℕ → ℕ
 markAt document es k = firstMark document (drop k es)
 

@@ -1,14 +1,18 @@
 -- What a reader finds, over the record's bytes and a number. Document 01: "A record reader holds the lent record and its own place in it."
 -- Every definition has a value for all bytes: where a record is too short for what is asked, that is its end.
 -- Assumes nothing.
-use Prim.Native.Nat.{ℕ, _+_, _*_}
+use Prim.Native.Nat.{ℕ, _+_, _*_, _≤_, _<_}
+use mathlib.Core.Path.{_≡_}
 use mathlib.Core.List.{List}
 use lib.ListN.{length}
 use lib.Dec.{leb, ltb}
 use Rattle.record.specs.Choice.{choose}
 use Rattle.record.specs.Bytes.{u32At}
-use Rattle.record.specs.Event.{eventAt}
+use Rattle.record.specs.Event.{eventAt, eventsOf}
+use Rattle.record.specs.Stack.{nth}
+use Rattle.record.specs.Check.{checked}
 use Rattle.record.specs.declared.event.Event.{Event as Read}
+use Rattle.record.specs.declared.check.Reading.the-variants.{Good}
 use Rattle.reader.specs.declared.Found.{Found}
 use Rattle.reader.specs.declared.Found.the-variants.{Event, End}
 
@@ -43,3 +47,11 @@ countOf s = choose (leb (8 + u32At s 0) (length s)) (u32At s (4 + u32At s 0)) 0
 -- event k of a record: its count says that it has one, and its bytes are there
 unfoldable pub eventNumber : List ℕ → ℕ → Found
 eventNumber s k = choose (ltb k (countOf s)) (standingAt s k) End
+
+-- On a good record, of a document of d bytes and e events, event k is the k-th of its events, and from e on there is none: so these definitions,
+-- which speak of any bytes, mean what document 01 calls a record's events. proofs/Numbered.antt proves both.
+abbrev pub EventOfNumber : Type 0
+EventOfNumber = (s : List ℕ) (d e k : ℕ) → checked s ≡ Good d e → k < e → eventNumber s k ≡ foundOf (nth (eventsOf s d e) k)
+
+abbrev pub EndOfNumbers : Type 0
+EndOfNumbers = (s : List ℕ) (d e k : ℕ) → checked s ≡ Good d e → e ≤ k → eventNumber s k ≡ End

@@ -4,13 +4,22 @@ use mathlib.Core.Path.{_≡_, refl}
 use mathlib.Core.List.{List, [], _∷_, _++_, map}
 use Prim.Native.Nat.{ℕ}
 use Rattle.record.specs.Choice.{choose, and}
-use Rattle.record.specs.Bytes.{u32Bytes}
-use Rattle.record.specs.Event.{enter, exit, flat, allStoredAt}
+use Rattle.record.specs.Bytes.{u32At, u32Bytes}
+use Rattle.record.specs.Event.{storedAt, enter, exit, flat, allStoredAt}
 use Rattle.record.specs.Stack.{fitsOpen, after}
 use Rattle.record.specs.Sound.{placed}
 use Rattle.record.specs.Check.{refuse, countAt, firstReturn, formed, paired, truly, judge, insideOf, endOf, eventCountOf, checkedIn, checked}
 use Rattle.record.specs.declared.check.Reading.{Reading}
 use Rattle.record.specs.declared.check.Reading.the-variants.{Good}
+
+-- "u32 little endian": four bytes that differ, each in its place. With the laws of specs/ReadsBack.antt this fixes the writer's too
+lowest-first : (u32At (1 ∷ 2 ∷ 3 ∷ 4 ∷ []) 0 ≡ 67305985) × (u32Bytes 67305985 ≡ 1 ∷ 2 ∷ 3 ∷ 4 ∷ [])
+lowest-first = (refl, refl)
+
+-- "kind (0 enter, 1 exit), name, two zero bytes, place", byte by byte
+by-bytes : storedAt (1 ∷ 2 ∷ 3 ∷ 4 ∷ 5 ∷ 6 ∷ 7 ∷ 8 ∷ []) 0
+    ≡ record { what = record { kind = 1; name = 2; place = 134678021 }; zeros = 1027 }
+by-bytes = refl
 
 -- a record and what its check finds
 pub record Case : Type 0 where

@@ -1,5 +1,6 @@
--- The order of the refusals, said here and nowhere else. Document 01: "Several at once: lowest number first, and within 3, 4 and 5 the earliest place".
--- The numbers are ranked by their place in one list, so that a number can come before a lower one by a change of this list alone.
+-- The order of the refusals, for all tables of rows. Document 01: "Several at once: lowest number first, and within 3, 4 and 5 the earliest place".
+-- The numbers are ranked by their place in one list, so that a new number can stand in it before a lower one. Each number that a row has must be in
+-- the list: those that are not have one rank. The checks go through their tests in this order, and are proved to give the row that is the least by it.
 -- Assumes nothing.
 use Prim.Native.Nat.{ℕ, _+_, _≤_, _<_}
 use mathlib.Core.Path.{_≡_}

@@ -33,7 +33,7 @@ unfoldable pub ruleOver : (Side → ℕ) → Bool → Rule
 ruleOver sizeOf single marker opener closer =
     not (threes (opener .both || closer .both) (sizeOf opener) (sizeOf closer)) && not (tildes single marker (opener .left) (closer .left))
 
--- the standard's: the lengths are those of the whole runs
+-- the standard's: the lengths are those of the whole runs. It keeps option 4, so that D7 goes with that option set
 abbrev pub standardRule : ℕ → Rule
 standardRule options = ruleOver (λ s. s .whole) (optionOn options 4)
 
