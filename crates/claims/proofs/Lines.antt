@@ -1,13 +1,13 @@
 -- The claims of the calls on a line hold, each by the call's promise alone.
 -- Assumes nothing.
-use Prim.Native.Nat.{ℕ, _+_, _*_, _<_, _≤_}
+use Prim.Native.Nat.{ℕ, suc, _+_, _*_, _<_, _≤_}
 use native.Mathlib.Omega.{arith}
 use mathlib.Core.Path.{_≡_, refl, sym, ap, _∙_}
-use mathlib.Core.Bool.{Bool, true, false}
+use mathlib.Core.Bool.{Bool, true, false, not}
 use mathlib.Core.List.{List, []}
 use lib.ListN.{length}
 use lib.Dec.{leb, ltb}
-use borrow.Author.Tests.{ltb-false}
+use borrow.Author.Tests.{ltb-false, ne-eqb}
 use Rattle.record.proofs.Output.{onto-none}
 use Rattle.record.proofs.Sections.{length-section}
 use Rattle.record.specs.Event.{sectionBytes}
@@ -42,7 +42,7 @@ use Rattle.ledgerlark.specs.declared.line.LarkGoing.{LarkGoing}
 use Rattle.ledgerlark.specs.declared.line.LarkHeaded.{LarkHeaded}
 use Rattle.claims.specs.Told.{Told}
 use Rattle.claims.proofs.Records.{seam}
-use Rattle.claims.specs.Lines.{LineClaim, spacesRefusal, SpacesClaim, itemRefusal, ItemClaim, goingRefusal, GoingClaim, MarkDoesNotShow, headedRefusal, HeadingClaim}
+use Rattle.claims.specs.Lines.{LineClaim, spacesRefusal, spacesFound, SpacesClaim, itemRefusal, itemFound, ItemClaim, goingRefusal, goingFound, GoingClaim, FlagsSet, MarkDoesNotShow, headedRefusal, headedFound, HeadingClaim}
 
 -- from the reader's own "exactly when": `numbers` reads an answer and `refuse` is a refusal; what has a number is a refusal, what is no refusal has
 -- number 0, and a row's number is not 0
@@ -68,8 +68,8 @@ module _ {A B : Type 0} (number place : B → ℕ) (no : ℕ → ℕ → B) (num
         nothing-more = λ h. rw a (whole (rw a at h));
       }
 
-  claimed : LineClaim number place no (λ (r : B). r ≡ numbers answer) R (numbers found)
-  claimed = record { unique = λ r₁ r₂ p q. p ∙ sym q; exactly = told; finds = λ r a none. a ∙ ap numbers (x .finds none) }
+  claimed : (says : B) → numbers found ≡ says → LineClaim number place no (λ (r : B). r ≡ numbers answer) R says
+  claimed says e = record { unique = λ r₁ r₂ p q. p ∙ sym q; exactly = told; finds = λ r a none. a ∙ ap numbers (x .finds none) ∙ e }
 
 row-number : {s : List ℕ} {options n p : ℕ} → Row s options n p → 0 < n
 row-number (row-2 h e f) = omega arith
@@ -77,6 +77,11 @@ row-number (row-3 h e f) = omega arith
 row-number (row-4 h g e) = omega arith
 
 -- lark_space_or_tab
+
+spaces-said : (a : Spaces) → larkSpaces a ≡ spacesFound a
+spaces-said (Taken k) = refl
+spaces-said TooFew = refl
+spaces-said (SpacesRefused x) = refl
 
 spaces-back : (a : Spaces) (n p : ℕ) → 0 < n → larkSpaces a ≡ spacesRefusal n p → a ≡ SpacesRefused (refusal n p)
 spaces-back (Taken k) n p h q = let z : 0 ≡ n = ap (λ (x : LarkSpaces). x .number) q in absurd (omega arith)
@@ -101,9 +106,14 @@ pub spaces-claim : (s : List ℕ) (options min max : ℕ) → SpacesClaim s opti
 spaces-claim s options min max =
     let a = spacesOf s options min max in
     claimed (λ (x : LarkSpaces). x .number) (λ (x : LarkSpaces). x .place) spacesRefusal larkSpaces SpacesRefused (Row s options) (spacesIn (lineOf s) min max) a (spaces-exactly s options min max) (λ n p. refl)
-    (λ n p. refl) (spaces-back a) (spaces-zero a) (spaces-whole a) (λ n p. row-number)
+    (λ n p. refl) (spaces-back a) (spaces-zero a) (spaces-whole a) (λ n p. row-number) _ (spaces-said (spacesIn (lineOf s) min max))
 
 -- lark_list_item
+
+item-said : (a : Start) → larkItem a ≡ itemFound a
+item-said (Item taken held) = refl
+item-said NotItem = refl
+item-said (StartRefused x) = refl
 
 item-back : (a : Start) (n p : ℕ) → 0 < n → larkItem a ≡ itemRefusal n p → a ≡ StartRefused (refusal n p)
 item-back (Item taken held) n p h q = let z : 0 ≡ n = ap (λ (x : LarkItem). x .number) q in absurd (omega arith)
@@ -128,9 +138,14 @@ pub item-claim : (s : List ℕ) (options interrupting : ℕ) → ItemClaim s opt
 item-claim s options interrupting =
     let a = startOf s options (flagged interrupting) in
     claimed (λ (x : LarkItem). x .number) (λ (x : LarkItem). x .place) itemRefusal larkItem StartRefused (Row s options) (startIn (lineOf s) options (flagged interrupting)) a (start-exactly s options (flagged interrupting)) (λ n p. refl)
-    (λ n p. refl) (item-back a) (item-zero a) (item-whole a) (λ n p. row-number)
+    (λ n p. refl) (item-back a) (item-zero a) (item-whole a) (λ n p. row-number) _ (item-said (startIn (lineOf s) options (flagged interrupting)))
 
 -- lark_continuation
+
+going-said : (a : Going) → larkGoing a ≡ goingFound a
+going-said (Goes taken held) = refl
+going-said (Stops held) = refl
+going-said (GoingRefused x) = refl
 
 going-back : (a : Going) (n p : ℕ) → 0 < n → larkGoing a ≡ goingRefusal n p → a ≡ GoingRefused (refusal n p)
 going-back (Goes taken held) n p h q = let z : 0 ≡ n = ap (λ (x : LarkGoing). x .number) q in absurd (omega arith)
@@ -155,7 +170,10 @@ pub going-claim : (s : List ℕ) (options size blank mark : ℕ) → GoingClaim 
 going-claim s options size blank mark =
     let a = goingOf s options (containerOf size blank mark) in
     claimed (λ (x : LarkGoing). x .number) (λ (x : LarkGoing). x .place) goingRefusal larkGoing GoingRefused (Row s options) (goingIn (lineOf s) (containerOf size blank mark)) a (going-exactly s options (containerOf size blank mark)) (λ n p. refl)
-    (λ n p. refl) (going-back a) (going-zero a) (going-whole a) (λ n p. row-number)
+    (λ n p. refl) (going-back a) (going-zero a) (going-whole a) (λ n p. row-number) _ (going-said (goingIn (lineOf s) (containerOf size blank mark)))
+
+pub flags-set : FlagsSet
+flags-set = (refl, λ n. ap not (ne-eqb (suc n) 0 (λ e. omega arith)))
 
 same-going : (c : Checked) (line-blank flag-set enough : Bool) (size blank₁ n m₁ m₂ : ℕ) →
     larkGoing
@@ -180,6 +198,11 @@ mark-does-not-show s options size blank₁ m₁ m₂ r a =
     (blanksUpTo size (lineOf s)) m₁ m₂
 
 -- lark_heading
+
+headed-said : (a : Headed) → larkHeaded a ≡ headedFound a
+headed-said (Heading events) = refl
+headed-said NotHeading = refl
+headed-said (HeadedRefused x) = refl
 
 headed-back : (a : Headed) (n p : ℕ) → 0 < n → larkHeaded a ≡ headedRefusal n p → a ≡ HeadedRefused (refusal n p)
 headed-back (Heading events) n p h q = let z : 0 ≡ n = ap (λ (x : LarkHeaded). x .number) q in absurd (omega arith)
@@ -310,7 +333,7 @@ heading-claim s options =
       exactly = λ out r out′ a. heading-told s options (length out) r (a .answer);
       finds = λ out r out′ a none.
           let so = heading-exactly s options (length out) .finds none in
-          (a .answer ∙ ap larkHeaded so, a .output ∙ ap (λ (bs : List ℕ). onto bs out) (goes-with s options (length out) so));
+          (a .answer ∙ ap larkHeaded so ∙ headed-said (headingFound (lineOf s) options), a .output ∙ ap (λ (bs : List ℕ). onto bs out) (goes-with s options (length out) so));
       fits = λ out. within s options (length out);
       only-a-heading-writes = λ out r out′ a z.
           let none = silent s options (length out) (sym (ap (λ (x : LarkHeaded). x .found) (a .answer)) ∙ z) in

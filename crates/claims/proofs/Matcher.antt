@@ -1,34 +1,39 @@
 -- Demand 3, proved: the statements of specs/Matcher.antt, from the promises of the functions and the theorems on groups.
 -- Assumes nothing.
-use Prim.Native.Nat.{ℕ}
+use Prim.Native.Nat.{ℕ, _<_, _≤_}
 use native.Mathlib.Omega.{arith}
 use mathlib.Core.Path.{_≡_, refl, sym, ap, _∙_}
 use mathlib.Core.List.{List}
 use mathlib.Core.Option.{Option, none, some}
 use lib.ListN.{length}
 use Rattle.record.specs.Event.{sectionBytes}
-use Rattle.record.specs.Written.{by-check}
+use Rattle.record.specs.Written.{by-check, row-7}
 use Rattle.record.proofs.Exactly.{exactly}
 use Rattle.record.specs.Outcome.{gives, onto}
 use Rattle.record.specs.declared.event.Event.{Event}
 use Rattle.runs.specs.Runs.{offender}
-use Rattle.runs.specs.Rule.{Profile}
+use Rattle.runs.specs.Rule.{Rule, Profile}
+use Rattle.runs.specs.Plain.{Standing, plain}
 use Rattle.runs.specs.Pieces.{outcome}
 use Rattle.runs.specs.Output.{output}
 use Rattle.groups.specs.Matches.{begin}
 use Rattle.groups.proofs.Theorems as groups
 use Rattle.output.proofs.MarkerBytes as pieces
+use Rattle.output.proofs.ResultSize.{size-of-output, many-groups-too-long}
 use Rattle.attention.specs.Attention.{unlessOffended, attention}
 use Rattle.attention.proofs.Beginning.{begins}
 use Rattle.ledgerlark.specs.declared.resolve.LarkResolved.{LarkResolved}
 use Rattle.matcher.specs.Closer.{closerFrom}
+use Rattle.matcher.specs.Promise.{Answered}
+use Rattle.matcher.specs.declared.closers.Found.{Found}
+use Rattle.matcher.specs.declared.closers.Found.the-variants.{Groups, TooMany}
 use Rattle.matcher.proofs.Chained.{onward-went}
 use Rattle.claims.specs.Records.{docOf, allEvents}
-use Rattle.claims.specs.Matcher.{AcceptedAsThePlainRule, AcceptedNests, GroupsAreThePlainRule's, AcceptedBegins, AcceptedGroups, StandsByThePlainRule, ChainsAfterEach, StandsAfterEach, PromisedAtTheExit, AnswersThroughThese, ChainsFindTheSame}
+use Rattle.claims.specs.Matcher.{AcceptedAsThePlainRule, AcceptedNests, GroupsAreThePlainRule's, AcceptedBegins, AcceptedGroups, AcceptedHasRoom, StandsByThePlainRule, ChainsAfterEach, StandsAfterEach, PromisedAtTheExit, AnswersThroughThese, ChainsFindTheSame}
 use Rattle.claims.proofs.ChainsAsLists.{chains-list}
 use Rattle.claims.proofs.Positions.{stands-both, up-to-plain, leads, each}
 use Rattle.claims.proofs.OnTheWay.{on-the-way}
-use Rattle.claims.proofs.Records.{no-row-sound, attention-claim}
+use Rattle.claims.proofs.Records.{at-most, no-row-sound, attention-claim}
 
 the-output : (o : Option ℕ) (all es : List Event) → unlessOffended o all ≡ gives es → es ≡ all
 the-output none all es q = cc
@@ -83,6 +88,25 @@ accepted-begins profile s options n w w₁ w₂ room l c = let same = l .same-le
 pub accepted-groups : AcceptedGroups
 unfolding outcome
 accepted-groups profile s options n made tried w w′ f a = groups-are-the-plain-rule's (profile .rule options) w n made tried w′ a .1 (begin profile options (docOf s) (allEvents s)) f
+
+-- more than 1,000 groups make a result that is too long
+too-many : (rule : Rule) (rs : List Standing) (n : ℕ) (found : Found) (w : List ℕ) → found ≡ TooMany → Answered rule rs n found w →
+    1000 < length (plain rule rs .groups)
+too-many rule rs n (Groups made tried) w q a = let z : _≡_ {A = ℕ} 0 1 = cc in absurd (omega arith)
+too-many rule rs n TooMany w q a = a
+
+pub accepted-has-room : AcceptedHasRoom
+unfolding outcome
+accepted-has-room profile s options out work r out′ work′ p z n found w w′ f a q =
+    let many = too-many (profile .rule options) (begin profile options (docOf s) (allEvents s)) n found w′ q (a .of (begin profile options (docOf s) (allEvents s)) f) in
+    let long = many-groups-too-long profile options (docOf s) (allEvents s) many in
+    let x = attention-claim profile s options .accepts out work r out′ work′ p z in
+    let none = attention-claim profile s options .exactly out work r out′ work′ p .none-holds z in
+    let few : length (x .events) ≤ 8000 = at-most (length (x .events)) 8000 (λ h. none 7 0 (row-7 (x .events) (x .made-so) h refl refl)) in
+    let same : length (x .events) ≡ length (output profile options (docOf s) (allEvents s)) = ap length (made-output profile s options (x .events) (x .made-so)) in
+    let good = accepted-as-the-plain-rule profile s options out work r out′ work′ p z .record-good in
+    let size = size-of-output profile options (docOf s) (allEvents s) 64 good in
+    omega arith
 
 pub stands-by-the-plain-rule : StandsByThePlainRule
 stands-by-the-plain-rule rule n w₀ rs₀ w height i made tried f st =

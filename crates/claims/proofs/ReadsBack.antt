@@ -38,6 +38,7 @@ use Rattle.ledgerlark.specs.Answers.{larkReading, larkHeaded}
 use Rattle.ledgerlark.specs.declared.resolve.LarkResolved.{LarkResolved}
 use Rattle.ledgerlark.specs.declared.line.LarkHeaded.{LarkHeaded}
 use Rattle.claims.specs.Records.{docOf, Accepts}
+use Rattle.claims.specs.Lines.{headedFound}
 use Rattle.claims.specs.ReadsBack.{ReadAgain, ResolvedReadsBack, AttentionReadsBack, HeadingsReadBack, ListsReadBack, HeadingReadsBack}
 use Rattle.claims.proofs.Records.{at-most, seam, attention-claim, headings-claim, lists-claim}
 use Rattle.claims.proofs.Lines.{heading-claim}
@@ -135,7 +136,7 @@ found-zero (Heading events) q = refl
 found-zero NotHeading q = refl
 found-zero (Refused x) q = absurd (omega arith)
 
-found-heading : (b : Bool) (n : ℕ) → larkHeaded (choose b (Heading n) NotHeading) .found ≡ 1 → b ≡ true
+found-heading : (b : Bool) (n : ℕ) → headedFound (choose b (Heading n) NotHeading) .found ≡ 1 → b ≡ true
 unfolding choose
 found-heading true n q = refl
 found-heading false n q = absurd (omega arith)
@@ -184,7 +185,7 @@ heading-reads-back s options out r out′ p z =
     let few : length (headingEvents (lineOf s)) ≤ 8000 =
     at-most (length (headingEvents (lineOf s))) 8000 (λ h. none 7 0 (heading-row-7 is h refl refl)) in
     let line : length (lineOf s) ≤ length s = line-short s in
-    let answer : r ≡ larkHeaded (Heading (length (headingEvents (lineOf s)))) = rw is at (found .0) in
+    let answer : r ≡ headedFound (Heading (length (headingEvents (lineOf s)))) = rw is at (found .0) in
     let written : out′ ≡ onto (sectionBytes (headingEvents (lineOf s))) out = rw is at (found .1) in
     let t = section-there (headingEvents (lineOf s)) out out′ (omega arith) 2 (length (lineOf s)) (heading-lawful (lineOf s) .balanced) (omega arith) written in
     let count : r .events ≡ length (headingEvents (lineOf s)) = ap (λ (x : LarkHeaded). x .events) answer in

@@ -1,25 +1,34 @@
 -- The claims of the calls on a line, as C sees them: `lark_space_or_tab`, `lark_list_item`, `lark_continuation`, `lark_heading`.
 -- For each: any two answers that its promise allows are equal; each number is given exactly when the table says; where no row holds, what is
--- found is what the definition says. The first three write nothing and take no memory, so there is nothing a buffer held that could show. The
+-- found is what the definition says, each of its numbers in the field that C has for it. The first three write nothing and take no memory, so there is nothing a buffer held that could show. The
 -- heading reader has isolation too, and no refusal and no finding of it writes. These are the statements; proofs/Lines.antt proves each for every
 -- line and all arguments.
 -- Assumes nothing.
-use Prim.Native.Nat.{ℕ, _≤_}
+use Prim.Native.Nat.{ℕ, suc, _≤_}
 use mathlib.Core.Path.{_≡_}
+use mathlib.Core.Bool.{true, false}
 use mathlib.Core.List.{List, []}
 use lib.ListN.{length, take, drop}
 use Rattle.record.specs.Event.{sectionBytes}
 use Rattle.record.specs.Choice.{choose}
 use Rattle.record.specs.Outcome.{onto}
-use Rattle.scan.specs.Line.{lineOf, refusal}
+use Rattle.scan.specs.Line.{lineOf, refusal, flag}
 use Rattle.scan.specs.Rows.{Row}
 use Rattle.atx.specs.Rows.{WritingRow, headingFound}
 use Rattle.lines.specs.Spaces.{spacesIn}
-use Rattle.lines.specs.Item.{startIn}
+use Rattle.lines.specs.Item.{markOf, startIn}
 use Rattle.scan.specs.Run.{blank}
 use Rattle.lines.specs.Going.{goingIn}
 use Rattle.atx.specs.Heading.{isHeading, headingEvents, headedOf}
-use Rattle.ledgerlark.specs.Answers.{flagged, containerOf, larkSpaces, larkItem, larkGoing, larkHeaded, SpacesAs, ItemAs, GoingAs, HeadedAs}
+use Rattle.lines.specs.declared.spaces.Spaces.{Spaces}
+use Rattle.lines.specs.declared.spaces.Spaces.the-variants.{Taken, TooFew, Refused as SpacesRefused}
+use Rattle.lines.specs.declared.item.Start.{Start}
+use Rattle.lines.specs.declared.item.Start.the-variants.{Item, NotItem, Refused as StartRefused}
+use Rattle.lines.specs.declared.going.Going.{Going}
+use Rattle.lines.specs.declared.going.Going.the-variants.{Goes, Stops, Refused as GoingRefused}
+use Rattle.atx.specs.declared.Headed.{Headed}
+use Rattle.atx.specs.declared.Headed.the-variants.{Heading, NotHeading, Refused as HeadedRefused}
+use Rattle.ledgerlark.specs.Answers.{flagged, containerOf, SpacesAs, ItemAs, GoingAs, HeadedAs}
 use Rattle.ledgerlark.specs.declared.line.LarkSpaces.{LarkSpaces}
 use Rattle.ledgerlark.specs.declared.line.LarkItem.{LarkItem}
 use Rattle.ledgerlark.specs.declared.line.LarkGoing.{LarkGoing}
@@ -38,30 +47,52 @@ pub record LineClaim {A : Type 0} (number place : A → ℕ) (refusal : ℕ → 
 abbrev pub spacesRefusal : ℕ → ℕ → LarkSpaces
 spacesRefusal n p = record { number = n; place = p; found = 0; taken = 0 }
 
+-- what comes with number 0: "too few" has 0 in all fields
+abbrev pub spacesFound : Spaces → LarkSpaces
+spacesFound (Taken n) = record { number = 0; place = 0; found = 1; taken = n }
+spacesFound TooFew = spacesRefusal 0 0
+spacesFound (SpacesRefused r) = spacesRefusal (r .number) (r .place)
+
 abbrev pub SpacesClaim : List ℕ → ℕ → ℕ → ℕ → Type 0
 SpacesClaim s options min max =
     LineClaim (λ (x : LarkSpaces). x .number) (λ (x : LarkSpaces). x .place) spacesRefusal (SpacesAs s options min max) (Row s options)
-    (larkSpaces (spacesIn (lineOf s) min max))
+    (spacesFound (spacesIn (lineOf s) min max))
 
 -- lark_list_item
 
 abbrev pub itemRefusal : ℕ → ℕ → LarkItem
 itemRefusal n p = record { number = n; place = p; found = 0; taken = 0; size = 0; blank = 0; mark = 0 }
 
+-- an item: the bytes taken, its size, whether its start is blank, and its mark
+abbrev pub itemFound : Start → LarkItem
+itemFound (Item n held) = record { number = 0; place = 0; found = 1; taken = n; size = held .size; blank = flag (held .blank); mark = markOf (held .kind) }
+itemFound NotItem = itemRefusal 0 0
+itemFound (StartRefused r) = itemRefusal (r .number) (r .place)
+
 abbrev pub ItemClaim : List ℕ → ℕ → ℕ → Type 0
 ItemClaim s options interrupting =
     LineClaim (λ (x : LarkItem). x .number) (λ (x : LarkItem). x .place) itemRefusal (ItemAs s options interrupting) (Row s options)
-    (larkItem (startIn (lineOf s) options (flagged interrupting)))
+    (itemFound (startIn (lineOf s) options (flagged interrupting)))
 
 -- lark_continuation
 
 abbrev pub goingRefusal : ℕ → ℕ → LarkGoing
 goingRefusal n p = record { number = n; place = p; found = 0; taken = 0; blank = 0 }
 
+-- the container's flag as it then stands, also where the line does not go on
+abbrev pub goingFound : Going → LarkGoing
+goingFound (Goes n held) = record { number = 0; place = 0; found = 1; taken = n; blank = flag (held .blank) }
+goingFound (Stops held) = record { number = 0; place = 0; found = 0; taken = 0; blank = flag (held .blank) }
+goingFound (GoingRefused r) = goingRefusal (r .number) (r .place)
+
 abbrev pub GoingClaim : List ℕ → ℕ → ℕ → ℕ → ℕ → Type 0
 GoingClaim s options size blank mark =
     LineClaim (λ (x : LarkGoing). x .number) (λ (x : LarkGoing). x .place) goingRefusal (GoingAs s options size blank mark) (Row s options)
-    (larkGoing (goingIn (lineOf s) (containerOf size blank mark)))
+    (goingFound (goingIn (lineOf s) (containerOf size blank mark)))
+
+-- what goes in: a flag is set by any number but 0
+abbrev pub FlagsSet : Type 0
+FlagsSet = (flagged 0 ≡ false) × ((n : ℕ) → flagged (suc n) ≡ true)
 
 -- the mark that goes in does not show in the answer
 abbrev pub MarkDoesNotShow : Type 0
@@ -72,6 +103,11 @@ MarkDoesNotShow =
 
 abbrev pub headedRefusal : ℕ → ℕ → LarkHeaded
 headedRefusal n p = record { number = n; place = p; found = 0; events = 0 }
+
+abbrev pub headedFound : Headed → LarkHeaded
+headedFound (Heading n) = record { number = 0; place = 0; found = 1; events = n }
+headedFound NotHeading = headedRefusal 0 0
+headedFound (HeadedRefused r) = headedRefusal (r .number) (r .place)
 
 -- the one reader that writes, with an output of the length `outs`: `found` is what it answers, and `section` what it writes, where no row holds
 pub record WritingClaim (As : List ℕ → LarkHeaded → List ℕ → Type 0) (bytes : ℕ → List ℕ) (R : ℕ → ℕ → ℕ → Type 0) (found : LarkHeaded) (section : List ℕ) : Type 0 where
@@ -89,4 +125,4 @@ pub record WritingClaim (As : List ℕ → LarkHeaded → List ℕ → Type 0) (
 abbrev pub HeadingClaim : List ℕ → ℕ → Type 0
 HeadingClaim s options =
     WritingClaim (HeadedAs s options) (λ outs. headedOf s options outs .bytes) (WritingRow s options)
-    (larkHeaded (headingFound (lineOf s) options)) (choose (isHeading (lineOf s) options) (sectionBytes (headingEvents (lineOf s))) [])
+    (headedFound (headingFound (lineOf s) options)) (choose (isHeading (lineOf s) options) (sectionBytes (headingEvents (lineOf s))) [])

@@ -9,8 +9,8 @@
 -- say that this is what is done: `next_match` (crates/chains/src/walk.rt) is equal to `onward`, and `handle_closer` and `find_groups`
 -- (crates/matcher/src/closers.rt) to `closerBy` and `chained`, each in answer and memory. That only chains are looked at is in the first two: their
 -- premises say of no slot that it is emptied, can't open or has another marker or container, and what is off the chains is not taken
--- (crates/matcher/specs/OffChains.antt). That `find_groups`, which begins with empty chains, and the call above it go by them is seen in their bodies:
--- on memory that is as they require, a search over all runs would come to the same. What the promises of those two, `Handles` and `Answers`, say is
+-- (crates/matcher/specs/OffChains.antt); src/steps.rt ties this page to the three. That `find_groups`, which begins with empty chains, and the call
+-- above it go by the other two is seen in their bodies: on memory that is as they require, a search over all runs would come to the same. What the promises of those two, `Handles` and `Answers`, say is
 -- drawn out here.
 --
 -- First the call: what it reports and writes, and that nothing crosses. Then the matcher, from the memory that a record's runs are loaded into: its
@@ -51,7 +51,7 @@ use Rattle.chains.specs.Walk.{onward}
 use Rattle.claims.specs.Records.{docOf, allEvents}
 use Rattle.matcher.specs.declared.closers.Step.the-variants.{Closed}
 use Rattle.matcher.specs.declared.closers.Found.{Found}
-use Rattle.matcher.specs.declared.closers.Found.the-variants.{Groups}
+use Rattle.matcher.specs.declared.closers.Found.the-variants.{Groups, TooMany}
 use Rattle.claims.specs.ChainsAsLists.{ChainsList}
 use Rattle.claims.specs.Positions.{plainUpTo, roundsLeft, Stands, StandsAt, Leads}
 
@@ -114,6 +114,13 @@ AcceptedGroups =
     Answers (profile .rule options) w n (Groups made tried) w′ →
     (made ≡ length (plainGroups profile s options)) × (tried ≡ outcome profile options (docOf s) (allEvents s) .tried) × Grouped w′ (plainGroups profile s options) n
 
+-- and there is room for them: of a record that the call accepts, the matcher does not come to more groups than a result can hold
+abbrev pub AcceptedHasRoom : Type 0
+AcceptedHasRoom =
+    (profile : Profile) (s : List ℕ) (options : ℕ) (out work : List ℕ) (r : LarkResolved) (out′ work′ : List ℕ) →
+    AttentionAs profile s options out work r out′ work′ → r .number ≡ 0 → (n : ℕ) (found : Found) (w w′ : List ℕ) →
+    Fresh w (begin profile options (docOf s) (allEvents s)) n → Answers (profile .rule options) w n found w′ → (found ≡ TooMany → ⊥)
+
 -- where the matcher stands after a run, as Positions.antt has it, the plain rule stands too: it has made as many groups, which the memory holds, and
 -- has tried as many candidates; and what it makes of the first runs is what the rounds that are left make of the runs as they stand then
 abbrev pub StandsByThePlainRule : Type 0
@@ -146,8 +153,8 @@ PromisedAtTheExit =
     × ((rs : List Standing) (gs : List Group) → Ready w height rs gs n i → length gs ≡ made →
     (next ≡ closerFrom rule rs i gs tried .next) × ChainsList w′ (closerFrom rule rs i gs tried .runs) next)
 
--- these are the memories that `find_groups` goes through: from each such place, the first among them, its steps lead over such places alone to the
--- last, where its answer and memory are
+-- these are the memories that `chained` goes through, which `find_groups` is equal to in answer and last memory: from each such place, the first
+-- among them, its steps lead over such places alone to the last
 abbrev pub AnswersThroughThese : Type 0
 AnswersThroughThese =
     (rule : Rule) (n : ℕ) (w₀ : List ℕ) (rs₀ : List Standing) (w : List ℕ) (height i made tried : ℕ) (found : Found) (w′ : List ℕ) →

@@ -11,7 +11,7 @@ use Rattle.runs.specs.Plain.{miss}
 use Rattle.slots.specs.Layout.{headOf, chainOf}
 use Rattle.chains.specs.Walk.{seek, closing, passed, raised, onward}
 use Rattle.chains.proofs.Steps.{down-zero, seek-closing, seek-not, onward-miss, onward-end}
-use Rattle.matcher.specs.OffChains.{EmptyIsInOrder, EmptyTakesNone}
+use Rattle.matcher.specs.OffChains.{EmptyIsInOrder, EmptyMayBegin, EmptyTakesNone}
 use Rattle.matcher.specs.declared.closers.Step.the-variants.{Closed}
 use Rattle.matcher.proofs.Ways.{done-way}
 
@@ -25,6 +25,10 @@ empty-is-in-order w n from room few within falls chains heads =
       heads = λ k h p. absurd (omega (arith, heads k h));
       links = λ x h. absurd (omega arith);
     }
+
+pub empty-may-begin : EmptyMayBegin
+empty-may-begin w n from groups tried room few more falls chains heads made count =
+    record { order = empty-is-in-order w n from room few (omega arith) falls chains heads; more = more; room = made; few = count }
 
 module _ (rule : Rule) (w : List ℕ) (height from : ℕ) (e : headOf w (chainOf w from) ≡ 0) where
   none : seek rule w from 0 ≡ miss 0

@@ -1,0 +1,59 @@
+// The eight exported calls: none asks for anything, and each promises what the claims speak of.
+
+use ledgerlark::line::LarkGoing;
+use ledgerlark::line::LarkHeaded;
+use ledgerlark::line::LarkItem;
+use ledgerlark::line::LarkSpaces;
+use ledgerlark::resolve::LarkReading;
+use ledgerlark::resolve::LarkResolved;
+ghost use Rattle.runs.specs.Rule.{crate};
+ghost use Rattle.ledgerlark.specs.Answers.{ReadAs, AttentionAs, HeadingsAs, ListsAs, SpacesAs, ItemAs, GoingAs, HeadedAs};
+
+// What is claimed of `ReadAs` holds of `lark_read`; and so on below.
+pub fn read(s: &[u8], options: u32, work: &mut [u8]) -> LarkReading
+    ensures { λ r. ⌜ ReadAs (now (s .entry)) options (now (work .entry)) r (now (work .exit)) ⌝ }
+{
+    ledgerlark::resolve::lark_read(s, options, work)
+}
+
+pub fn resolve_attention(s: &[u8], options: u32, out: &mut [u8], work: &mut [u8]) -> LarkResolved
+    ensures { λ r. ⌜ AttentionAs crate (now (s .entry)) options (now (out .entry)) (now (work .entry)) r (now (out .exit)) (now (work .exit)) ⌝ }
+{
+    ledgerlark::resolve::lark_resolve_attention(s, options, out, work)
+}
+
+pub fn resolve_headings(s: &[u8], options: u32, out: &mut [u8], work: &mut [u8]) -> LarkResolved
+    ensures { λ r. ⌜ HeadingsAs (now (s .entry)) options (now (out .entry)) (now (work .entry)) r (now (out .exit)) (now (work .exit)) ⌝ }
+{
+    ledgerlark::resolve::lark_resolve_headings(s, options, out, work)
+}
+
+pub fn resolve_lists(s: &[u8], options: u32, out: &mut [u8], work: &mut [u8]) -> LarkResolved
+    ensures { λ r. ⌜ ListsAs (now (s .entry)) options (now (out .entry)) (now (work .entry)) r (now (out .exit)) (now (work .exit)) ⌝ }
+{
+    ledgerlark::resolve::lark_resolve_lists(s, options, out, work)
+}
+
+pub fn space_or_tab(line: &[u8], options: u32, min: usize, max: usize) -> LarkSpaces
+    ensures { λ r. ⌜ SpacesAs (now (line .entry)) options min max r ⌝ }
+{
+    ledgerlark::line::lark_space_or_tab(line, options, min, max)
+}
+
+pub fn list_item(line: &[u8], options: u32, interrupting: u32) -> LarkItem
+    ensures { λ r. ⌜ ItemAs (now (line .entry)) options interrupting r ⌝ }
+{
+    ledgerlark::line::lark_list_item(line, options, interrupting)
+}
+
+pub fn continuation(line: &[u8], options: u32, size: usize, blank: u32, mark: u32) -> LarkGoing
+    ensures { λ r. ⌜ GoingAs (now (line .entry)) options size blank mark r ⌝ }
+{
+    ledgerlark::line::lark_continuation(line, options, size, blank, mark)
+}
+
+pub fn heading(line: &[u8], options: u32, out: &mut [u8]) -> LarkHeaded
+    ensures { λ r. ⌜ HeadedAs (now (line .entry)) options (now (out .entry)) r (now (out .exit)) ⌝ }
+{
+    ledgerlark::line::lark_heading(line, options, out)
+}
