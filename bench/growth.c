@@ -2,9 +2,13 @@
  * grow no faster than the runs; lists and headings with the number of events. Each figure is the least of many calls; the wipe of the work
  * memory, which every call ends with, is shown beside them. Were the growth faster than linear, the last column would rise within a family.
  * All records take their turn in each of several rounds, so that a burst of other work on the machine spoils no single row.
+ *
+ * Families in which runs both open and close, so that the candidates tried are quadratic, have a table of their own: its last column is what a
+ * candidate costs. The last table is of the wipe alone, which is of all that is lent.
  */
 #include <stdint.h>
 #include <stdio.h>
+#include <stdlib.h>
 #include <string.h>
 #include <time.h>
 
@@ -14,6 +18,10 @@ struct lark_resolved {
 typedef struct lark_resolved resolver(const uint8_t *record, size_t record_length, uint32_t options, uint8_t *out, size_t out_length,
                                       uint8_t *work, size_t work_length);
 resolver lark_resolve_attention, lark_resolve_headings, lark_resolve_lists;
+struct lark_reading {
+    size_t number, place, document, events;
+};
+struct lark_reading lark_read(const uint8_t *record, size_t record_length, uint32_t options, uint8_t *work, size_t work_length);
 
 enum { WORK = 65536, OUT = 4 + 8 * 8000, OPTIONS = 59 };
 static uint8_t document[16384], events[8 * 2048], record[8 + sizeof document + sizeof events], out[OUT], work[WORK];
@@ -62,6 +70,37 @@ static void openers(size_t n) {
 }
 static void closers(size_t n) {
     for (size_t i = 0; i < n; i++) text("a"), run('*', 1), text(" ");
+}
+
+/* The families in which runs both open and close, and try those before them. Of more than two tildes no size fits. A run of six takes two from
+ * the four that are left of the run before and has four left itself; four and two make a multiple of three, so it skips every run on its chain. */
+static void between(char marker, size_t size, const char *side) { text(side), run(marker, size), text(side); }
+static void threes(size_t n) {
+    for (size_t i = 0; i < n; i++) between('~', 3, "a");
+}
+static void in_turn(size_t n) {
+    for (size_t i = 0; i < n; i++) between('~', 3 + i % 10, "a");
+}
+static void mixed(size_t n) {
+    uint32_t state = 1;
+    for (size_t i = 0; i < n; i++) state = 1664525 * state + 1013904223, between('~', 3 + (state >> 16) % 10, "a");
+}
+/* four, then sixes, then ones, of which every second takes the one before it: as many sixes as leave 1,024 runs a result of 8,000 events */
+static void sixes(char marker, size_t n, const char *side) {
+    for (size_t i = 0, many = 651 * n / 1024; i < n; i++) between(marker, !i ? 4 : i < many ? 6 : 1, side);
+}
+static void stars(size_t n) { sixes('*', n, "a"); }
+static void lows(size_t n) { sixes('_', n, "."); }
+/* twos that open only, then four, then sixes: no record of `*` was found that tries more and has a result that fits */
+static void most(size_t n) {
+    for (size_t i = 0, few = 279 * n / 1024; i < n; i++) {
+        if (i < few) text(" "), run('*', 2), text("a");
+        else between('*', i == few ? 4 : 6, "a");
+    }
+}
+/* four and then sixes alone: of 1,024 runs the result is too long, which is known when all has been tried */
+static void too_long(size_t n) {
+    for (size_t i = 0; i < n; i++) between('*', i ? 6 : 4, "a");
 }
 
 /* the families of lists and headings: as many whole parts as n events have room for */
@@ -123,14 +162,16 @@ static double now(void) {
     return 1e9 * (double)t.tv_sec + (double)t.tv_nsec;
 }
 
-enum { ROUNDS = 10, CALLS = 300 };
+/* How often a record is called in one round: at most CALLS times, and once LEAST are made no longer than TURN, in nanoseconds. */
+enum { ROUNDS = 10, CALLS = 300, LEAST = 5, TURN = 30000000 };
 
 struct family {
     const char *name;
     void (*make)(size_t);
+    size_t may; /* the refusal that its largest record gets; 0 if it gets none */
 };
 struct table {
-    const char *title;
+    const char *title, *each; /* `each` is what the last column shares the time out to */
     resolver *call;
     const struct family *families;
     size_t families_length;
@@ -140,6 +181,13 @@ struct table {
 
 #define LENGTH(a) (sizeof(a) / sizeof *(a))
 static const struct family attention[] = {{"`nested`", nested}, {"`*_*_`", alternating}, {"`a_ `", lines}, {"` *a`", openers}, {"`a* `", closers}};
+static const struct family all_tried[] = {{"`~`: 3", threes},
+                                          {"`~`: 3 to 12 in turn", in_turn},
+                                          {"`~`: 3 to 12 mixed", mixed},
+                                          {"`*`: 4, 6 .., 1 ..", stars},
+                                          {"`_`: 4, 6 .., 1 ..", lows},
+                                          {"`*`: 2 .., 4, 6 ..", most},
+                                          {"`*`: 4, 6 ..", too_long, 7}};
 static const struct family lists[] = {{"one list", one_list},
                                       {"items with text", items_with_text},
                                       {"62 levels", nested_items},
@@ -148,17 +196,19 @@ static const struct family lists[] = {{"one list", one_list},
                                       {"16 blank lines between", far_apart}};
 static const struct family headings[] = {{"many headings", many_headings}, {"one heading", one_heading}, {"no text", heading_without_text}};
 static const size_t runs[] = {16, 64, 256, 1024}, sizes[] = {64, 256, 512, 1024, 2048};
-static const struct table tables[] = {{"attention", lark_resolve_attention, attention, LENGTH(attention), runs, LENGTH(runs)},
-                                      {"lists", lark_resolve_lists, lists, LENGTH(lists), sizes, LENGTH(sizes)},
-                                      {"headings", lark_resolve_headings, headings, LENGTH(headings), sizes, LENGTH(sizes)}};
+static const struct table tables[] = {{"attention", "a run", lark_resolve_attention, attention, LENGTH(attention), runs, LENGTH(runs)},
+                                      {"attention, runs that open and close", "a candidate", lark_resolve_attention, all_tried, LENGTH(all_tried), runs,
+                                       LENGTH(runs)},
+                                      {"lists", "an event", lark_resolve_lists, lists, LENGTH(lists), sizes, LENGTH(sizes)},
+                                      {"headings", "an event", lark_resolve_headings, headings, LENGTH(headings), sizes, LENGTH(sizes)}};
 
 static struct cell {
     double ns;
     size_t events;
     struct lark_resolved answer;
-} cells[3][6][5];
+} cells[LENGTH(tables)][7][5];
 
-/* one record, called many times; false if it is refused, which would make the figure worthless */
+/* one record, called many times; false if it is refused and may not be, which would make the figure worthless */
 static int timed(const struct table *t, const struct family *f, size_t n, struct cell *cell) {
     bytes = count = 0;
     f->make(n);
@@ -167,14 +217,48 @@ static int timed(const struct table *t, const struct family *f, size_t n, struct
     put32(record + 4 + bytes, count);
     memcpy(record + 8 + bytes, events, 8 * count);
     cell->events = count;
-    for (int i = 0; i < CALLS; i++) {
+    double begun = now();
+    for (int i = 0; i < CALLS && (i < LEAST || now() - begun < TURN); i++) {
         double from = now();
         cell->answer = t->call(record, 8 + bytes + 8 * count, OPTIONS, out, OUT, work, WORK);
         double took = now() - from;
         if (!cell->ns || took < cell->ns) cell->ns = took;
     }
-    if (cell->answer.number) printf("%s %zu: refused %zu at %zu\n", f->name, n, cell->answer.number, cell->answer.place);
-    return !cell->answer.number;
+    if (!cell->answer.number || cell->answer.number == f->may) return 1;
+    printf("%s %zu: refused %zu at %zu\n", f->name, n, cell->answer.number, cell->answer.place);
+    return 0;
+}
+
+/* A row of attention, with n runs. A refusal says neither groups nor candidates. */
+static void attention_row(const char *name, size_t n, const struct cell *c, double wipe, int by_candidate) {
+    if (c->answer.number) printf("| %s | %zu | refused %zu | | %.0f | |\n", name, n, c->answer.number, c->ns);
+    else
+        printf("| %s | %zu | %zu | %zu | %.0f | %.2f |\n", name, n, c->answer.groups, c->answer.tried, c->ns,
+               (c->ns - wipe) / (double)(by_candidate ? c->answer.tried : n));
+}
+
+/* lark_read of the empty record with more and more lent: the first call gets memory that was never written, the others get it again */
+static void lent(void) {
+    static const uint8_t empty[8];
+    printf("\n| lent, bytes | first call, ns | least of ten more, ns |\n|---|---|---|\n");
+    for (size_t size = WORK; size <= (size_t)WORK << 12; size <<= 4) {
+        uint8_t *memory = malloc(size);
+        if (!memory) {
+            printf("| %zu | not to be had | |\n", size);
+            continue;
+        }
+        double first = 0, least = 0;
+        for (int i = 0; i < 11; i++) {
+            double from = now();
+            struct lark_reading answer = lark_read(empty, sizeof empty, OPTIONS, memory, size);
+            double took = now() - from;
+            if (answer.number) printf("refused %zu\n", answer.number);
+            if (!i) first = took;
+            else if (i == 1 || took < least) least = took;
+        }
+        printf("| %zu | %.0f | %.0f |\n", size, first, least);
+        free(memory);
+    }
 }
 
 int main(void) {
@@ -194,17 +278,17 @@ int main(void) {
     }
     printf("wipe of %d bytes: %.0f ns\n", WORK, wipe);
     for (size_t t = 0; t < LENGTH(tables); t++) {
-        if (t) printf("\n| %s | events | events written | ns a call | less the wipe, an event |\n|---|---|---|---|---|\n", tables[t].title);
-        else printf("\n| %s | runs | groups | tried | ns a call | less the wipe, a run |\n|---|---|---|---|---|---|\n", tables[t].title);
+        int by_run = tables[t].call == lark_resolve_attention;
+        printf("\n| %s | %s | ns a call | less the wipe, %s |\n|---|---|---|---|---|%s\n", tables[t].title,
+               by_run ? "runs | groups | tried" : "events | events written", tables[t].each, by_run ? "---|" : "");
         for (size_t f = 0; f < tables[t].families_length; f++)
             for (size_t s = 0; s < tables[t].sizes_length; s++) {
                 const struct cell *c = &cells[t][f][s];
                 const char *name = tables[t].families[f].name;
-                if (t) printf("| %s | %zu | %zu | %.0f | %.2f |\n", name, c->events, c->answer.events, c->ns, (c->ns - wipe) / (double)c->events);
-                else
-                    printf("| %s | %zu | %zu | %zu | %.0f | %.1f |\n", name, runs[s], c->answer.groups, c->answer.tried, c->ns,
-                           (c->ns - wipe) / (double)runs[s]);
+                if (by_run) attention_row(name, runs[s], c, wipe, tables[t].families == all_tried);
+                else printf("| %s | %zu | %zu | %.0f | %.2f |\n", name, c->events, c->answer.events, c->ns, (c->ns - wipe) / (double)c->events);
             }
     }
+    lent();
     return 0;
 }

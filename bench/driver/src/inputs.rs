@@ -113,17 +113,29 @@ fn stretch(draft: &mut Draft, text: &str, runs: usize) {
     }
 }
 
-/// The families: a name, and the stretches that share the runs evenly.
-const FAMILIES: [(&str, &[&str]); 9] = [
-    ("`*_`ⁿ", &["*_"]),
-    ("`*a **a `ⁿ", &["*a **a "]),
-    ("`*a **a `ⁿ`b** b* `ⁿ", &["*a **a ", "b** b* "]),
-    ("`a_ `ⁿ", &["a_ "]),
-    ("`*a `ⁿ`a_ `ⁿ", &["*a ", "a_ "]),
-    ("`*a_ `ⁿ", &["*a_ "]),
-    ("`x **b `ⁿ`c*d`ⁿ", &["x **b ", "c*d"]),
-    ("`~~a~ `ⁿ", &["~~a~ "]),
-    ("`~~a `ⁿ`b~ `ⁿ", &["~~a ", "b~ "]),
+/// Runs of 3 to 12 tildes between letters.
+const TILDES: &str = "a~~~a~~~~a~~~~~a~~~~~~a~~~~~~~a~~~~~~~~a~~~~~~~~~a~~~~~~~~~~a~~~~~~~~~~~a~~~~~~~~~~~~";
+
+/// The families: a name, and the stretches with the part of the runs that each takes, one run at least.
+///
+/// In the last five the runs both open and close, but for the `**` and a run at the edge. Of more than two tildes no size fits. A run of six takes
+/// two from the four that are left of the run before and has four left itself; four and two make a multiple of three, so it skips every run on its
+/// chain. The parts are such that the result of 1,024 runs has no more than 8,000 events.
+const FAMILIES: [(&str, &[(&str, usize)]); 14] = [
+    ("`*_`ⁿ", &[("*_", 1)]),
+    ("`*a **a `ⁿ", &[("*a **a ", 1)]),
+    ("`*a **a `ⁿ`b** b* `ⁿ", &[("*a **a ", 1), ("b** b* ", 1)]),
+    ("`a_ `ⁿ", &[("a_ ", 1)]),
+    ("`*a `ⁿ`a_ `ⁿ", &[("*a ", 1), ("a_ ", 1)]),
+    ("`*a_ `ⁿ", &[("*a_ ", 1)]),
+    ("`x **b `ⁿ`c*d`ⁿ", &[("x **b ", 1), ("c*d", 1)]),
+    ("`~~a~ `ⁿ", &[("~~a~ ", 1)]),
+    ("`~~a `ⁿ`b~ `ⁿ", &[("~~a ", 1), ("b~ ", 1)]),
+    ("`a~~~`ⁿ", &[("a~~~", 1)]),
+    ("3 to 12 `~` between letters", &[(TILDES, 1)]),
+    ("`c****d` `c******d`ᵐ `c*d`ᵏ", &[("c****d", 1), ("c******d", 650), ("c*d", 373)]),
+    ("`.____.` `.______.`ᵐ `._.`ᵏ", &[(".____.", 1), (".______.", 650), ("._.", 373)]),
+    ("`**b `ᵏ`c******d`ᵐ", &[("**b ", 280), ("c******d", 744)]),
 ];
 
 /// The sizes of a family, in runs.
@@ -150,10 +162,12 @@ fn hostile() -> Vec<Case> {
                 let room = (MOST_EVENTS - if container { 2 } else { 0 }) / 2;
                 let part = within(container, |draft| {
                     let mut left = size.min(room);
-                    for (done, text) in stretches.iter().enumerate() {
-                        let share = left / (stretches.len() - done);
+                    let mut parts: usize = stretches.iter().map(|(_, part)| part).sum();
+                    for (text, part) in stretches {
+                        let share = (left * part / parts).max(1);
                         stretch(draft, text, share);
                         left -= share;
+                        parts -= part;
                     }
                 });
                 cases.push(Case { name: format!("{name}{place}"), sort: Sort::Hostile, which: Resolver::Attention, parts: vec![part] });
