@@ -187,6 +187,26 @@ static void number_7(void) {
     refuses(lark_resolve_attention, twice(2000), 63, LARK_OUT_BYTES - 1, LARK_WORK_BYTES, 8, 0);
 }
 
+/* `a~~~` 1,024 times and `a`: every run opens and closes, and none matches, being over 2. The first looks at no run, the next at one, and so
+ * on: 1,024 * 1,023 / 2. */
+static void most_tried(void) {
+    size_t i;
+    begin("523,776 tried");
+    record_bytes.n = section_bytes.n = 0;
+    put_number(&record_bytes, 4 * 1024 + 1);
+    for (i = 0; i < 1024; i++) put(&record_bytes, "a~~~", 4);
+    put(&record_bytes, "a", 1);
+    put_number(&record_bytes, 2048);
+    put_number(&section_bytes, 2048);
+    for (i = 0; i < 1024; i++) {
+        put_event(&record_bytes, LARK_ENTER, 1, 4 * i + 1);
+        put_event(&record_bytes, LARK_EXIT, 1, 4 * i + 4);
+        put_event(&section_bytes, LARK_ENTER, 0, 4 * i + 1);
+        put_event(&section_bytes, LARK_EXIT, 0, 4 * i + 4);
+    }
+    resolves(lark_resolve_attention, &record_bytes, 63, 0, 523776, &section_bytes);
+}
+
 static void number_8(void) {
     size_t n;
     begin("8: every length under 84 for `*a*`");
@@ -201,6 +221,7 @@ static void all(void) {
     by_line();
     number_6();
     number_7();
+    most_tried();
     number_8();
 }
 

@@ -252,7 +252,8 @@ static inline void resolves_with(resolver *call, const struct bytes *r, uint32_t
     take_back(work);
 }
 
-/* A resolver accepts and writes this section: into ample output, into output of just its length, and with more work memory than is needed. */
+/* A resolver accepts and writes this section: into ample output, into output of just its length, and with more output and work memory than is
+ * needed. 65,536 cut to 16 bits is 0. */
 static inline void resolves(resolver *call, const struct bytes *r, uint32_t options, size_t groups, size_t tried, const struct bytes *result) {
     struct lark_resolved want;
     want.number = want.place = 0;
@@ -262,6 +263,7 @@ static inline void resolves(resolver *call, const struct bytes *r, uint32_t opti
     resolves_with(call, r, options, LARK_OUT_BYTES, LARK_WORK_BYTES, want, result);
     resolves_with(call, r, options, result->n, LARK_WORK_BYTES, want, result);
     resolves_with(call, r, options, result->n + 1, LARK_WORK_BYTES + 4099, want, result);
+    resolves_with(call, r, options, 65536, LARK_WORK_BYTES + 65536, want, result);
 }
 
 static inline void refuses(resolver *call, const struct bytes *r, uint32_t options, size_t out_length, size_t work_length, size_t number,

@@ -15,12 +15,13 @@ static void heading_with(const char *text, size_t n, uint32_t options, size_t ou
     take_back(out);
 }
 
-/* The section comes into ample output, and into output of just its length. */
+/* The section comes into ample output, and into output of just its length. 65,536 cut to 16 bits is 0. */
 static void gives(const char *text, size_t n, uint32_t options, const struct bytes *result) {
     size_t events = (result->n - 4) / 8;
     heading_with(text, n, options, LARK_OUT_BYTES, 0, 0, 1, events, result);
     heading_with(text, n, options, result->n, 0, 0, 1, events, result);
     heading_with(text, n, options, result->n + 1, 0, 0, 1, events, result);
+    heading_with(text, n, options, 65536, 0, 0, 1, events, result);
 }
 #define heading(text, options, result) gives(text, sizeof(text) - 1, options, section(result))
 
@@ -59,6 +60,15 @@ static void found(void) {
     heading("# \0\xc3\xa9", 59, "+11@0 +12@0 -12@1 +14@1 -14@2 +0@2 -0@5 -11@5");
 }
 
+/* One word to the end of the longest line. */
+static void longest_line(void) {
+    static char line[LARK_MAX_LINE];
+    memset(line, 'a', sizeof line);
+    memcpy(line, "# ", 2);
+    begin("a line of 16,384 bytes");
+    gives(line, sizeof line, 63, section("+11@0 +12@0 -12@1 +14@1 -14@2 +0@2 -0@16384 -11@16384"));
+}
+
 static void not_found(void) {
     begin("an empty line is none");
     no_heading("", 59);
@@ -79,19 +89,22 @@ static void not_found(void) {
 }
 
 static void refusals(void) {
-    static const uint32_t over[] = {64, 65, 128, 256, 65536, 0x80000000u, 0xffffffffu};
-    static char longer[20000];
+    static char longer[65536 + 3];
     size_t i;
+    int bit;
     memset(longer, ' ', sizeof longer);
     longer[0] = '#';
     begin("2: options over 63");
-    for (i = 0; i < sizeof over / sizeof *over; i++) refused("# a", 3, over[i], LARK_OUT_BYTES, 2, 0);
+    for (bit = 6; bit < 32; bit++) refused("# a", 3, (uint32_t)1 << bit, LARK_OUT_BYTES, 2, 0);
+    refused("# a", 3, 65, LARK_OUT_BYTES, 2, 0);
+    refused("# a", 3, 0xffffffffu, LARK_OUT_BYTES, 2, 0);
     begin("2 comes before 3 and 4");
     refused("\r", 1, 64, LARK_OUT_BYTES, 2, 0);
     refused(longer, 16385, 64, LARK_OUT_BYTES, 2, 0);
     begin("3: a line of 16,385 bytes");
     refused(longer, 16385, 63, LARK_OUT_BYTES, 3, 16384);
-    refused(longer, sizeof longer, 63, 0, 3, 16384);
+    refused(longer, 65536, 63, 0, 3, 16384);
+    refused(longer, 65536 + 3, 63, LARK_OUT_BYTES, 3, 16384);
     begin("3: also past a line feed, and before 4");
     longer[1] = '\n';
     longer[2] = '\r';
@@ -140,6 +153,7 @@ static void longest(void) {
 
 static void all(void) {
     found();
+    longest_line();
     not_found();
     refusals();
     longest();

@@ -1,9 +1,12 @@
 /* The three line readers that write nothing: lark_space_or_tab, lark_list_item and lark_continuation. Document 01's cases by line, every finding,
- * and numbers 2, 3 and 4.
+ * and numbers 2, 3 and 4. Numbers that are passed are tried at every power of two, so that one that is cut to fewer bits comes out as 0.
  */
 #include "check.h"
 
 #define LINE(text) text, sizeof(text) - 1
+
+enum { SIZE_BITS = 8 * sizeof(size_t) };
+#define POWER(bit) ((size_t)1 << (bit))
 
 static void spaces_with(const char *text, size_t n, uint32_t options, size_t min, size_t max, size_t number, size_t place, size_t found,
                         size_t taken) {
@@ -76,10 +79,17 @@ static void all_refuse(const char *text, size_t n, uint32_t options, size_t numb
     going_with(text, n, options, 2, 1, number, place, 0, 0, 0);
 }
 
+/* The longest line: all spaces but for what it ends with. */
+static const char *longest(const char *end) {
+    static char line[LARK_MAX_LINE];
+    memset(line, ' ', sizeof line);
+    memcpy(line + sizeof line - strlen(end), end, strlen(end));
+    return line;
+}
+
 static void space_or_tab(void) {
-    static char longest[16384];
     uint32_t options;
-    memset(longest, ' ', sizeof longest);
+    int bit;
     begin("space-or-tab: an empty line, none asked for");
     taken(LINE(""), 0, 3, 0);
     begin("space-or-tab: an empty line is too few for one");
@@ -106,14 +116,73 @@ static void space_or_tab(void) {
     begin("space-or-tab: the largest numbers");
     taken(LINE("   a"), 0, SIZE_MAX, 3);
     too_few(LINE("   a"), SIZE_MAX, SIZE_MAX);
+    begin("space-or-tab: every power of two from 4 on as minimum and as maximum, 65,536 and 2^32 among them");
+    for (bit = 2; bit < SIZE_BITS; bit++) {
+        too_few(LINE("   a"), POWER(bit), SIZE_MAX);
+        too_few(LINE("   a"), POWER(bit), 3);
+        too_few(LINE(""), POWER(bit), POWER(bit));
+        taken(LINE("   a"), 0, POWER(bit), 3);
+        taken(LINE("   a"), 3, POWER(bit), 3);
+        taken(LINE(""), 0, POWER(bit), 0);
+    }
     begin("space-or-tab: a line of 16,384 spaces");
-    taken(longest, sizeof longest, 16384, SIZE_MAX, 16384);
-    too_few(longest, sizeof longest, 16385, SIZE_MAX);
+    taken(longest(""), LARK_MAX_LINE, 16384, SIZE_MAX, 16384);
+    taken(longest(""), LARK_MAX_LINE, 0, 16383, 16383);
+    too_few(longest(""), LARK_MAX_LINE, 16385, SIZE_MAX);
     begin("space-or-tab: every options number");
     for (options = 0; options <= 63; options++) spaces_with(LINE("  a"), options, 0, 9, 0, 0, 1, 2);
 }
 
+/* What holds of a marker that may interrupt, whatever its mark: behind it stands nothing but blanks, or something. */
+static void every_rest(const char *marker) {
+    static const struct {
+        size_t indent; /* spaces before the marker */
+        const char *behind;
+        size_t taken, blank; /* the bytes taken behind the marker; whether nothing but blanks is there */
+    } rests[] = {
+        {0, "", 0, 1},   {0, " ", 0, 1},     {0, " \t      ", 0, 1}, {0, "\n", 0, 1},    {0, "  \na", 0, 1},  {3, "", 0, 1},    {2, "\t\t", 0, 1},
+        {0, " a", 1, 0}, {0, "\ta", 1, 0},   {0, "  a", 2, 0},       {0, " \t a", 3, 0}, {0, "    a", 4, 0},  {0, " a\n ", 1, 0}, {3, " a", 1, 0},
+        {0, "     a", 1, 0}, {0, "\t\t\t\t\ta", 1, 0}, {1, "    a", 4, 0}, {2, "     a", 1, 0},
+    };
+    static const char *const none[] = {"a", "\f", "\v a", "#"};
+    static char line[64];
+    size_t w = strlen(marker), i;
+    char mark = marker[w - 1];
+    for (i = 0; i < sizeof rests / sizeof *rests; i++) {
+        size_t end = rests[i].indent + w, size = end + (rests[i].blank ? 1 : rests[i].taken);
+        size_t n = (size_t)sprintf(line, "%*s%s%s", (int)rests[i].indent, "", marker, rests[i].behind);
+        item(line, n, 63, 0, end + rests[i].taken, size, rests[i].blank, mark);
+        if (rests[i].blank)
+            no_item(line, n, 63, 1);
+        else
+            item(line, n, 63, 1, end + rests[i].taken, size, 0, mark);
+    }
+    for (i = 0; i < sizeof none / sizeof *none; i++) no_item(line, (size_t)sprintf(line, "%s%s", marker, none[i]), 63, 0);
+    no_item(line, (size_t)sprintf(line, "    %s a", marker), 63, 0);
+    item(line, (size_t)sprintf(line, "    %s a", marker), 31, 0, 4 + w + 1, 4 + w + 1, 0, mark);
+}
+
 static void list_item(void) {
+    int bit;
+    begin("item: every mark, with every kind of rest");
+    every_rest("-");
+    every_rest("*");
+    every_rest("+");
+    every_rest("1.");
+    every_rest("1)");
+    begin("item: `1)` with nothing behind it is blank");
+    item(LINE("1)"), 59, 0, 2, 3, 1, ')');
+    item(LINE("1)  \n"), 59, 0, 2, 3, 1, ')');
+    begin("item: every digit, and what stands beside them in ASCII");
+    item(LINE("0. a"), 59, 0, 3, 3, 0, '.');
+    item(LINE("9) a"), 59, 0, 3, 3, 0, ')');
+    item(LINE("234567890) a"), 59, 0, 11, 11, 0, ')');
+    no_item(LINE("/. a"), 59, 0);
+    no_item(LINE(":. a"), 59, 0);
+    begin("item: on the longest line, the indentation being free");
+    item(longest("- a"), LARK_MAX_LINE, 31, 0, 16383, 16383, 0, '-');
+    item(longest("-"), LARK_MAX_LINE, 31, 0, 16384, 16385, 1, '-');
+    item(longest("123456789)"), LARK_MAX_LINE, 31, 0, 16384, 16385, 1, ')');
     begin("item: `- a`");
     item(LINE("- a"), 59, 0, 2, 2, 0, '-');
     begin("item: `* a` and `+ a`");
@@ -171,10 +240,8 @@ static void list_item(void) {
     begin("item: a bullet interrupting");
     item(LINE("- a"), 59, 1, 2, 2, 0, '-');
     begin("item: any value but 0 is interrupting");
-    no_item(LINE("2. a"), 59, 2);
-    no_item(LINE("2. a"), 59, 256);
-    no_item(LINE("2. a"), 59, 0x80000000u);
-    no_item(LINE("2. a"), 59, 0xffffffffu);
+    for (bit = 0; bit < 32; bit++) no_item(LINE("2. a"), 59, (uint32_t)1 << bit);
+    no_item(LINE("2) a"), 59, 0xffffffffu);
     begin("item: an empty line is none");
     no_item(LINE(""), 59, 0);
     no_item(LINE("\n- a"), 59, 0);
@@ -183,6 +250,7 @@ static void list_item(void) {
 }
 
 static void continuation(void) {
+    int bit;
     begin("continuation: a filled line with size of spaces");
     goes(LINE("  a"), 2, 0, 2, 0);
     begin("continuation: more spaces stay");
@@ -207,9 +275,7 @@ static void continuation(void) {
     stops(LINE("   "), 2, 1, 1);
     stops(LINE("\na"), 2, 1, 1);
     begin("continuation: any value but 0 is a flag, and comes back as 1");
-    stops(LINE(""), 2, 2, 1);
-    stops(LINE(""), 2, 256, 1);
-    stops(LINE(""), 2, 0x80000000u, 1);
+    for (bit = 0; bit < 32; bit++) stops(LINE(""), 2, (uint32_t)1 << bit, 1);
     stops(LINE(""), 2, 0xffffffffu, 1);
     begin("continuation: size 0 still asks for a space or tab");
     stops(LINE("a"), 0, 0, 0);
@@ -217,23 +283,38 @@ static void continuation(void) {
     begin("continuation: the largest size");
     stops(LINE("   a"), SIZE_MAX, 0, 0);
     goes(LINE("   "), SIZE_MAX, 0, 3, 0);
+    begin("continuation: every power of two from 4 on as size, 65,536 and 2^32 among them");
+    for (bit = 2; bit < SIZE_BITS; bit++) {
+        stops(LINE("   a"), POWER(bit), 0, 0);
+        goes(LINE("   "), POWER(bit), 0, 3, 0);
+        goes(LINE(""), POWER(bit), 0, 0, 0);
+        stops(LINE(""), POWER(bit), 1, 1);
+    }
+    begin("continuation: the longest line");
+    goes(longest("a"), LARK_MAX_LINE, 16383, 0, 16383, 0);
+    stops(longest("a"), LARK_MAX_LINE, 16384, 0, 0);
+    goes(longest(""), LARK_MAX_LINE, 16384, 0, 16384, 0);
+    goes(longest(""), LARK_MAX_LINE, 300, 0, 300, 0);
     begin("continuation: no option need be on");
     going_with(LINE("  a"), 0, 2, 0, 0, 0, 1, 2, 0);
 }
 
 static void refusals(void) {
-    static const uint32_t over[] = {64, 65, 128, 256, 65536, 0x80000000u, 0xffffffffu};
-    static char longer[20000];
-    size_t i;
+    static char longer[65536 + 16384];
+    int bit;
     memset(longer, ' ', sizeof longer);
     begin("2: options over 63");
-    for (i = 0; i < sizeof over / sizeof *over; i++) all_refuse(LINE("- a"), over[i], 2, 0);
+    for (bit = 6; bit < 32; bit++) all_refuse(LINE("- a"), (uint32_t)1 << bit, 2, 0);
+    all_refuse(LINE("- a"), 65, 2, 0);
+    all_refuse(LINE("- a"), 0xffffffffu, 2, 0);
     begin("2 comes before 3 and 4");
     all_refuse(LINE("\r"), 64, 2, 0);
     all_refuse(longer, 16385, 64, 2, 0);
     begin("3: a line of 16,385 bytes");
     all_refuse(longer, 16385, 63, 3, 16384);
-    begin("3: a line of 20,000 bytes");
+    begin("3: a line of 65,536 bytes, and of more");
+    all_refuse(longer, 65536, 63, 3, 16384);
+    all_refuse(longer, 65536 + 3, 63, 3, 16384);
     all_refuse(longer, sizeof longer, 63, 3, 16384);
     begin("3: also past a line feed");
     longer[0] = '\n';

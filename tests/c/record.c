@@ -110,10 +110,12 @@ static void number_1(void) {
 }
 
 static void number_2(void) {
-    static const uint32_t over[] = {64, 65, 127, 128, 256, 65536, 0x80000000u, 0xffffffffu};
-    size_t i;
-    begin("2: options over 63");
-    for (i = 0; i < sizeof over / sizeof *over; i++) all_refuse_with(record("ab", "+0@0 -0@2"), over[i], LARK_WORK_BYTES, 2, 0);
+    int bit;
+    begin("2: options over 63, each further bit by itself");
+    for (bit = 6; bit < 32; bit++) all_refuse_with(record("ab", "+0@0 -0@2"), (uint32_t)1 << bit, LARK_WORK_BYTES, 2, 0);
+    begin("2: options over 63, several bits");
+    all_refuse_with(record("ab", "+0@0 -0@2"), 65, LARK_WORK_BYTES, 2, 0);
+    all_refuse_with(record("ab", "+0@0 -0@2"), 0xffffffffu, LARK_WORK_BYTES, 2, 0);
     begin("2 comes before 3");
     all_refuse_with(RAW("\1"), 64, LARK_WORK_BYTES, 2, 0);
     begin("2 comes before 4 and 5");
@@ -157,6 +159,14 @@ static void number_3(void) {
     all_refuse(RAW("\0\0\0\0\0\0\0\0\0"), 3, 8);
     begin("3: bytes follow the last event");
     all_refuse(RAW("\1\0\0\0a\2\0\0\0\0\0\0\0\0\0\0\0\1\0\0\0\0\0\0\0ab"), 3, 25);
+    begin("3: 65,536 bytes follow");
+    raw("\0\0\0\0\0\0\0\0", 8);
+    put_many(&record_bytes, 0, 65536);
+    all_refuse(&record_bytes, 3, 8);
+    begin("3: a byte follows the longest record");
+    large(16384, 1024);
+    put_many(&record_bytes, 0, 1);
+    all_refuse(&record_bytes, 3, 32776);
     begin("3 comes before 4, also at a later place");
     all_refuse(RAW("\1\0\0\0\r"), 3, 5);
     all_refuse(RAW("\1\0\0\0\r\0\0\0\0\0"), 3, 9);
@@ -210,6 +220,14 @@ static void number_5(void) {
     all_refuse(deep(64, 0), 5, 8 + 8 * 64);
     begin("5: an event left open under one that was closed");
     all_refuse(record("ab", "+24@0 +0@0 -0@1"), 5, 34);
+    begin("5: an event left open at the end of the longest record");
+    large(16384, 1024);
+    record_bytes.at[32776 - 8] = LARK_ENTER;
+    all_refuse(&record_bytes, 5, 32776);
+    begin("5: the last event of the longest record");
+    large(16384, 1024);
+    record_bytes.at[32776 - 7] = LARK_NAME_SPACE_OR_TAB;
+    all_refuse(&record_bytes, 5, 32768);
     begin("5: the earliest of several");
     all_refuse(record("ab", "+0@0 -0@1 -0@1 +25@1 +0@9"), 5, 26);
     begin("5 comes before the shape of runs, headings and items");
