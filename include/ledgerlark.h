@@ -1,7 +1,7 @@
 /* Ledgerlark: Markdown resolved over records of events.
  *
  * Eight calls, all there is to the library. It allocates nothing, keeps nothing between calls and calls nothing of yours. Everything it
- * reads and writes is lent to it for the time of one call. For C99 and C++.
+ * reads and writes is lent to it for the time of one call. For C99 and C++, where no call throws.
  *
  *     lark_read               is this a good record?
  *     lark_resolve_attention  `*`, `_` and `~` runs become emphasis, strong and strikethrough
@@ -23,9 +23,19 @@
  * and events. Event i of a section stands at 4 + 8 * i; event i of a record at 8 + D + 8 * i.
  *
  * YOU BRING THE EVENTS. The library has no tokenizer: where the runs, headings and items of a document are comes from you, in part by the line
- * readers. To hand a section on to another resolver, put the document before it again (count D, D bytes): that is a record. A resolver may
- * write more events than a record may have, and deeper ones, attention most of all; such a record is refused with 3 or 5. So attention comes
- * last.
+ * readers. A record is begun with its document, in a buffer of yours, and gets its events one by one:
+ *
+ *     struct lark_record r = lark_begin_record(buffer, sizeof buffer, text, length);
+ *     lark_add_event(&r, LARK_ENTER, LARK_NAME_DATA, 0);
+ *     lark_add_event(&r, LARK_EXIT, LARK_NAME_DATA, length);
+ *     struct lark_reading answer = lark_read(r.bytes, r.length, options, work, sizeof work);
+ *
+ * Its counts are right at every step. What does not fit the buffer is not written, and leaves the length 0 for good; every call refuses that
+ * with 3, so nothing need be asked in between. LARK_RECORD_BYTES are enough for every good record. What a call has written is read with
+ * lark_event_at(out, i), for each i under the answer's `events`.
+ *
+ * To hand a section on to another resolver, begin a record with the same document and add each event of the section. A resolver may write more
+ * events than a record may have, and deeper ones, attention most of all; such a record is refused with 3 or 5. So attention comes last.
  *
  * A LINE is bytes from where reading starts. It ends before its first line feed, or where the bytes end.
  *
@@ -35,7 +45,8 @@
  * empty slice. NULL with another length is not allowed, nor is a length that passes the end of your memory: the library cannot see either.
  *
  * MEMORY. The resolvers and lark_read need LARK_WORK_BYTES of work memory; what it holds before does not matter. LARK_OUT_BYTES of output
- * are enough for every call; less is enough wherever the section fits.
+ * are enough for every call; less is enough wherever the section fits. Every call wipes all the work memory that it is lent, however much, and
+ * takes time for it: more than LARK_WORK_BYTES gains nothing. More output costs nothing.
  *
  * ANSWERS. An answer is a struct by value. `number` is 0 if the call was accepted. Otherwise it is one of LARK_REFUSED_.., `place` says
  * where, and all other fields are 0. If several refusals apply, the lowest number is given, and for 3, 4 and 5 its earliest place. Places are
@@ -47,12 +58,38 @@
  * WHAT IS LEFT OF A MESSAGE. After every call, accepted or refused, all of the work memory is zero. After a refusal or a finding the output
  * is as it was. After acceptance the section stands at its start, and every byte past the section is as it was. What is answered and written
  * depends on the bytes read, the options, the other arguments and the lengths alone, never on what the output or the work memory held.
+ *
+ *
+ * THREADS AND SIGNALS. There is no state, so any number of threads may call at once, and a signal handler may call while a call stands still.
+ * Each call needs an output and a work memory of its own; what is only read may be shared. A call that is never gone on with (longjmp out of a
+ * handler, a thread that is killed) may leave its work memory unwiped.
+ *
+ * STACK. Under 2 KiB: at most 1,576 bytes were measured, for lark_resolve_attention, the caller's frame and memset's included. Where memset is
+ * bound lazily its very first call takes some KiB more, for the dynamic linker; -Wl,-z,now avoids that. docs/PERFORMANCE.md has every call.
+ *
+ * PLATFORM. The archive is for x86-64, with the calling convention of System V, in ELF: Linux. Its code is position independent and can be part
+ * of a shared library. It needs `memset` and nothing else of a C library.
+ *
+ * VERSIONS. The middle number goes up with every change of a call, a struct, a limit or an answer, the last with what changes none of these: within
+ * one middle number the same input gets the same answer. Structs are returned by value, so a field more in one of them changes how its call is
+ * made (the ABI), and no linker sees that. Header, archive and binding belong together: compile anew wherever the middle number has changed. The
+ * archive cannot be asked for its version; the pkg-config file that is installed with it has it.
  */
 #ifndef LEDGERLARK_H
 #define LEDGERLARK_H
 
 #include <stddef.h>
 #include <stdint.h>
+#include <string.h>
+
+/* No call and no function here throws: in C++ they say so. */
+#ifndef __cplusplus
+#define LARK_NOEXCEPT
+#elif __cplusplus >= 201103L
+#define LARK_NOEXCEPT noexcept
+#else
+#define LARK_NOEXCEPT throw()
+#endif
 
 #ifdef __cplusplus
 extern "C" {
@@ -130,27 +167,92 @@ extern "C" {
 #define LARK_REFUSED_OUTPUT 8  /* the output is shorter than the section. Place 0 */
 
 /* A refusal in words. Any number may be asked for. */
-static inline const char *lark_refusal_text(size_t number) {
+static inline const char *lark_refusal_text(size_t number) LARK_NOEXCEPT {
     switch (number) {
     case LARK_ACCEPTED: return "accepted";
-    case LARK_REFUSED_WORK: return "less than 65,536 bytes of work memory were lent";
+    case LARK_REFUSED_WORK: return "the work memory is under 65,536 bytes";
     case LARK_REFUSED_OPTIONS: return "the options are over 63";
-    case LARK_REFUSED_COUNT: return "a count does not fit its record, bytes follow the record, or the line is over 16,384 bytes";
-    case LARK_REFUSED_RETURN: return "there is a carriage return in the document or line";
-    case LARK_REFUSED_EVENT: return "an event is not sound, or events are left open";
-    case LARK_REFUSED_SHAPE: return "a run, heading or list item does not have the shape that its resolver asks for";
-    case LARK_REFUSED_RESULT: return "the result would have over 8,000 events";
+    case LARK_REFUSED_COUNT: return "a length does not fit";
+    case LARK_REFUSED_RETURN: return "a carriage return";
+    case LARK_REFUSED_EVENT: return "an event is not sound";
+    case LARK_REFUSED_SHAPE: return "not the shape that the resolver asks for";
+    case LARK_REFUSED_RESULT: return "the result is over 8,000 events";
     case LARK_REFUSED_OUTPUT: return "the output is too short for the result";
     default: return "no such refusal";
     }
 }
 
 /* The number that stands in four bytes, least byte first: a count, or an event's place, which stands 4 bytes into the event. */
-static inline size_t lark_number_at(const uint8_t *bytes) {
+static inline size_t lark_number_at(const uint8_t *bytes) LARK_NOEXCEPT {
     size_t number = 0;
     int i;
     for (i = 3; i >= 0; i--) number = number << 8 | bytes[i];
     return number;
+}
+
+/* Puts a number into four bytes. One that is over 4,294,967,295 is put as that, which no call takes for a count or a place. */
+static inline void lark_put_number(uint8_t *bytes, size_t number) LARK_NOEXCEPT {
+    int i;
+    if (number > 0xffffffffu) number = 0xffffffffu;
+    for (i = 0; i < 4; i++) bytes[i] = (number >> (8 * i)) & 255;
+}
+
+/* An event, its fields apart. */
+struct lark_event {
+    size_t kind;  /* LARK_ENTER or LARK_EXIT */
+    size_t name;  /* one of LARK_NAME_.. */
+    size_t place; /* an offset in the document, or in the line for lark_heading */
+};
+
+/* Event `i` of a section that a call has written; `i` has to be under the `events` of its answer. The section of a record that lark_read has
+ * accepted begins at record + 4 + answer.document. */
+static inline struct lark_event lark_event_at(const uint8_t *section, size_t i) LARK_NOEXCEPT {
+    const uint8_t *bytes = section + 4 + 8 * i;
+    struct lark_event event;
+    event.kind = bytes[0];
+    event.name = bytes[1];
+    event.place = lark_number_at(bytes + 4);
+    return event;
+}
+
+/* A record that is put together in a buffer. Begin it with lark_begin_record, and lend `bytes` and `length` to a call. */
+struct lark_record {
+    uint8_t *bytes;  /* the buffer */
+    size_t length;   /* bytes of the record, or 0: something did not fit */
+    size_t room;     /* bytes of the buffer */
+    size_t document; /* bytes of the document */
+};
+
+/* A record of a document and no events yet, if the buffer has room for it. The document may lie in the buffer. */
+static inline struct lark_record lark_begin_record(uint8_t *bytes, size_t room, const void *document, size_t document_length) LARK_NOEXCEPT {
+    struct lark_record record;
+    record.bytes = bytes;
+    record.length = 0;
+    record.room = room;
+    record.document = document_length;
+    if (room < 8 || room - 8 < document_length) return record;
+    if (document_length) memmove(bytes + 4, document, document_length);
+    lark_put_number(bytes, document_length);
+    lark_put_number(bytes + 4 + document_length, 0);
+    record.length = 8 + document_length;
+    return record;
+}
+
+/* Adds an event to a record, and counts it, if the buffer has room for it and all before did fit. A kind or name over 255 is put as 255, which no
+ * call takes. */
+static inline void lark_add_event(struct lark_record *record, size_t kind, size_t name, size_t place) LARK_NOEXCEPT {
+    uint8_t *event;
+    if (record->length == 0 || record->room - record->length < 8) {
+        record->length = 0;
+        return;
+    }
+    event = record->bytes + record->length;
+    event[0] = kind > 255 ? 255 : kind & 255;
+    event[1] = name > 255 ? 255 : name & 255;
+    event[2] = event[3] = 0;
+    lark_put_number(event + 4, place);
+    record->length += 8;
+    lark_put_number(record->bytes + 4 + record->document, (record->length - 8 - record->document) / 8);
 }
 
 /* The answer of lark_read. */
@@ -209,7 +311,7 @@ struct lark_headed {
 /* Whether a record is good, and how large its parts are.
  *
  * Reads the record. Writes nothing but zeros, over all of the work memory. Refuses with 1 to 5. */
-struct lark_reading lark_read(const uint8_t *record, size_t record_length, uint32_t options, uint8_t *work, size_t work_length);
+struct lark_reading lark_read(const uint8_t *record, size_t record_length, uint32_t options, uint8_t *work, size_t work_length) LARK_NOEXCEPT;
 
 /* Each run of `*`, `_` or `~` (a pair of name 1) becomes what it opens and closes; what is left of a run becomes Data.
  *
@@ -221,7 +323,7 @@ struct lark_reading lark_read(const uint8_t *record, size_t record_length, uint3
  * Refuses with 1 to 5 as lark_read does, with 7 and 8, and with 6 unless each run is entered and at once left, at a later place; has one byte
  * all through, `*`, `_` or `~`; is not followed by that byte; and has its option on: 1 for `*` and `_`, 2 for `~`. */
 struct lark_resolved lark_resolve_attention(const uint8_t *record, size_t record_length, uint32_t options, uint8_t *out, size_t out_length,
-                                            uint8_t *work, size_t work_length);
+                                            uint8_t *work, size_t work_length) LARK_NOEXCEPT;
 
 /* In each heading (name 11) a text (13) goes from the first Data to the last; one Data pair is left in it. A heading without Data stays.
  *
@@ -234,7 +336,7 @@ struct lark_resolved lark_resolve_attention(const uint8_t *record, size_t record
  * Refuses with 1 to 5 as lark_read does, with 8, and with 6 unless each heading holds only pairs of 0, 12 and 14 with nothing in them, and
  * begins with at most one 14 and then a 12. Number 7 is not given: no record has a result as long. */
 struct lark_resolved lark_resolve_headings(const uint8_t *record, size_t record_length, uint32_t options, uint8_t *out, size_t out_length,
-                                           uint8_t *work, size_t work_length);
+                                           uint8_t *work, size_t work_length) LARK_NOEXCEPT;
 
 /* A list goes round neighbouring items (name 15) of one mark: ordered (19) for `.` and `)`, else unordered (20). Items neighbour each other
  * when only whole 14, 21, 22 and 23 that hold no item stand between them.
@@ -249,20 +351,20 @@ struct lark_resolved lark_resolve_headings(const uint8_t *record, size_t record_
  * 18, then a 17 over one byte of `*+-.)`, then at most one 14, these pairs having nothing in them; and unless some event stands between an
  * item's exit and the next item's enter. Number 7 is not given: no record has a result as long. */
 struct lark_resolved lark_resolve_lists(const uint8_t *record, size_t record_length, uint32_t options, uint8_t *out, size_t out_length,
-                                        uint8_t *work, size_t work_length);
+                                        uint8_t *work, size_t work_length) LARK_NOEXCEPT;
 
 /* The spaces and tabs that a line begins with, at most `max` of them. Fewer than `min` is the finding "too few", also where `min` is more than
  * `max`. Any `min` and `max` will do: 0 and SIZE_MAX set no bound. A tab counts as one byte.
  *
  * Reads the line. Writes nothing. Refuses with 2, 3 and 4. */
-struct lark_spaces lark_space_or_tab(const uint8_t *line, size_t line_length, uint32_t options, size_t min, size_t max);
+struct lark_spaces lark_space_or_tab(const uint8_t *line, size_t line_length, uint32_t options, size_t min, size_t max) LARK_NOEXCEPT;
 
 /* Whether a list item starts on a line, with option 16 on: `*`, `+`, `-`, or 1 to 9 digits and `.` or `)`, then a space, a tab or the end. A
  * thematic break, as `- - -` or `***`, is no item. `interrupting` (0, or any other value for yes) says that the line would interrupt a
  * paragraph: then a number must be exactly `1`, and something must follow the marker.
  *
  * Reads the line. Writes nothing. Refuses with 2, 3 and 4. */
-struct lark_item lark_list_item(const uint8_t *line, size_t line_length, uint32_t options, uint32_t interrupting);
+struct lark_item lark_list_item(const uint8_t *line, size_t line_length, uint32_t options, uint32_t interrupting) LARK_NOEXCEPT;
 
 /* Whether a line goes on with a list item. `size`, `blank` and `mark` are the item's, from lark_list_item, and `blank` from then on from the
  * call for the line before. A blank line goes on unless `blank` is set, and up to `size` of its spaces and tabs are taken. Any other line clears
@@ -272,7 +374,8 @@ struct lark_item lark_list_item(const uint8_t *line, size_t line_length, uint32_
  * on it. No option need be on.
  *
  * Reads the line. Writes nothing. Refuses with 2, 3 and 4. */
-struct lark_going lark_continuation(const uint8_t *line, size_t line_length, uint32_t options, size_t size, uint32_t blank, uint32_t mark);
+struct lark_going lark_continuation(const uint8_t *line, size_t line_length, uint32_t options, size_t size, uint32_t blank,
+                                    uint32_t mark) LARK_NOEXCEPT;
 
 /* Whether a line is a heading, with option 8 on: 1 to 6 `#`, then a space, a tab or the end. Its events go from enter to exit of 11, with
  * places in the line, and are not yet resolved: spaces and tabs (14), `#` runs behind a break (12), and Data between.
@@ -280,7 +383,7 @@ struct lark_going lark_continuation(const uint8_t *line, size_t line_length, uin
  *     `# a b`  +11@0 +12@0 -12@1 +14@1 -14@2 +0@2 -0@3 +14@3 -14@4 +0@4 -0@5 -11@5
  *
  * Reads the line. Writes the section to the output. Refuses with 2, 3 and 4, and for a heading with 7 and 8. */
-struct lark_headed lark_heading(const uint8_t *line, size_t line_length, uint32_t options, uint8_t *out, size_t out_length);
+struct lark_headed lark_heading(const uint8_t *line, size_t line_length, uint32_t options, uint8_t *out, size_t out_length) LARK_NOEXCEPT;
 
 #ifdef __cplusplus
 }
