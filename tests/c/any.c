@@ -20,14 +20,12 @@ static int once_in(uint32_t n) { return below(n) == 0; }
 
 /* --- records --- */
 
-static struct bytes text, events;
+static struct bytes text;
+static struct lark_record made;
 static unsigned open_names[80];
-static size_t count, depth;
+static size_t depth;
 
-static void event(unsigned kind, unsigned name, size_t place) {
-    put_event(&events, kind, name, place);
-    count++;
-}
+static void event(unsigned kind, unsigned name, size_t place) { lark_add_event(&made, kind, name, place); }
 static void pair(unsigned name, size_t from, size_t to) {
     event(LARK_ENTER, name, from);
     event(LARK_EXIT, name, to);
@@ -41,9 +39,10 @@ static void enter(unsigned name, size_t place) {
 static void make_record(void) {
     static const char letters[] = "**__~~ab .-\n#";
     size_t i, n = below(40), at = 0;
-    text.n = events.n = count = depth = 0;
+    text.n = depth = 0;
     for (i = 0; i < n; i++) put_many(&text, (uint8_t)letters[below(sizeof letters - 1)], 1);
     if (n && once_in(16)) text.at[below((uint32_t)n)] = '\r';
+    made = lark_begin_record(record_bytes.at, sizeof record_bytes.at, text.at, text.n);
     while (at < n) {
         uint8_t byte = text.at[at];
         size_t end = at + 1;
@@ -69,10 +68,7 @@ static void make_record(void) {
         if (depth && once_in(6)) event(LARK_EXIT, open_names[--depth], at);
     }
     while (depth) event(LARK_EXIT, open_names[--depth], n);
-    record_bytes.n = 0;
-    put_document(&record_bytes, (const char *)text.at, text.n);
-    put_number(&record_bytes, (uint32_t)count);
-    put(&record_bytes, events.at, events.n);
+    record_bytes.n = made.length;
 }
 
 /* Something of it is broken: a byte changed, the end cut off, or bytes added. */

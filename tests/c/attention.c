@@ -134,7 +134,7 @@ static void number_6(void) {
 /* `n` markers, `a`, `n` markers, as two runs and nothing else. */
 static const struct bytes *twice(size_t n) {
     record_bytes.n = 0;
-    put_number(&record_bytes, (uint32_t)(2 * n + 1));
+    put_number(&record_bytes, 2 * n + 1);
     put_many(&record_bytes, '*', n);
     put_many(&record_bytes, 'a', 1);
     put_many(&record_bytes, '*', n);

@@ -144,42 +144,39 @@ static inline void put_many(struct bytes *b, uint8_t byte, size_t n) {
     while (n--) put(b, &byte, 1);
 }
 
-static inline void put_number(struct bytes *b, uint32_t x) {
-    int i;
-    for (i = 0; i < 4; i++) put_many(b, (uint8_t)(x >> (8 * i) & 255), 1);
+static inline void put_number(struct bytes *b, size_t number) {
+    uint8_t four[4];
+    lark_put_number(four, number);
+    put(b, four, sizeof four);
 }
 
+/* An event of a section, or of a record that no lark_begin_record would make. */
 static inline void put_event(struct bytes *b, unsigned kind, unsigned name, size_t place) {
     put_many(b, (uint8_t)kind, 1);
     put_many(b, (uint8_t)name, 1);
     put_many(b, 0, 2);
-    put_number(b, (uint32_t)place);
+    put_number(b, place);
 }
 
-/* Count and events, written as document 01 writes them: `+1@0 -1@1`. */
-static inline void put_events(struct bytes *b, const char *events) {
-    uint32_t count = 0;
-    const char *c;
-    for (c = events; *c; c++) count += *c == '@';
-    put_number(b, count);
-    for (c = events; *c;) {
-        char sign = *c, *end;
-        unsigned long name, place;
-        name = strtoul(c + 1, &end, 10);
-        if ((sign != '+' && sign != '-') || *end != '@') break;
-        place = strtoul(end + 1, &end, 10);
-        put_event(b, sign == '-', (unsigned)name, place);
-        for (c = end; *c == ' ';) c++;
-        count--;
-    }
-    if (*c || count) {
-        printf("FAIL: %s: these are no events: %s\n", case_name, events);
+/* The next of events that are written as document 01 writes them: `+1@0 -1@1`. */
+static inline int next_event(const char **text, struct lark_event *event) {
+    const char *c = *text;
+    char *end;
+    if (*c == 0) return 0;
+    event->kind = *c == '-';
+    event->name = strtoul(c + 1, &end, 10);
+    if ((*c != '+' && *c != '-') || end == c + 1 || *end != '@') {
+        printf("FAIL: %s: these are no events: %s\n", case_name, c);
         exit(1);
     }
+    event->place = strtoul(end + 1, &end, 10);
+    while (*end == ' ') end++;
+    *text = end;
+    return 1;
 }
 
 static inline void put_document(struct bytes *b, const char *text, size_t n) {
-    put_number(b, (uint32_t)n);
+    put_number(b, n);
     put(b, text, n);
 }
 
@@ -187,15 +184,19 @@ static inline void put_document(struct bytes *b, const char *text, size_t n) {
 static struct bytes record_bytes, section_bytes;
 
 static inline const struct bytes *record(const char *text, const char *events) {
-    record_bytes.n = 0;
-    put_document(&record_bytes, text, strlen(text));
-    put_events(&record_bytes, events);
+    struct lark_record r = lark_begin_record(record_bytes.at, sizeof record_bytes.at, text, strlen(text));
+    struct lark_event event;
+    while (next_event(&events, &event)) lark_add_event(&r, event.kind, event.name, event.place);
+    record_bytes.n = r.length;
     return &record_bytes;
 }
 
 static inline const struct bytes *section(const char *events) {
+    struct lark_event event;
     section_bytes.n = 0;
-    put_events(&section_bytes, events);
+    put_number(&section_bytes, 0);
+    while (next_event(&events, &event)) put_event(&section_bytes, (unsigned)event.kind, (unsigned)event.name, event.place);
+    lark_put_number(section_bytes.at, (section_bytes.n - 4) / 8);
     return &section_bytes;
 }
 

@@ -45,26 +45,23 @@ static const struct bytes *one_event(unsigned kind, unsigned name, unsigned zero
 
 /* A document of `d` letters, and `pairs` empty pairs of Data at its end. */
 static const struct bytes *large(size_t d, size_t pairs) {
+    static char letters[LARK_MAX_DOCUMENT + 1];
+    struct lark_record r;
     size_t i;
-    record_bytes.n = 0;
-    put_number(&record_bytes, (uint32_t)d);
-    put_many(&record_bytes, 'a', d);
-    put_number(&record_bytes, (uint32_t)(2 * pairs));
-    for (i = 0; i < pairs; i++) {
-        put_event(&record_bytes, LARK_ENTER, LARK_NAME_DATA, d);
-        put_event(&record_bytes, LARK_EXIT, LARK_NAME_DATA, d);
-    }
+    memset(letters, 'a', sizeof letters);
+    r = lark_begin_record(record_bytes.at, sizeof record_bytes.at, letters, d);
+    for (i = 0; i < 2 * pairs; i++) lark_add_event(&r, i % 2 ? LARK_EXIT : LARK_ENTER, LARK_NAME_DATA, d);
+    record_bytes.n = r.length;
     return &record_bytes;
 }
 
 /* `enters` containers that are entered and then `exits` that are left, at place 0 of an empty document. */
 static const struct bytes *deep(size_t enters, size_t exits) {
+    struct lark_record r = lark_begin_record(record_bytes.at, sizeof record_bytes.at, NULL, 0);
     size_t i;
-    record_bytes.n = 0;
-    put_number(&record_bytes, 0);
-    put_number(&record_bytes, (uint32_t)(enters + exits));
-    for (i = 0; i < enters; i++) put_event(&record_bytes, LARK_ENTER, LARK_NAME_OTHER_CONTAINER, 0);
-    for (i = 0; i < exits; i++) put_event(&record_bytes, LARK_EXIT, LARK_NAME_OTHER_CONTAINER, 0);
+    for (i = 0; i < enters; i++) lark_add_event(&r, LARK_ENTER, LARK_NAME_OTHER_CONTAINER, 0);
+    for (i = 0; i < exits; i++) lark_add_event(&r, LARK_EXIT, LARK_NAME_OTHER_CONTAINER, 0);
+    record_bytes.n = r.length;
     return &record_bytes;
 }
 
