@@ -2,20 +2,23 @@
 #include <ledgerlark.h>
 #include <stdio.h>
 
-static const uint8_t record[] = {
-    3, 0, 0, 0, '*', 'a', '*', 6, 0, 0, 0,          /* a document of three bytes, and six events: */
-    0, 1, 0, 0, 0, 0, 0, 0, 1, 1, 0, 0, 1, 0, 0, 0, /* a run from 0 to 1 */
-    0, 0, 0, 0, 1, 0, 0, 0, 1, 0, 0, 0, 2, 0, 0, 0, /* data from 1 to 2 */
-    0, 1, 0, 0, 2, 0, 0, 0, 1, 1, 0, 0, 3, 0, 0, 0, /* a run from 2 to 3 */
-};
-static uint8_t out[LARK_OUT_BYTES], work[LARK_WORK_BYTES];
+static uint8_t bytes[LARK_RECORD_BYTES], out[LARK_OUT_BYTES], work[LARK_WORK_BYTES];
 
 int main(void) {
-    struct lark_resolved r = lark_resolve_attention(record, sizeof record, LARK_OPTION_ATTENTION, out, sizeof out, work, sizeof work);
+    /* the document, then its events: a run from 0 to 1, data from 1 to 2, a run from 2 to 3 */
+    struct lark_record record = lark_begin_record(bytes, sizeof bytes, "*a*", 3);
+    lark_add_event(&record, LARK_ENTER, LARK_NAME_ATTENTION_SEQUENCE, 0);
+    lark_add_event(&record, LARK_EXIT, LARK_NAME_ATTENTION_SEQUENCE, 1);
+    lark_add_event(&record, LARK_ENTER, LARK_NAME_DATA, 1);
+    lark_add_event(&record, LARK_EXIT, LARK_NAME_DATA, 2);
+    lark_add_event(&record, LARK_ENTER, LARK_NAME_ATTENTION_SEQUENCE, 2);
+    lark_add_event(&record, LARK_EXIT, LARK_NAME_ATTENTION_SEQUENCE, 3);
+
+    struct lark_resolved r = lark_resolve_attention(record.bytes, record.length, LARK_OPTION_ATTENTION, out, sizeof out, work, sizeof work);
     printf("%s, groups %zu, events %zu:", lark_refusal_text(r.number), r.groups, r.events);
     for (size_t i = 0; i < r.events; i++) {
-        const uint8_t *event = out + 4 + 8 * i;
-        printf(" %c%d@%zu", event[0] == LARK_ENTER ? '+' : '-', event[1], lark_number_at(event + 4));
+        struct lark_event event = lark_event_at(out, i);
+        printf(" %c%zu@%zu", event.kind == LARK_ENTER ? '+' : '-', event.name, event.place);
     }
     printf("\n");
     return r.number != LARK_ACCEPTED;
