@@ -2,7 +2,8 @@
 #
 #     make            the archive: target/staticlib/libledgerlark.a
 #     make check      the tests in C, C++ and Rust, and those of the program
-#     make install    archive, header and pkg-config file, to DESTDIR and PREFIX
+#     make install    archive, header, pkg-config file, LICENSE and NOTICE, to DESTDIR and PREFIX
+#     make uninstall  takes these five away again
 #     make bench      the measurements
 #     make oracle     the runs against the Rust crate
 #     make clean      all that was built goes, the proofs' results too
@@ -13,6 +14,7 @@ PREFIX ?= /usr/local
 DESTDIR ?=
 LIBDIR ?= $(PREFIX)/lib
 INCLUDEDIR ?= $(PREFIX)/include
+DOCDIR ?= $(PREFIX)/share/doc/ledgerlark
 
 VERSION := $(shell sed -n 's/^.define LARK_VERSION "\(.*\)"$$/\1/p' include/ledgerlark.h)
 
@@ -28,7 +30,7 @@ $(ARCHIVE): $(SOURCES)
 	@touch $@
 endif
 
-.PHONY: all check install bench oracle clean
+.PHONY: all check install uninstall bench oracle clean
 .DEFAULT_GOAL := all
 
 all: $(ARCHIVE)
@@ -38,12 +40,19 @@ check: $(ARCHIVE)
 	tests/lark
 
 install: $(ARCHIVE)
-	install -d '$(DESTDIR)$(LIBDIR)/pkgconfig' '$(DESTDIR)$(INCLUDEDIR)'
+	install -d '$(DESTDIR)$(LIBDIR)/pkgconfig' '$(DESTDIR)$(INCLUDEDIR)' '$(DESTDIR)$(DOCDIR)'
 	install -m 644 '$(ARCHIVE)' '$(DESTDIR)$(LIBDIR)/libledgerlark.a'
 	install -m 644 include/ledgerlark.h '$(DESTDIR)$(INCLUDEDIR)/ledgerlark.h'
 	sed -e 's|@PREFIX@|$(PREFIX)|' -e 's|@LIBDIR@|$(LIBDIR)|' -e 's|@INCLUDEDIR@|$(INCLUDEDIR)|' -e 's|@VERSION@|$(VERSION)|' ledgerlark.pc.in \
 	    > '$(DESTDIR)$(LIBDIR)/pkgconfig/ledgerlark.pc'
 	chmod 644 '$(DESTDIR)$(LIBDIR)/pkgconfig/ledgerlark.pc'
+	install -m 644 LICENSE NOTICE '$(DESTDIR)$(DOCDIR)'
+
+# Folders stay, since others may use them, but for the one that is ours alone: that goes if it is empty.
+uninstall:
+	rm -f '$(DESTDIR)$(LIBDIR)/libledgerlark.a' '$(DESTDIR)$(INCLUDEDIR)/ledgerlark.h' '$(DESTDIR)$(LIBDIR)/pkgconfig/ledgerlark.pc' \
+	    '$(DESTDIR)$(DOCDIR)/LICENSE' '$(DESTDIR)$(DOCDIR)/NOTICE'
+	@rmdir '$(DESTDIR)$(DOCDIR)' 2>/dev/null || true
 
 bench: $(ARCHIVE)
 	LARK_ARCHIVE=$(abspath $(ARCHIVE)) bench/run
