@@ -95,9 +95,9 @@
 extern "C" {
 #endif
 
-#define LARK_VERSION "0.1.0"
+#define LARK_VERSION "0.2.0"
 #define LARK_VERSION_MAJOR 0
-#define LARK_VERSION_MINOR 1
+#define LARK_VERSION_MINOR 2
 #define LARK_VERSION_PATCH 0
 
 /* Limits. */
