@@ -108,7 +108,7 @@ extern "C" {
 #define LARK_MAX_RESULT 8000    /* events of a section that is written */
 
 /* Sizes for buffers. */
-#define LARK_WORK_BYTES 65536                                               /* the least work memory; more does no harm */
+#define LARK_WORK_BYTES 65536                                               /* the least work memory; more is only more to wipe */
 #define LARK_OUT_BYTES (4 + 8 * LARK_MAX_RESULT)                            /* always enough for a section */
 #define LARK_RECORD_BYTES (8 + LARK_MAX_DOCUMENT + 8 * LARK_MAX_EVENTS)     /* the longest good record */
 
