@@ -1,0 +1,26 @@
+/* What the two sides of the bridge lay out for each other, at the start of the memory that they share. They are compiled for two processors, so
+ * every field has a width of its own.
+ */
+#ifndef CALLS_H
+#define CALLS_H
+
+#include <stdint.h>
+
+/* The bytes that are shared. Those that no call uses take no room. */
+#define SHARED ((size_t)256 << 20)
+
+enum { READ, RESOLVE_ATTENTION, RESOLVE_HEADINGS, RESOLVE_LISTS, SPACE_OR_TAB, LIST_ITEM, CONTINUATION, HEADING };
+
+/* The slices of a call: what is read, the output, the work memory. */
+enum { INPUT, OUT, WORK, SLICES };
+
+struct call {
+    uint32_t name;           /* which of the eight */
+    uint32_t options;
+    uint64_t place[SLICES];  /* where each slice stands in what is shared; 0 is NULL */
+    uint64_t length[SLICES]; /* and its length */
+    uint64_t argument[3];    /* the arguments that are no slice, in their order */
+    uint64_t answer[7];      /* the fields of what is answered, in their order */
+};
+
+#endif
