@@ -28,6 +28,42 @@ fn options() {
 }
 
 #[test]
+fn options_and_not() {
+    const BOTH: Options = Options::ATTENTION.union(Options::HEADING);
+    let over = Options::from_bits(64 + 8);
+    assert_eq!(BOTH, Options::ATTENTION | Options::HEADING);
+    assert_eq!(BOTH & Options::HEADING, Options::HEADING);
+    assert_eq!((BOTH & Options::LIST_ITEM, BOTH & over), (Options::NONE, Options::HEADING));
+    assert_eq!((over & over).bits(), 72);
+    let mut options = BOTH;
+    options &= !Options::HEADING;
+    assert_eq!(options, Options::ATTENTION);
+
+    // The complement is among the six.
+    assert_eq!((!BOTH).bits(), 54);
+    assert_eq!((!Options::NONE, !Options::ALL), (Options::ALL, Options::NONE));
+    assert_eq!((!over).bits(), 55);
+    assert_eq!((!Options::from_bits(u32::MAX)).bits(), 0);
+
+    assert!(Options::NONE.is_empty());
+    assert!(!Options::ATTENTION.is_empty() && !Options::from_bits(64).is_empty());
+}
+
+#[test]
+fn options_by_name() {
+    let shown = |bits| format!("{:?}", Options::from_bits(bits));
+    assert_eq!(shown(0), "Options(NONE)");
+    assert_eq!(shown(1), "Options(ATTENTION)");
+    assert_eq!(shown(9), "Options(ATTENTION | HEADING)");
+    assert_eq!(
+        shown(63),
+        "Options(ATTENTION | STRIKETHROUGH | SINGLE_TILDE | HEADING | LIST_ITEM | CODE_INDENTED)"
+    );
+    assert_eq!(shown(64), "Options(0x40)");
+    assert_eq!(shown(0x8000_0042), "Options(STRIKETHROUGH | 0x80000040)");
+}
+
+#[test]
 fn names() {
     let numbered = [
         (0, Name::DATA, "Data"),
