@@ -1,7 +1,9 @@
 //! Events: one by one, in a section, in a record.
 
-use std::fmt;
-use std::iter::FusedIterator;
+#[cfg(feature = "alloc")]
+use alloc::{vec, vec::Vec};
+use core::fmt;
+use core::iter::FusedIterator;
 
 /// Whether an event enters or exits.
 #[derive(Clone, Copy, Debug, PartialEq, Eq, Hash)]
@@ -22,6 +24,7 @@ macro_rules! names {
             $(#[doc = $about] pub const $constant: Name = Name($number);)*
 
             /// The name in a word, if it has a meaning.
+            #[must_use]
             pub const fn word(self) -> Option<&'static str> {
                 match self.0 {
                     $($number => Some($word),)*
@@ -93,6 +96,7 @@ impl Event {
     pub const LENGTH: usize = 8;
 
     /// The event that enters `name` at `place`.
+    #[must_use]
     pub const fn enter(name: Name, place: usize) -> Event {
         Event {
             kind: Kind::Enter,
@@ -102,6 +106,7 @@ impl Event {
     }
 
     /// The event that exits `name` at `place`.
+    #[must_use]
     pub const fn exit(name: Name, place: usize) -> Event {
         Event {
             kind: Kind::Exit,
@@ -111,8 +116,38 @@ impl Event {
     }
 
     /// Both, with nothing between them.
+    #[must_use]
     pub const fn pair(name: Name, from: usize, to: usize) -> [Event; 2] {
         [Event::enter(name, from), Event::exit(name, to)]
+    }
+
+    /// The event as it stands in a section. A place too large for its four bytes becomes the largest, which no record has.
+    #[must_use]
+    pub fn to_bytes(self) -> [u8; Event::LENGTH] {
+        let kind = match self.kind {
+            Kind::Enter => 0,
+            Kind::Exit => 1,
+        };
+        let [a, b, c, d] = four_bytes(self.place);
+        [kind, self.name.0, 0, 0, a, b, c, d]
+    }
+
+    /// The event that stands in eight bytes of a section. `None` where the kind is neither 0 nor 1, or a byte that should be 0 is not.
+    #[must_use]
+    pub const fn from_bytes(bytes: [u8; Event::LENGTH]) -> Option<Event> {
+        let [kind, name, 0, 0, a, b, c, d] = bytes else {
+            return None;
+        };
+        let kind = match kind {
+            0 => Kind::Enter,
+            1 => Kind::Exit,
+            _ => return None,
+        };
+        Some(Event {
+            kind,
+            name: Name(name),
+            place: u32::from_le_bytes([a, b, c, d]) as usize,
+        })
     }
 }
 
@@ -139,6 +174,7 @@ impl fmt::Display for Event {
 /// assert_eq!(Events::new(&section[..11]).next(), None);
 /// ```
 #[derive(Clone, Debug)]
+#[must_use = "an iterator reads nothing until it is asked"]
 pub struct Events<'a> {
     /// How many are left by the count.
     left: usize,
@@ -164,21 +200,11 @@ impl Iterator for Events<'_> {
 
     fn next(&mut self) -> Option<Event> {
         // Left at 0 for good where no event stands, so that nothing behind it is taken for one.
-        let left = std::mem::take(&mut self.left).checked_sub(1)?;
-        let (&[kind, name, 0, 0, a, b, c, d], rest) = self.rest.split_first_chunk()? else {
-            return None;
-        };
-        let kind = match kind {
-            0 => Kind::Enter,
-            1 => Kind::Exit,
-            _ => return None,
-        };
+        let left = core::mem::take(&mut self.left).checked_sub(1)?;
+        let (bytes, rest) = self.rest.split_first_chunk()?;
+        let event = Event::from_bytes(*bytes)?;
         (self.left, self.rest) = (left, rest);
-        Some(Event {
-            kind,
-            name: Name(name),
-            place: u32::from_le_bytes([a, b, c, d]) as usize,
-        })
+        Some(event)
     }
 
     fn size_hint(&self) -> (usize, Option<usize>) {
@@ -188,7 +214,19 @@ impl Iterator for Events<'_> {
 
 impl FusedIterator for Events<'_> {}
 
-/// A record: the document's count and bytes, then the events' count and bytes.
+/// How long a section of so many events is: its count and 8 bytes for each.
+#[must_use]
+pub const fn section_length(events: usize) -> usize {
+    4 + Event::LENGTH * events
+}
+
+/// How long a record of so many bytes of document and so many events is.
+#[must_use]
+pub const fn record_length(document: usize, events: usize) -> usize {
+    4 + document + section_length(events)
+}
+
+/// A record: the document's count and bytes, then the events' count and bytes. Needs the feature `alloc`.
 ///
 /// Nothing is judged here. A document, a list of events or a place too large for a record makes one that the library refuses.
 ///
@@ -200,20 +238,47 @@ impl FusedIterator for Events<'_> {}
 ///     [1, 0, 0, 0, b'a', 2, 0, 0, 0, 0, 0, 0, 0, 0, 0, 0, 0, 1, 0, 0, 0, 1, 0, 0, 0],
 /// );
 /// ```
+#[cfg(feature = "alloc")]
+#[must_use]
 pub fn record(document: &[u8], events: &[Event]) -> Vec<u8> {
-    let mut bytes = Vec::with_capacity(8 + document.len() + Event::LENGTH * events.len());
-    bytes.extend(four_bytes(document.len()));
-    bytes.extend(document);
-    bytes.extend(four_bytes(events.len()));
-    for event in events {
-        let kind = match event.kind {
-            Kind::Enter => 0,
-            Kind::Exit => 1,
-        };
-        bytes.extend([kind, event.name.0, 0, 0]);
-        bytes.extend(four_bytes(event.place));
-    }
+    let mut bytes = vec![0; record_length(document.len(), events.len())];
+    let fits = record_into(document, events.iter().copied(), &mut bytes).is_some();
+    debug_assert!(fits, "as long as the record is");
     bytes
+}
+
+/// A record, written to the start of `out`. `None` where it does not fit; then a part of it may stand there.
+///
+/// Nothing is judged here either. The events may come from a section, as they do for one resolver behind another:
+///
+/// ```
+/// use ledgerlark::{heading, record_into, record_length, resolve_headings, section_length, Events, Options, Work};
+///
+/// let (line, options) = (b"# a b", Options::default());
+/// let mut out = [0; section_length(12)];
+/// assert_eq!(heading(line, options, &mut out)?, Some(12));
+///
+/// let mut bytes = [0; record_length(5, 12)];
+/// let record = record_into(line, Events::new(&out), &mut bytes).expect("room for 12 events");
+/// let mut work = [0; Work::LENGTH];
+/// let mut out = [0; section_length(12)];
+/// let resolved = resolve_headings(record, options, &mut out, &mut Work::from(&mut work))?;
+/// assert_eq!(resolved.events, 10);
+/// # Ok::<(), ledgerlark::Refusal>(())
+/// ```
+#[must_use]
+pub fn record_into<'a>(document: &[u8], events: impl IntoIterator<Item = Event>, out: &'a mut [u8]) -> Option<&'a [u8]> {
+    let (section, mut end, mut count) = (4 + document.len(), record_length(document.len(), 0), 0);
+    out.get_mut(..4)?.copy_from_slice(&four_bytes(document.len()));
+    out.get_mut(4..section)?.copy_from_slice(document);
+    for event in events {
+        let next = end + Event::LENGTH;
+        out.get_mut(end..next)?.copy_from_slice(&event.to_bytes());
+        (end, count) = (next, count + 1);
+    }
+    // Behind the events, since only now their number is known.
+    out.get_mut(section..section + 4)?.copy_from_slice(&four_bytes(count));
+    out.get(..end)
 }
 
 /// A number as u32, little endian. One too large becomes the largest, which is over every limit, and so is still refused.

@@ -3,7 +3,7 @@
 //! The work is done by the static library of the project, where every function is proved to meet its contract. This crate is a thin
 //! face of it: slices in, a `Result` out, and no unsafe code but in one file.
 //!
-//! A record is a document and its events. [`record()`] makes one, [`read`] says whether it is good, and [`resolve_attention`],
+//! A record is a document and its events. [`record()`] or [`record_into`] makes one, [`read`] says whether it is good, and [`resolve_attention`],
 //! [`resolve_headings`] and [`resolve_lists`] write the events that come out. The line readers [`space_or_tab`], [`list_item`],
 //! [`continuation`] and [`heading`] take one line.
 //!
@@ -13,13 +13,28 @@
 //! What a call answers and writes depends on the record or line, the options, the arguments and the lengths of the buffers alone. It never
 //! depends on what a buffer held before. A [`Refusal`] leaves the output as it was. The work memory is zero after every call.
 //!
+//! # Features
+//!
+//! The crate is `no_std`. The feature `alloc`, on by default, adds what needs an allocator: [`Work::new`], [`record()`] and the calls that answer
+//! with a vector, `.._to_vec`. Without it work memory is lent by [`Work::from`] and records are written by [`record_into`].
+//!
+//! # Example
+//!
 //! The whole of `examples/emphasis.rs`:
 //!
-//! ```
+#![cfg_attr(feature = "alloc", doc = "```")]
+#![cfg_attr(not(feature = "alloc"), doc = "```ignore")]
 #![doc = include_str!("../examples/emphasis.rs")]
 //! ```
 
+#![no_std]
 #![deny(missing_docs, unsafe_code, unsafe_op_in_unsafe_fn)]
+#![warn(rust_2018_idioms)]
+// The text above speaks of what the feature adds, also where it is off.
+#![cfg_attr(not(feature = "alloc"), allow(rustdoc::broken_intra_doc_links))]
+
+#[cfg(feature = "alloc")]
+extern crate alloc;
 
 mod events;
 #[allow(unsafe_code)]
@@ -31,18 +46,21 @@ mod refusal;
 mod resolve;
 mod work;
 
-pub use events::{record, Event, Events, Kind, Name};
+#[cfg(feature = "alloc")]
+pub use events::record;
+pub use events::{record_into, record_length, section_length, Event, Events, Kind, Name};
 pub use limits::{MAX_DEPTH, MAX_DOCUMENT, MAX_EVENTS, MAX_LINE, MAX_RESULT};
+#[cfg(feature = "alloc")]
+pub use lines::heading_to_vec;
 pub use lines::{continuation, heading, list_item, space_or_tab, Container, Continuation, Item, ListKind};
 pub use options::Options;
 pub use refusal::Refusal;
-pub use resolve::{
-    read, resolve_attention, resolve_attention_to_vec, resolve_headings, resolve_headings_to_vec, resolve_lists, resolve_lists_to_vec,
-    section_length, Reading, Resolved,
-};
+pub use resolve::{read, resolve_attention, resolve_headings, resolve_lists, Reading, Resolved};
+#[cfg(feature = "alloc")]
+pub use resolve::{resolve_attention_to_vec, resolve_headings_to_vec, resolve_lists_to_vec};
 pub use work::Work;
 
 /// The examples of the README are run too.
-#[cfg(doctest)]
+#[cfg(all(doctest, feature = "alloc"))]
 #[doc = include_str!("../README.md")]
 struct Readme;

@@ -3,6 +3,10 @@
 use crate::ffi;
 use crate::refusal::{refused, Refusal};
 use crate::Options;
+#[cfg(feature = "alloc")]
+use crate::{section_length, Event, Events, MAX_RESULT};
+#[cfg(feature = "alloc")]
+use alloc::{vec, vec::Vec};
 
 /// Takes the spaces and tabs that a line begins with, at most `max` of them: how many, or `None` for fewer than `min`.
 ///
@@ -17,7 +21,7 @@ use crate::Options;
 ///
 /// # Errors
 ///
-/// Numbers 2, 3 and 4.
+/// [`Refusal::Options`], [`Refusal::Count`] and [`Refusal::Return`].
 pub fn space_or_tab(line: &[u8], options: Options, min: usize, max: usize) -> Result<Option<usize>, Refusal> {
     let answer = ffi::space_or_tab(line, options.bits(), min, max);
     refused(answer.number, answer.place)?;
@@ -35,6 +39,7 @@ pub enum ListKind {
 
 impl ListKind {
     /// The mark.
+    #[must_use]
     pub const fn mark(self) -> u8 {
         match self {
             ListKind::Bullet(mark) | ListKind::Ordered(mark) => mark,
@@ -42,8 +47,10 @@ impl ListKind {
     }
 }
 
-/// What is kept of an open list item, for the lines that follow.
+/// What is kept of an open list item, for the lines that follow: an answer of [`list_item`] and of [`continuation`], and what the latter asks for.
 #[derive(Clone, Copy, Debug, PartialEq, Eq, Hash)]
+#[non_exhaustive]
+#[must_use]
 pub struct Container {
     /// Bulleted or ordered, and by which mark.
     pub kind: ListKind,
@@ -53,8 +60,17 @@ pub struct Container {
     pub blank: bool,
 }
 
+impl Container {
+    /// A container that was kept elsewhere.
+    pub const fn new(kind: ListKind, size: usize, blank: bool) -> Container {
+        Container { kind, size, blank }
+    }
+}
+
 /// A list item that starts on a line.
 #[derive(Clone, Copy, Debug, PartialEq, Eq, Hash)]
+#[non_exhaustive]
+#[must_use]
 pub struct Item {
     /// How many bytes of the line its prefix takes.
     pub taken: usize,
@@ -76,7 +92,7 @@ pub struct Item {
 ///
 /// # Errors
 ///
-/// Numbers 2, 3 and 4.
+/// [`Refusal::Options`], [`Refusal::Count`] and [`Refusal::Return`].
 pub fn list_item(line: &[u8], options: Options, interrupting: bool) -> Result<Option<Item>, Refusal> {
     let answer = ffi::list_item(line, options.bits(), interrupting);
     refused(answer.number, answer.place)?;
@@ -97,9 +113,13 @@ pub fn list_item(line: &[u8], options: Options, interrupting: bool) -> Result<Op
 }
 
 /// Whether a line goes on with a list item, and the container as it then stands.
+///
+/// A line does or does not: there is no third. What is told of either may grow, so patterns end with `..`.
 #[derive(Clone, Copy, Debug, PartialEq, Eq, Hash)]
+#[must_use = "it has the container for the next line"]
 pub enum Continuation {
     /// It goes on.
+    #[non_exhaustive]
     Goes {
         /// How many bytes of the line are taken as indentation.
         taken: usize,
@@ -107,10 +127,29 @@ pub enum Continuation {
         container: Container,
     },
     /// It does not.
+    #[non_exhaustive]
     Stops {
         /// The container now.
         container: Container,
     },
+}
+
+impl Continuation {
+    /// How many bytes of the line are taken as indentation, if it goes on.
+    #[must_use]
+    pub const fn taken(self) -> Option<usize> {
+        match self {
+            Continuation::Goes { taken, .. } => Some(taken),
+            Continuation::Stops { .. } => None,
+        }
+    }
+
+    /// The container now.
+    pub const fn container(self) -> Container {
+        match self {
+            Continuation::Goes { container, .. } | Continuation::Stops { container } => container,
+        }
+    }
 }
 
 /// Says whether a line goes on with the list item that `container` was kept of.
@@ -119,22 +158,24 @@ pub enum Continuation {
 /// use ledgerlark::{continuation, list_item, Continuation, Options};
 ///
 /// let options = Options::default();
-/// let item = list_item(b"- a", options, false)?.expect("an item");
-/// let container = item.container;
-/// assert_eq!(
-///     continuation(b"  b", options, container)?,
-///     Continuation::Goes { taken: 2, container },
-/// );
-/// assert_eq!(
-///     continuation(b"b", options, container)?,
-///     Continuation::Stops { container },
-/// );
+/// let mut container = list_item(b"- a", options, false)?.expect("an item").container;
+/// let mut inside = Vec::new();
+/// for line in ["  b", "", "  c", "d"] {
+///     match continuation(line.as_bytes(), options, container)? {
+///         Continuation::Goes { taken, container: now, .. } => {
+///             inside.push(&line[taken..]);
+///             container = now;
+///         }
+///         Continuation::Stops { .. } => break,
+///     }
+/// }
+/// assert_eq!(inside, ["b", "", "c"]);
 /// # Ok::<(), ledgerlark::Refusal>(())
 /// ```
 ///
 /// # Errors
 ///
-/// Numbers 2, 3 and 4.
+/// [`Refusal::Options`], [`Refusal::Count`] and [`Refusal::Return`].
 pub fn continuation(line: &[u8], options: Options, container: Container) -> Result<Continuation, Refusal> {
     let answer = ffi::continuation(line, options.bits(), container.size, container.blank, container.kind.mark());
     refused(answer.number, answer.place)?;
@@ -168,9 +209,32 @@ pub fn continuation(line: &[u8], options: Options, container: Container) -> Resu
 ///
 /// # Errors
 ///
-/// Numbers 2, 3, 4, 7 and 8.
+/// [`Refusal::Options`], [`Refusal::Count`] and [`Refusal::Return`]; for a heading also [`Refusal::Result`] and [`Refusal::Output`].
 pub fn heading(line: &[u8], options: Options, out: &mut [u8]) -> Result<Option<usize>, Refusal> {
     let answer = ffi::heading(line, options.bits(), out);
     refused(answer.number, answer.place)?;
     Ok((answer.found != 0).then_some(answer.events))
+}
+
+/// [`heading`] with an output of its own, which is always long enough. Needs the feature `alloc`.
+///
+/// ```
+/// use ledgerlark::{heading_to_vec, record, resolve_headings_to_vec, Event, Name, Options, Work};
+///
+/// let (line, options) = (b"# a b", Options::default());
+/// let read = heading_to_vec(line, options)?.expect("a heading");
+/// let events = resolve_headings_to_vec(&record(line, &read), options, &mut Work::new())?;
+/// assert!(events.contains(&Event::enter(Name::HEADING_ATX_TEXT, 2)));
+/// assert!(events.contains(&Event::exit(Name::HEADING_ATX_TEXT, 5)));
+/// # Ok::<(), ledgerlark::Refusal>(())
+/// ```
+///
+/// # Errors
+///
+/// [`Refusal::Options`], [`Refusal::Count`] and [`Refusal::Return`]; for a heading also [`Refusal::Result`].
+#[cfg(feature = "alloc")]
+pub fn heading_to_vec(line: &[u8], options: Options) -> Result<Option<Vec<Event>>, Refusal> {
+    let mut out = vec![0; section_length(MAX_RESULT)];
+    let found = heading(line, options, &mut out)?;
+    Ok(found.map(|_| Events::new(&out).collect()))
 }

@@ -5,7 +5,7 @@ use core::ops::{BitAnd, BitAndAssign, BitOr, BitOrAssign, Not};
 
 /// The options of a call: a sum of the constants below.
 ///
-/// Any number can be held, so that one over 63 from elsewhere can be passed on and gets its refusal, number 2.
+/// Any number can be held, so that one over 63 from elsewhere can be passed on and gets its refusal, [`Refusal::Options`](crate::Refusal::Options).
 ///
 /// ```
 /// use ledgerlark::Options;

@@ -1,18 +1,17 @@
 //! The calls on a record: whether it is good, and the three resolvers.
 
-use crate::events::{Event, Events};
+use crate::events::section_length;
 use crate::ffi;
-use crate::limits::MAX_RESULT;
 use crate::refusal::{refused, Refusal};
+#[cfg(feature = "alloc")]
+use crate::{Event, Events, MAX_RESULT};
 use crate::{Options, Work};
-
-/// How long a section of so many events is: its count and 8 bytes for each.
-pub const fn section_length(events: usize) -> usize {
-    4 + Event::LENGTH * events
-}
+#[cfg(feature = "alloc")]
+use alloc::{vec, vec::Vec};
 
 /// What [`read`] finds in a good record.
-#[derive(Clone, Copy, Debug, PartialEq, Eq)]
+#[derive(Clone, Copy, Debug, PartialEq, Eq, Hash)]
+#[non_exhaustive]
 pub struct Reading {
     /// How many bytes the document has.
     pub document: usize,
@@ -23,22 +22,23 @@ pub struct Reading {
 /// Says whether a record is good.
 ///
 /// ```
-/// use ledgerlark::{read, record, Options, Refusal, Work};
+/// use ledgerlark::{read, Options, Refusal, Work};
 ///
-/// let good = record(b"a", &[]);
-/// let mut work = Work::new();
+/// let good = [1, 0, 0, 0, b'a', 0, 0, 0, 0];
+/// let mut memory = [0; Work::LENGTH];
+/// let mut work = Work::from(&mut memory);
 /// assert_eq!(read(&good, Options::default(), &mut work)?.document, 1);
 ///
 /// // One byte short: the second count, at 5, does not fit.
-/// let cut = &good[..good.len() - 1];
-/// assert_eq!(read(cut, Options::default(), &mut work), Err(Refusal { number: 3, place: 5 }));
+/// let refused = read(&good[..8], Options::default(), &mut work);
+/// assert_eq!(refused, Err(Refusal::Count { place: 5 }));
 /// # Ok::<(), Refusal>(())
 /// ```
 ///
 /// # Errors
 ///
-/// Numbers 1 to 5.
-pub fn read(record: &[u8], options: Options, work: &mut Work) -> Result<Reading, Refusal> {
+/// [`Refusal::Work`], [`Refusal::Options`], [`Refusal::Count`], [`Refusal::Return`] and [`Refusal::Event`].
+pub fn read(record: &[u8], options: Options, work: &mut Work<'_>) -> Result<Reading, Refusal> {
     let answer = ffi::read(record, options.bits(), work.bytes_mut());
     refused(answer.number, answer.place)?;
     Ok(Reading {
@@ -48,9 +48,11 @@ pub fn read(record: &[u8], options: Options, work: &mut Work) -> Result<Reading,
 }
 
 /// What a resolver has made of a record.
-#[derive(Clone, Copy, Debug, PartialEq, Eq)]
+#[derive(Clone, Copy, Debug, PartialEq, Eq, Hash)]
+#[non_exhaustive]
+#[must_use = "its section is what was written: the rest of the output is as it was"]
 pub struct Resolved<'a> {
-    /// The section that was written: the front of the lent output. [`Events`] reads it.
+    /// The section that was written: the front of the lent output. [`Events`](crate::Events) reads it.
     pub section: &'a [u8],
     /// How many events it has.
     pub events: usize,
@@ -62,20 +64,19 @@ pub struct Resolved<'a> {
 
 /// Resolves the attention runs of a record into emphasis, strong and strikethrough, and writes the events' section to `out`.
 ///
-/// Bytes of `out` past the section stay as they are. An output of [`section_length`]`(`[`MAX_RESULT`]`)` bytes is always enough.
+/// Bytes of `out` past the section stay as they are. An output of [`section_length`]`(`[`MAX_RESULT`](crate::MAX_RESULT)`)` bytes is always enough.
 ///
 /// ```
-/// use ledgerlark::{record, resolve_attention, Event, Events, Name, Options, Work};
+/// use ledgerlark::{record_into, resolve_attention, Event, Events, Name, Options, Work};
+///
+/// // These three are lent to call after call.
+/// let (mut bytes, mut out, mut memory) = ([0; 256], [0; 256], [0; Work::LENGTH]);
+/// let mut work = Work::from(&mut memory);
 ///
 /// let run = Name::ATTENTION_SEQUENCE;
-/// let events = [Event::pair(run, 0, 2), Event::pair(run, 3, 5)].concat();
-/// let mut out = [0; 256];
-/// let resolved = resolve_attention(
-///     &record(b"**a**", &events),
-///     Options::default(),
-///     &mut out,
-///     &mut Work::new(),
-/// )?;
+/// let events = [Event::pair(run, 0, 2), Event::pair(run, 3, 5)];
+/// let record = record_into(b"**a**", events.into_iter().flatten(), &mut bytes).expect("room for a record");
+/// let resolved = resolve_attention(record, Options::default(), &mut out, &mut work)?;
 /// assert_eq!((resolved.events, resolved.groups, resolved.tried), (8, 1, 1));
 /// assert_eq!(Events::new(resolved.section).next(), Some(Event::enter(Name::STRONG, 0)));
 /// # Ok::<(), ledgerlark::Refusal>(())
@@ -83,8 +84,8 @@ pub struct Resolved<'a> {
 ///
 /// # Errors
 ///
-/// Numbers 1 to 8.
-pub fn resolve_attention<'a>(record: &[u8], options: Options, out: &'a mut [u8], work: &mut Work) -> Result<Resolved<'a>, Refusal> {
+/// Every [`Refusal`] by name.
+pub fn resolve_attention<'a>(record: &[u8], options: Options, out: &'a mut [u8], work: &mut Work<'_>) -> Result<Resolved<'a>, Refusal> {
     resolve_by(ffi::resolve_attention, record, options, out, work)
 }
 
@@ -93,8 +94,8 @@ pub fn resolve_attention<'a>(record: &[u8], options: Options, out: &'a mut [u8],
 ///
 /// # Errors
 ///
-/// Numbers 1 to 6, and 8.
-pub fn resolve_headings<'a>(record: &[u8], options: Options, out: &'a mut [u8], work: &mut Work) -> Result<Resolved<'a>, Refusal> {
+/// Every [`Refusal`] by name but [`Refusal::Result`]: no record has a result as long.
+pub fn resolve_headings<'a>(record: &[u8], options: Options, out: &'a mut [u8], work: &mut Work<'_>) -> Result<Resolved<'a>, Refusal> {
     resolve_by(ffi::resolve_headings, record, options, out, work)
 }
 
@@ -103,48 +104,40 @@ pub fn resolve_headings<'a>(record: &[u8], options: Options, out: &'a mut [u8], 
 ///
 /// # Errors
 ///
-/// Numbers 1 to 6, and 8.
-pub fn resolve_lists<'a>(record: &[u8], options: Options, out: &'a mut [u8], work: &mut Work) -> Result<Resolved<'a>, Refusal> {
+/// Every [`Refusal`] by name but [`Refusal::Result`]: no record has a result as long.
+pub fn resolve_lists<'a>(record: &[u8], options: Options, out: &'a mut [u8], work: &mut Work<'_>) -> Result<Resolved<'a>, Refusal> {
     resolve_by(ffi::resolve_lists, record, options, out, work)
 }
 
-/// [`resolve_attention`] with an output of its own, which is always long enough.
+/// [`resolve_attention`] with an output of its own, which is always long enough. Needs the feature `alloc`.
 ///
 /// # Errors
 ///
-/// Numbers 1 to 7.
-pub fn resolve_attention_to_vec(record: &[u8], options: Options, work: &mut Work) -> Result<Vec<Event>, Refusal> {
+/// Those of [`resolve_attention`] but [`Refusal::Output`].
+#[cfg(feature = "alloc")]
+pub fn resolve_attention_to_vec(record: &[u8], options: Options, work: &mut Work<'_>) -> Result<Vec<Event>, Refusal> {
     to_vec(ffi::resolve_attention, record, options, work)
 }
 
-/// [`resolve_headings`] with an output of its own, which is always long enough.
+/// [`resolve_headings`] with an output of its own, which is always long enough. Needs the feature `alloc`.
 ///
-/// ```
-/// use ledgerlark::{heading, record, resolve_headings_to_vec, Event, Events, Name, Options, Work};
-///
-/// let (line, options) = (b"# a b", Options::default());
-/// let mut out = [0; 256];
-/// assert_eq!(heading(line, options, &mut out)?, Some(12));
-/// let read: Vec<Event> = Events::new(&out).collect();
-/// let events = resolve_headings_to_vec(&record(line, &read), options, &mut Work::new())?;
-/// assert!(events.contains(&Event::enter(Name::HEADING_ATX_TEXT, 2)));
-/// assert!(events.contains(&Event::exit(Name::HEADING_ATX_TEXT, 5)));
-/// # Ok::<(), ledgerlark::Refusal>(())
-/// ```
+/// [`heading_to_vec`](crate::heading_to_vec) has an example.
 ///
 /// # Errors
 ///
-/// Numbers 1 to 6.
-pub fn resolve_headings_to_vec(record: &[u8], options: Options, work: &mut Work) -> Result<Vec<Event>, Refusal> {
+/// Those of [`resolve_headings`] but [`Refusal::Output`].
+#[cfg(feature = "alloc")]
+pub fn resolve_headings_to_vec(record: &[u8], options: Options, work: &mut Work<'_>) -> Result<Vec<Event>, Refusal> {
     to_vec(ffi::resolve_headings, record, options, work)
 }
 
-/// [`resolve_lists`] with an output of its own, which is always long enough.
+/// [`resolve_lists`] with an output of its own, which is always long enough. Needs the feature `alloc`.
 ///
 /// # Errors
 ///
-/// Numbers 1 to 6.
-pub fn resolve_lists_to_vec(record: &[u8], options: Options, work: &mut Work) -> Result<Vec<Event>, Refusal> {
+/// Those of [`resolve_lists`] but [`Refusal::Output`].
+#[cfg(feature = "alloc")]
+pub fn resolve_lists_to_vec(record: &[u8], options: Options, work: &mut Work<'_>) -> Result<Vec<Event>, Refusal> {
     to_vec(ffi::resolve_lists, record, options, work)
 }
 
@@ -157,7 +150,7 @@ fn resolve_by<'a>(
     record: &[u8],
     options: Options,
     out: &'a mut [u8],
-    work: &mut Work,
+    work: &mut Work<'_>,
 ) -> Result<Resolved<'a>, Refusal> {
     let answer = resolver(record, options.bits(), out, work.bytes_mut());
     refused(answer.number, answer.place)?;
@@ -170,7 +163,8 @@ fn resolve_by<'a>(
 }
 
 /// The same, as a list of events.
-fn to_vec(resolver: Resolver, record: &[u8], options: Options, work: &mut Work) -> Result<Vec<Event>, Refusal> {
+#[cfg(feature = "alloc")]
+fn to_vec(resolver: Resolver, record: &[u8], options: Options, work: &mut Work<'_>) -> Result<Vec<Event>, Refusal> {
     let mut out = vec![0; section_length(MAX_RESULT)];
     let resolved = resolve_by(resolver, record, options, &mut out, work)?;
     Ok(Events::new(resolved.section).collect())

@@ -2,8 +2,8 @@
 
 mod common;
 
-use common::{dirty, dirty_work, events, is_zero, record, refuses, resolves, Expected};
-use ledgerlark::{resolve_attention, resolve_attention_to_vec, section_length, Options, Refusal, Work, MAX_RESULT};
+use common::{is_dirty, record, refuses, resolves, Expected, Lent};
+use ledgerlark::{resolve_attention, section_length, Options, Refusal, Work, MAX_RESULT};
 
 fn case(document: &str, before: &str, groups: usize, tried: usize, after: &str) {
     let expected = Expected {
@@ -42,14 +42,14 @@ fn whole_case() {
     ];
     assert_eq!(section.len(), 84);
     assert_eq!(record, *common::record(b"*a*", "+1@0 -1@1 +0@1 -0@2 +1@2 -1@3"));
-    let mut out = [common::DIRT; 100];
-    let mut work = dirty_work(Work::LENGTH);
-    let resolved = resolve_attention(&record, Options::default(), &mut out, &mut work).expect("good");
+    let mut out = Lent::new(100);
+    let mut work = Lent::work();
+    let resolved = resolve_attention(&record, Options::default(), out.lend(), &mut Work::from(work.lend())).expect("good");
     assert_eq!((resolved.events, resolved.groups, resolved.tried), (10, 1, 1));
     assert_eq!(resolved.section, section);
-    assert_eq!(out[..84], section);
-    assert_eq!(out[84..], [common::DIRT; 16]);
-    assert!(is_zero(&work));
+    assert_eq!(out.after()[..84], section);
+    assert!(is_dirty(&out.after()[84..]));
+    assert!(work.is_zero());
 }
 
 #[test]
@@ -161,34 +161,35 @@ fn the_longest_result() {
     let record = strongs(500);
     let length = section_length(MAX_RESULT);
     assert_eq!(length, 64_004);
-    let mut out = dirty(length);
-    let mut work = dirty_work(Work::LENGTH);
-    let resolved = resolve_attention(&record, Options::default(), &mut out, &mut work).expect("8,000 events");
+    let mut out = Lent::new(length);
+    let mut work = Lent::work();
+    let resolved = resolve_attention(&record, Options::default(), out.lend(), &mut Work::from(work.lend())).expect("8,000 events");
     assert_eq!((resolved.events, resolved.groups, resolved.tried), (8_000, 1_000, 1_000));
     assert_eq!(resolved.section.len(), length);
-    assert!(is_zero(&work));
-    refuses(resolve_attention, &record, Options::default(), length - 1, 8, 0);
+    assert_eq!(out.after().len(), length);
+    assert!(work.is_zero());
+    refuses(resolve_attention, &record, Options::default(), length - 1, Refusal::Output);
 
     // One more pair of runs: 8,016 events, refused whatever the output's length is.
     for length in [0, length, length + 128] {
-        refuses(resolve_attention, &strongs(501), Options::default(), length, 7, 0);
+        refuses(resolve_attention, &strongs(501), Options::default(), length, Refusal::Result);
     }
 }
 
 /// The convenience gives the same events, at the limit too, and passes refusals on.
+#[cfg(feature = "alloc")]
 #[test]
 fn to_vec() {
-    let record = record(b"*a*", "+1@0 -1@1 +0@1 -0@2 +1@2 -1@3");
-    let mut work = dirty_work(Work::LENGTH);
-    let resolved = resolve_attention_to_vec(&record, Options::default(), &mut work);
-    assert_eq!(resolved, Ok(events("+2@0 +3@0 -3@1 +4@1 +0@1 -0@2 -4@2 +3@2 -3@3 -2@3")));
+    let call = |record: &[u8]| {
+        let mut work = Lent::work();
+        let resolved = ledgerlark::resolve_attention_to_vec(record, Options::default(), &mut Work::from(work.lend()));
+        assert!(work.is_zero());
+        resolved
+    };
     assert_eq!(
-        resolve_attention_to_vec(&strongs(500), Options::default(), &mut work).map(|events| events.len()),
-        Ok(8_000)
+        call(&record(b"*a*", "+1@0 -1@1 +0@1 -0@2 +1@2 -1@3")),
+        Ok(common::events("+2@0 +3@0 -3@1 +4@1 +0@1 -0@2 -4@2 +3@2 -3@3 -2@3"))
     );
-    assert_eq!(
-        resolve_attention_to_vec(&strongs(501), Options::default(), &mut work),
-        Err(Refusal { number: 7, place: 0 })
-    );
-    assert!(is_zero(&work));
+    assert_eq!(call(&strongs(500)).map(|events| events.len()), Ok(8_000));
+    assert_eq!(call(&strongs(501)), Err(Refusal::Result));
 }

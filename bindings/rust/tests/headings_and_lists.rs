@@ -2,8 +2,8 @@
 
 mod common;
 
-use common::{dirty_work, events, record, resolves, Expected, Resolver};
-use ledgerlark::{resolve_headings, resolve_headings_to_vec, resolve_lists, resolve_lists_to_vec, Options, Work};
+use common::{resolves, Expected, Resolver};
+use ledgerlark::{resolve_headings, resolve_lists, Options};
 
 /// With all options and with none: these two resolvers ask for none.
 fn case(resolver: Resolver, document: &str, before: &str, after: &str) {
@@ -97,9 +97,13 @@ fn a_container_keeps_items_apart() {
     case(resolve_lists, "", "", "");
 }
 
+#[cfg(feature = "alloc")]
 #[test]
 fn to_vec() {
-    let mut work = dirty_work(Work::LENGTH);
+    use common::{events, record};
+    use ledgerlark::{resolve_headings_to_vec, resolve_lists_to_vec, Refusal, Work};
+
+    let mut work = Work::new();
     let heading = record(b"# a", "+11@0 +12@0 -12@1 +14@1 -14@2 +0@2 -0@3 -11@3");
     assert_eq!(
         resolve_headings_to_vec(&heading, Options::default(), &mut work),
@@ -110,4 +114,8 @@ fn to_vec() {
         resolve_lists_to_vec(&item, Options::default(), &mut work),
         Ok(events("+20@0 +15@0 +16@0 +17@0 -17@1 -16@1 -15@1 -20@1"))
     );
+    let shapes = record(b"", "+11@0 -11@0 +15@0 -15@0");
+    let refused = |place| Err(Refusal::Shape { place });
+    assert_eq!(resolve_headings_to_vec(&shapes, Options::default(), &mut work), refused(8));
+    assert_eq!(resolve_lists_to_vec(&shapes, Options::default(), &mut work), refused(24));
 }

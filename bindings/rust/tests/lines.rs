@@ -2,8 +2,8 @@
 
 mod common;
 
-use common::{dirty, is_dirty, section};
-use ledgerlark::{continuation, heading, list_item, space_or_tab, Container, Continuation, Item, ListKind, Options, Refusal};
+use common::{is_dirty, section, Lent};
+use ledgerlark::{continuation, heading, list_item, space_or_tab, Container, Continuation, ListKind, Options, Refusal};
 
 /// Document 01's options for its cases.
 const OPTIONS: Options = Options::from_bits(59);
@@ -26,31 +26,36 @@ fn too_few() {
     assert_eq!(space_or_tab(b"", OPTIONS, usize::MAX, usize::MAX), Ok(None));
 }
 
+/// An item as the tests write it down: what is taken, and the container.
+type Item = Result<Option<(usize, Container)>, Refusal>;
+
+fn item_on(line: &[u8], options: Options, interrupting: bool) -> Item {
+    Ok(list_item(line, options, interrupting)?.map(|item| (item.taken, item.container)))
+}
+
 /// An item with a filled rest.
-fn item(taken: usize, size: usize, kind: ListKind) -> Result<Option<Item>, Refusal> {
-    let container = Container { kind, size, blank: false };
-    Ok(Some(Item { taken, container }))
+fn item(taken: usize, size: usize, kind: ListKind) -> Item {
+    Ok(Some((taken, Container::new(kind, size, false))))
 }
 
 /// An item with a blank rest.
-fn blank_item(taken: usize, size: usize, kind: ListKind) -> Result<Option<Item>, Refusal> {
-    let container = Container { kind, size, blank: true };
-    Ok(Some(Item { taken, container }))
+fn blank_item(taken: usize, size: usize, kind: ListKind) -> Item {
+    Ok(Some((taken, Container::new(kind, size, true))))
 }
 
 #[test]
 fn items() {
     let (dash, dot) = (ListKind::Bullet(b'-'), ListKind::Ordered(b'.'));
-    assert_eq!(list_item(b"123456789. a", OPTIONS, false), item(11, 11, dot));
-    assert_eq!(list_item(b"-    a", OPTIONS, false), item(5, 5, dash));
-    assert_eq!(list_item(b"-     a", OPTIONS, false), item(2, 2, dash));
-    assert_eq!(list_item(b"   * a\nb", OPTIONS, false), item(5, 5, ListKind::Bullet(b'*')));
-    assert_eq!(list_item(b"+ + +", OPTIONS, true), item(2, 2, ListKind::Bullet(b'+')));
-    assert_eq!(list_item(b"1) a", OPTIONS, true), item(3, 3, ListKind::Ordered(b')')));
-    assert_eq!(list_item(b"2. a", OPTIONS, false), item(3, 3, dot));
-    assert_eq!(list_item(b"    - a", WITHOUT_CODE, false), item(6, 6, dash));
-    assert_eq!(list_item(b"-", OPTIONS, false), blank_item(1, 2, dash));
-    assert_eq!(list_item(b"  1.   \na", OPTIONS, false), blank_item(4, 5, dot));
+    assert_eq!(item_on(b"123456789. a", OPTIONS, false), item(11, 11, dot));
+    assert_eq!(item_on(b"-    a", OPTIONS, false), item(5, 5, dash));
+    assert_eq!(item_on(b"-     a", OPTIONS, false), item(2, 2, dash));
+    assert_eq!(item_on(b"   * a\nb", OPTIONS, false), item(5, 5, ListKind::Bullet(b'*')));
+    assert_eq!(item_on(b"+ + +", OPTIONS, true), item(2, 2, ListKind::Bullet(b'+')));
+    assert_eq!(item_on(b"1) a", OPTIONS, true), item(3, 3, ListKind::Ordered(b')')));
+    assert_eq!(item_on(b"2. a", OPTIONS, false), item(3, 3, dot));
+    assert_eq!(item_on(b"    - a", WITHOUT_CODE, false), item(6, 6, dash));
+    assert_eq!(item_on(b"-", OPTIONS, false), blank_item(1, 2, dash));
+    assert_eq!(item_on(b"  1.   \na", OPTIONS, false), blank_item(4, 5, dot));
 }
 
 #[test]
@@ -69,11 +74,20 @@ fn not_an_item() {
 
 #[test]
 fn continuations() {
+    let goes = |taken, container| Ok((Some(taken), container));
+    let stops = |container| Ok((None, container));
+    let continuation = |line: &[u8], options, container| {
+        let answer = continuation(line, options, container)?;
+        // The two ways to ask tell the same.
+        match answer {
+            Continuation::Goes { taken, container, .. } => assert_eq!((answer.taken(), answer.container()), (Some(taken), container)),
+            Continuation::Stops { container, .. } => assert_eq!((answer.taken(), answer.container()), (None, container)),
+        }
+        Ok::<_, Refusal>((answer.taken(), answer.container()))
+    };
     for kind in [ListKind::Bullet(b'-'), ListKind::Ordered(b')')] {
-        let clear = |size| Container { kind, size, blank: false };
-        let set = |size| Container { kind, size, blank: true };
-        let goes = |taken, container| Ok(Continuation::Goes { taken, container });
-        let stops = |container| Ok(Continuation::Stops { container });
+        let clear = |size| Container::new(kind, size, false);
+        let set = |size| Container::new(kind, size, true);
 
         // a blank line
         assert_eq!(continuation(b" ", OPTIONS, set(2)), stops(set(2)));
@@ -101,15 +115,15 @@ fn heads(line: &[u8], options: Options, notation: &str) {
     let section = section(notation);
     let events = (section.len() - 4) / 8;
     for longer in [0, 1, 1_000] {
-        let mut out = dirty(section.len() + longer);
-        assert_eq!(heading(line, options, &mut out), Ok(Some(events)), "{line:?}");
-        assert_eq!(out[..section.len()], section, "{line:?}");
-        assert!(is_dirty(&out[section.len()..]), "{line:?}");
+        let mut out = Lent::new(section.len() + longer);
+        assert_eq!(heading(line, options, out.lend()), Ok(Some(events)), "{line:?}");
+        assert_eq!(out.after()[..section.len()], section, "{line:?}");
+        assert!(is_dirty(&out.after()[section.len()..]), "{line:?}");
     }
     for length in [0, section.len() - 1] {
-        let mut out = dirty(length);
-        assert_eq!(heading(line, options, &mut out), Err(Refusal { number: 8, place: 0 }));
-        assert!(is_dirty(&out));
+        let mut out = Lent::new(length);
+        assert_eq!(heading(line, options, out.lend()), Err(Refusal::Output));
+        assert!(out.is_dirty());
     }
 }
 
@@ -135,12 +149,31 @@ fn not_a_heading() {
     let lines: [&[u8]; 6] = [b"", b"a", b"#a", b"#######", b"    # a", b"\n# a"];
     for line in lines {
         for length in [0, 1_000] {
-            let mut out = dirty(length);
-            assert_eq!(heading(line, OPTIONS, &mut out), Ok(None), "{line:?}");
-            assert!(is_dirty(&out));
+            let mut out = Lent::new(length);
+            assert_eq!(heading(line, OPTIONS, out.lend()), Ok(None), "{line:?}");
+            assert!(out.is_dirty());
         }
     }
-    let mut out = dirty(1_000);
-    assert_eq!(heading(b"# a", Options::from_bits(59 - 8), &mut out), Ok(None));
-    assert!(is_dirty(&out));
+    let mut out = Lent::new(1_000);
+    assert_eq!(heading(b"# a", Options::from_bits(59 - 8), out.lend()), Ok(None));
+    assert!(out.is_dirty());
+}
+
+/// The convenience gives the same events, at the limit too, and passes findings and refusals on.
+#[cfg(feature = "alloc")]
+#[test]
+fn to_vec() {
+    use ledgerlark::heading_to_vec;
+
+    let events = common::events("+11@0 +12@0 -12@1 +14@1 -14@2 +0@2 -0@3 -11@3");
+    assert_eq!(heading_to_vec(b"# a", OPTIONS), Ok(Some(events)));
+    assert_eq!(heading_to_vec(b"#a", OPTIONS), Ok(None));
+    assert_eq!(heading_to_vec(b"# a\r", OPTIONS), Err(Refusal::Return { place: 3 }));
+    // 1,999 times two pairs, the `#` and the heading; then one pair more.
+    let longest = ["#".to_string(), " a".repeat(1_999)].concat();
+    assert_eq!(
+        heading_to_vec(longest.as_bytes(), OPTIONS).map(|found| found.map(|events| events.len())),
+        Ok(Some(8_000))
+    );
+    assert_eq!(heading_to_vec((longest + " ").as_bytes(), OPTIONS), Err(Refusal::Result));
 }

@@ -1,6 +1,6 @@
 //! Options, events, records and refusals as values: nothing here asks the library.
 
-use ledgerlark::{record, section_length, Event, Events, Kind, ListKind, Name, Options, Refusal, Work};
+use ledgerlark::{record_into, record_length, section_length, Container, Event, Events, Kind, ListKind, Name, Options, Refusal, Work};
 use ledgerlark::{MAX_DEPTH, MAX_DOCUMENT, MAX_EVENTS, MAX_LINE, MAX_RESULT};
 
 #[test]
@@ -102,6 +102,29 @@ fn names() {
 fn list_kinds() {
     assert_eq!(ListKind::Bullet(b'+').mark(), b'+');
     assert_eq!(ListKind::Ordered(b')').mark(), b')');
+    let container = Container::new(ListKind::Ordered(b')'), 3, true);
+    assert_eq!(
+        (container.kind, container.size, container.blank),
+        (ListKind::Ordered(b')'), 3, true)
+    );
+}
+
+#[test]
+fn events_in_bytes() {
+    let written = [
+        (Event::enter(Name::DATA, 0), [0, 0, 0, 0, 0, 0, 0, 0]),
+        (Event::exit(Name::STRONG, 0x0403_0201), [1, 5, 0, 0, 1, 2, 3, 4]),
+        (Event::exit(Name(255), 0xffff_ffff), [1, 255, 0, 0, 255, 255, 255, 255]),
+    ];
+    for (event, bytes) in written {
+        assert_eq!((event.to_bytes(), Event::from_bytes(bytes)), (bytes, Some(event)));
+    }
+    assert_eq!(Event::enter(Name::DATA, usize::MAX).to_bytes(), [0, 0, 0, 0, 255, 255, 255, 255]);
+    for (at, wrong) in [(0, 2), (0, 255), (2, 1), (3, 1), (3, 128)] {
+        let mut odd = [0; 8];
+        odd[at] = wrong;
+        assert_eq!(Event::from_bytes(odd), None);
+    }
 }
 
 #[test]
@@ -124,14 +147,11 @@ fn events_of_a_section() {
 #[test]
 fn odd_bytes_end_the_events() {
     // Three events, of which the second gets one wrong byte after the other.
-    let good = record(
-        b"",
-        &[Event::enter(Name::DATA, 0), Event::exit(Name::DATA, 0), Event::enter(Name::DATA, 0)],
-    );
-    let section = &good[4..];
-    assert_eq!(Events::new(section).count(), 3);
+    let mut section = [0; section_length(3)];
+    (section[0], section[12]) = (3, 1);
+    assert_eq!(Events::new(&section).count(), 3);
     for (at, wrong) in [(0, 2), (0, 255), (2, 1), (3, 1), (3, 128)] {
-        let mut odd = section.to_vec();
+        let mut odd = section;
         odd[12 + at] = wrong;
         let mut events = Events::new(&odd);
         assert_eq!(events.next(), Some(Event::enter(Name::DATA, 0)));
@@ -175,45 +195,64 @@ fn any_bytes_will_do() {
     assert!(lengths.iter().all(|&times| times > 500), "{lengths:?}");
 }
 
+/// A document of two bytes and two events, and the record that it is.
+const EVENTS: [Event; 2] = [Event::enter(Name::DATA, 258), Event::exit(Name::STRONG, usize::MAX)];
+const RECORD: [u8; 26] = [
+    2, 0, 0, 0, b'a', b'\n', 2, 0, 0, 0, 0, 0, 0, 0, 2, 1, 0, 0, 1, 5, 0, 0, 255, 255, 255, 255,
+];
+
+#[cfg(feature = "alloc")]
 #[test]
 fn records() {
-    assert_eq!(record(b"", &[]), [0; 8]);
-    let events = [Event::enter(Name::DATA, 258), Event::exit(Name::STRONG, usize::MAX)];
-    assert_eq!(
-        record(b"a\n", &events),
-        [2, 0, 0, 0, b'a', b'\n', 2, 0, 0, 0, 0, 0, 0, 0, 2, 1, 0, 0, 1, 5, 0, 0, 255, 255, 255, 255]
-    );
+    assert_eq!(ledgerlark::record(b"", &[]), [0; 8]);
+    assert_eq!(ledgerlark::record(b"a\n", &EVENTS), RECORD);
 }
 
+#[test]
+fn records_in_lent_memory() {
+    assert_eq!((record_length(0, 0), record_length(2, 2)), (8, 26));
+    assert_eq!(record_into(b"", [], &mut [7; 8]), Some(&[0; 8][..]));
+    let mut bytes = [7; 30];
+    assert_eq!(record_into(b"a\n", EVENTS, &mut bytes), Some(&RECORD[..]));
+    assert_eq!((&bytes[..26], &bytes[26..]), (&RECORD[..], &[7; 4][..]));
+    for length in 0..30 {
+        let fits = record_into(b"a\n", EVENTS, &mut bytes[..length]).map(<[u8]>::len);
+        assert_eq!(fits, (length >= 26).then_some(26));
+    }
+    // Events as a section has them.
+    let mut again = [7; 26];
+    assert_eq!(record_into(b"a\n", Events::new(&RECORD[6..]), &mut again), Some(&RECORD[..]));
+}
+
+/// Every refusal, with its number, its place and its words.
 #[test]
 fn refusals_in_words() {
-    let words = |number, place| Refusal { number, place }.to_string();
-    assert_eq!(words(1, 0), "the work memory is under 65,536 bytes");
-    assert_eq!(words(2, 0), "the options are over 63");
-    assert!(words(3, 17).starts_with("the lengths do not fit at byte 17: "));
-    assert_eq!(words(4, 6), "a carriage return stands at byte 6");
-    assert!(words(5, 18).starts_with("the events are unsound at byte 18: "));
-    assert!(words(6, 9).contains("entered at byte 9 of the record breaks its shape rule"));
-    assert_eq!(words(7, 0), "the result has over 8,000 events");
-    assert_eq!(words(8, 0), "the output is too short for the result");
-    assert_eq!(words(12, 3), "refused with number 12 at byte 3");
-    let error: Box<dyn std::error::Error + Send + Sync> = Refusal { number: 8, place: 0 }.into();
-    assert_eq!(error.to_string(), words(8, 0));
+    let refusals = [
+        (Refusal::Work, 1, None, "the work memory is under 65,536 bytes"),
+        (Refusal::Options, 2, None, "the options are over 63"),
+        (Refusal::Count { place: 0 }, 3, Some(0), "a length does not fit"),
+        (Refusal::Return { place: 6 }, 4, Some(6), "a carriage return"),
+        (Refusal::Event { place: 18 }, 5, Some(18), "an event is not sound"),
+        (Refusal::Shape { place: 9 }, 6, Some(9), "not the shape that the resolver asks for"),
+        (Refusal::Result, 7, None, "the result is over 8,000 events"),
+        (Refusal::Output, 8, None, "the output is too short for the result"),
+        (Refusal::Other { number: 12, place: 3 }, 12, Some(3), "no such refusal"),
+    ];
+    for (refusal, number, place, text) in refusals {
+        assert_eq!((refusal.number(), refusal.place(), refusal.text()), (number, place, text));
+    }
+    let shown = refusals.map(|(refusal, ..)| refusal.to_string());
+    assert_eq!(shown[0], "refused 1: the work memory is under 65,536 bytes");
+    assert_eq!(shown[2], "refused 3 at 0: a length does not fit");
+    assert_eq!(shown[4], "refused 5 at 18: an event is not sound");
+    assert_eq!(shown[7], "refused 8: the output is too short for the result");
+    assert_eq!(shown[8], "refused 12 at 3: no such refusal");
+    let error: Box<dyn std::error::Error + Send + Sync> = Refusal::Output.into();
+    assert_eq!(error.to_string(), shown[7]);
 }
 
 #[test]
-fn numbers_and_limits() {
-    let numbers = [
-        Refusal::WORK,
-        Refusal::OPTIONS,
-        Refusal::COUNT,
-        Refusal::RETURN,
-        Refusal::EVENT,
-        Refusal::SHAPE,
-        Refusal::RESULT,
-        Refusal::OUTPUT,
-    ];
-    assert_eq!(numbers, [1, 2, 3, 4, 5, 6, 7, 8]);
+fn limits() {
     assert_eq!(
         (MAX_DOCUMENT, MAX_LINE, MAX_EVENTS, MAX_DEPTH, MAX_RESULT),
         (16_384, 16_384, 2_048, 64, 8_000)
@@ -221,7 +260,16 @@ fn numbers_and_limits() {
 }
 
 #[test]
-fn work_memory() {
+fn lent_work_memory() {
+    let mut array = [7; 3];
+    assert_eq!(Work::from(&mut array).bytes(), [7, 7, 7]);
+    assert_eq!(format!("{:?}", Work::from(&mut array[1..])), "Work(2 bytes)");
+    assert_eq!(Work::LENGTH, 65_536);
+}
+
+#[cfg(feature = "alloc")]
+#[test]
+fn own_work_memory() {
     assert_eq!(Work::new().bytes(), [0; 65_536]);
     assert_eq!(Work::default().bytes().len(), Work::LENGTH);
     assert_eq!(Work::from(vec![7; 3].into_boxed_slice()).bytes(), [7, 7, 7]);
