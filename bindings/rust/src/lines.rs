@@ -70,7 +70,6 @@ impl Container {
 /// A list item that starts on a line.
 #[derive(Clone, Copy, Debug, PartialEq, Eq, Hash)]
 #[non_exhaustive]
-#[must_use]
 pub struct Item {
     /// How many bytes of the line its prefix takes.
     pub taken: usize,

@@ -84,7 +84,7 @@ pub struct Resolved<'a> {
 ///
 /// # Errors
 ///
-/// Every [`Refusal`] by name.
+/// Those of [`read`], [`Refusal::Shape`], [`Refusal::Result`] and [`Refusal::Output`].
 pub fn resolve_attention<'a>(record: &[u8], options: Options, out: &'a mut [u8], work: &mut Work<'_>) -> Result<Resolved<'a>, Refusal> {
     resolve_by(ffi::resolve_attention, record, options, out, work)
 }
@@ -94,7 +94,7 @@ pub fn resolve_attention<'a>(record: &[u8], options: Options, out: &'a mut [u8],
 ///
 /// # Errors
 ///
-/// Every [`Refusal`] by name but [`Refusal::Result`]: no record has a result as long.
+/// Those of [`read`], [`Refusal::Shape`] and [`Refusal::Output`]. Not [`Refusal::Result`]: no record has a result as long.
 pub fn resolve_headings<'a>(record: &[u8], options: Options, out: &'a mut [u8], work: &mut Work<'_>) -> Result<Resolved<'a>, Refusal> {
     resolve_by(ffi::resolve_headings, record, options, out, work)
 }
@@ -104,7 +104,7 @@ pub fn resolve_headings<'a>(record: &[u8], options: Options, out: &'a mut [u8], 
 ///
 /// # Errors
 ///
-/// Every [`Refusal`] by name but [`Refusal::Result`]: no record has a result as long.
+/// Those of [`read`], [`Refusal::Shape`] and [`Refusal::Output`]. Not [`Refusal::Result`]: no record has a result as long.
 pub fn resolve_lists<'a>(record: &[u8], options: Options, out: &'a mut [u8], work: &mut Work<'_>) -> Result<Resolved<'a>, Refusal> {
     resolve_by(ffi::resolve_lists, record, options, out, work)
 }
@@ -113,7 +113,7 @@ pub fn resolve_lists<'a>(record: &[u8], options: Options, out: &'a mut [u8], wor
 ///
 /// # Errors
 ///
-/// Those of [`resolve_attention`] but [`Refusal::Output`].
+/// Those of [`read`], [`Refusal::Shape`] and [`Refusal::Result`].
 #[cfg(feature = "alloc")]
 pub fn resolve_attention_to_vec(record: &[u8], options: Options, work: &mut Work<'_>) -> Result<Vec<Event>, Refusal> {
     to_vec(ffi::resolve_attention, record, options, work)
@@ -125,7 +125,7 @@ pub fn resolve_attention_to_vec(record: &[u8], options: Options, work: &mut Work
 ///
 /// # Errors
 ///
-/// Those of [`resolve_headings`] but [`Refusal::Output`].
+/// Those of [`read`] and [`Refusal::Shape`].
 #[cfg(feature = "alloc")]
 pub fn resolve_headings_to_vec(record: &[u8], options: Options, work: &mut Work<'_>) -> Result<Vec<Event>, Refusal> {
     to_vec(ffi::resolve_headings, record, options, work)
@@ -135,7 +135,7 @@ pub fn resolve_headings_to_vec(record: &[u8], options: Options, work: &mut Work<
 ///
 /// # Errors
 ///
-/// Those of [`resolve_lists`] but [`Refusal::Output`].
+/// Those of [`read`] and [`Refusal::Shape`].
 #[cfg(feature = "alloc")]
 pub fn resolve_lists_to_vec(record: &[u8], options: Options, work: &mut Work<'_>) -> Result<Vec<Event>, Refusal> {
     to_vec(ffi::resolve_lists, record, options, work)
