@@ -5,6 +5,7 @@
 
 use std::env;
 use std::ffi::OsString;
+use std::fs;
 use std::path::{Path, PathBuf};
 use std::process::{exit, Command};
 
@@ -27,6 +28,10 @@ fn main() {
     // The linker is told a folder and a name, and makes the file's name from these itself.
     if archive.file_name() != Some(ARCHIVE.as_ref()) {
         fail(&format!("The static library {shown} has another name than {ARCHIVE}."));
+    }
+    let target = env::var("CARGO_CFG_TARGET_ARCH").unwrap_or_default();
+    if target != "x86_64" && is_for_x86_64(&archive) {
+        println!("cargo::warning=The static library {shown} is for x86-64. For {target} this crate can be checked, but not linked.");
     }
     let folder = archive.parent().unwrap_or(&crate_folder);
     println!("cargo::rerun-if-changed={shown}");
@@ -52,6 +57,12 @@ fn installed() -> Option<PathBuf> {
         ));
     }
     Some(Path::new(&ask("--variable=libdir")?).join(ARCHIVE))
+}
+
+/// Whether an object in the archive is for x86-64: it begins as ELF files do, and has number 62 where they name the processor.
+fn is_for_x86_64(archive: &Path) -> bool {
+    let is_one = |bytes: &[u8]| bytes.starts_with(b"\x7fELF") && bytes.ends_with(&[62, 0]);
+    fs::read(archive).is_ok_and(|bytes| bytes.windows(20).any(is_one))
 }
 
 /// A variable of the environment, if it is set to something. The build depends on it from then on.

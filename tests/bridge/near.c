@@ -60,7 +60,7 @@ struct slice {
 
 /* Lays out a slice between guards from `at` on, and says where they end. */
 static size_t lay(struct call *c, int which, struct slice slice, size_t at) {
-    check(slice.length <= SHARED - at - 2 * GUARD, "the slices are longer than what is shared");
+    check(slice.length <= SHARED && at + slice.length + 2 * GUARD <= SHARED, "the slices are longer than what is shared");
     memset(shared + at, LAID, GUARD);
     at += GUARD;
     c->place[which] = slice.bytes ? at : 0;
