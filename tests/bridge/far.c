@@ -11,11 +11,17 @@
 
 static uint8_t *shared;
 
+/* Where a slice stands, or NULL. */
 static uint8_t *slice(const struct call *c, int which) { return c->place[which] ? shared + c->place[which] : NULL; }
 
 /* Answers are structs of nothing but size_t, which are 64 bits here. */
-#define ANSWER(struct_name, made) do { struct struct_name r = made; memcpy(c->answer, &r, sizeof r); } while (0)
+#define ANSWER(struct_name, made)          \
+    do {                                   \
+        struct struct_name r = made;       \
+        memcpy(c->answer, &r, sizeof r);   \
+    } while (0)
 
+/* Makes the call that is laid out, and lays out its answer. */
 static void make(struct call *c) {
     const uint8_t *in = slice(c, INPUT);
     uint8_t *out = slice(c, OUT), *work = slice(c, WORK);

@@ -18,7 +18,7 @@
 #include <sys/socket.h>
 #include <unistd.h>
 
-#define GUARD 64 /* bytes before and behind each slice */
+#define GUARD 64  /* bytes before and behind each slice */
 #define LAID 0xe3 /* what they hold */
 
 extern char **environ;
@@ -27,6 +27,7 @@ static pthread_mutex_t one_at_a_time = PTHREAD_MUTEX_INITIALIZER;
 static uint8_t *shared;
 static int far_end;
 
+/* Ends the program where something did not hold: then there is no answer to give. */
 static void check(int held, const char *what) {
     if (held) return;
     fprintf(stderr, "bridge: %s\n", what);
@@ -53,6 +54,7 @@ static void start(void) {
     far_end = ends[0];
 }
 
+/* A slice of the caller's. */
 struct slice {
     uint8_t *bytes;
     size_t length;
@@ -101,14 +103,18 @@ static struct call cross(struct call c, const uint8_t *in, size_t in_length, uin
     return c;
 }
 
+/* The eight calls, as the header has them. */
+
 struct lark_reading lark_read(const uint8_t *record, size_t record_length, uint32_t options, uint8_t *work, size_t work_length) {
-    struct call c = cross((struct call){.name = READ, .options = options}, record, record_length, NULL, 0, work, work_length);
+    struct call c = {.name = READ, .options = options};
+    c = cross(c, record, record_length, NULL, 0, work, work_length);
     return (struct lark_reading){c.answer[0], c.answer[1], c.answer[2], c.answer[3]};
 }
 
 static struct lark_resolved resolve(uint32_t name, const uint8_t *record, size_t record_length, uint32_t options, uint8_t *out, size_t out_length,
                                     uint8_t *work, size_t work_length) {
-    struct call c = cross((struct call){.name = name, .options = options}, record, record_length, out, out_length, work, work_length);
+    struct call c = {.name = name, .options = options};
+    c = cross(c, record, record_length, out, out_length, work, work_length);
     return (struct lark_resolved){c.answer[0], c.answer[1], c.answer[2], c.answer[3], c.answer[4]};
 }
 
@@ -122,21 +128,25 @@ RESOLVER(lark_resolve_headings, RESOLVE_HEADINGS)
 RESOLVER(lark_resolve_lists, RESOLVE_LISTS)
 
 struct lark_spaces lark_space_or_tab(const uint8_t *line, size_t line_length, uint32_t options, size_t min, size_t max) {
-    struct call c = cross((struct call){.name = SPACE_OR_TAB, .options = options, .argument = {min, max}}, line, line_length, NULL, 0, NULL, 0);
+    struct call c = {.name = SPACE_OR_TAB, .options = options, .argument = {min, max}};
+    c = cross(c, line, line_length, NULL, 0, NULL, 0);
     return (struct lark_spaces){c.answer[0], c.answer[1], c.answer[2], c.answer[3]};
 }
 
 struct lark_item lark_list_item(const uint8_t *line, size_t line_length, uint32_t options, uint32_t interrupting) {
-    struct call c = cross((struct call){.name = LIST_ITEM, .options = options, .argument = {interrupting}}, line, line_length, NULL, 0, NULL, 0);
+    struct call c = {.name = LIST_ITEM, .options = options, .argument = {interrupting}};
+    c = cross(c, line, line_length, NULL, 0, NULL, 0);
     return (struct lark_item){c.answer[0], c.answer[1], c.answer[2], c.answer[3], c.answer[4], c.answer[5], c.answer[6]};
 }
 
 struct lark_going lark_continuation(const uint8_t *line, size_t line_length, uint32_t options, size_t size, uint32_t blank, uint32_t mark) {
-    struct call c = cross((struct call){.name = CONTINUATION, .options = options, .argument = {size, blank, mark}}, line, line_length, NULL, 0, NULL, 0);
+    struct call c = {.name = CONTINUATION, .options = options, .argument = {size, blank, mark}};
+    c = cross(c, line, line_length, NULL, 0, NULL, 0);
     return (struct lark_going){c.answer[0], c.answer[1], c.answer[2], c.answer[3], c.answer[4]};
 }
 
 struct lark_headed lark_heading(const uint8_t *line, size_t line_length, uint32_t options, uint8_t *out, size_t out_length) {
-    struct call c = cross((struct call){.name = HEADING, .options = options}, line, line_length, out, out_length, NULL, 0);
+    struct call c = {.name = HEADING, .options = options};
+    c = cross(c, line, line_length, out, out_length, NULL, 0);
     return (struct lark_headed){c.answer[0], c.answer[1], c.answer[2], c.answer[3]};
 }

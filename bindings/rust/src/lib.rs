@@ -7,8 +7,9 @@
 //! [`resolve_headings`] and [`resolve_lists`] write the events that come out. The line readers [`space_or_tab`], [`list_item`],
 //! [`continuation`] and [`heading`] take one line.
 //!
-//! There is no tokenizer here: the events come from the caller, in part by the line readers. A result is a section, and [`record()`] makes a record of it
-//! for the next resolver; but a result may have more events than a record may, and deeper ones, attention's most of all, so attention comes last.
+//! There is no tokenizer here: the events come from the caller, in part by the line readers. A result is a section, and [`record_into`] makes a
+//! record of it for the next resolver; but a result may have more events than a record may, and deeper ones, attention's most of all, so attention
+//! comes last.
 //!
 //! What a call answers and writes depends on the record or line, the options, the arguments and the lengths of the buffers alone. It never
 //! depends on what a buffer held before. A [`Refusal`] leaves the output as it was. The work memory is zero after every call.

@@ -16,6 +16,9 @@ fn spaces_and_tabs() {
     assert_eq!(space_or_tab(b"a", OPTIONS, 0, 3), Ok(Some(0)));
     assert_eq!(space_or_tab(b"", OPTIONS, 0, 3), Ok(Some(0)));
     assert_eq!(space_or_tab(b"  \n  ", OPTIONS, 0, usize::MAX), Ok(Some(2)));
+    // numbers whose lower bits are 0
+    assert_eq!(space_or_tab(b"  a", OPTIONS, 0, 1 << 16), Ok(Some(2)));
+    assert_eq!(space_or_tab(b"  a", OPTIONS, 0, 1 << 32), Ok(Some(2)));
 }
 
 #[test]
@@ -24,6 +27,8 @@ fn too_few() {
     assert_eq!(space_or_tab(b"   a", OPTIONS, 2, 1), Ok(None));
     assert_eq!(space_or_tab(b" \n ", OPTIONS, 2, 9), Ok(None));
     assert_eq!(space_or_tab(b"", OPTIONS, usize::MAX, usize::MAX), Ok(None));
+    assert_eq!(space_or_tab(b"  a", OPTIONS, 1 << 16, usize::MAX), Ok(None));
+    assert_eq!(space_or_tab(b"  a", OPTIONS, 1 << 32, usize::MAX), Ok(None));
 }
 
 /// An item as the tests write it down: what is taken, and the container.
@@ -56,6 +61,7 @@ fn items() {
     assert_eq!(item_on(b"    - a", WITHOUT_CODE, false), item(6, 6, dash));
     assert_eq!(item_on(b"-", OPTIONS, false), blank_item(1, 2, dash));
     assert_eq!(item_on(b"  1.   \na", OPTIONS, false), blank_item(4, 5, dot));
+    assert_eq!(item_on(b"1)", OPTIONS, false), blank_item(2, 3, ListKind::Ordered(b')')));
 }
 
 #[test]
@@ -103,7 +109,9 @@ fn continuations() {
         assert_eq!(continuation(b" a", OPTIONS, clear(2)), stops(clear(2)));
         assert_eq!(continuation(b"a", OPTIONS, set(0)), stops(clear(0)));
         assert_eq!(continuation(b" a", OPTIONS, set(0)), goes(0, clear(0)));
-        assert_eq!(continuation(b"  a", OPTIONS, set(usize::MAX)), stops(clear(usize::MAX)));
+        for size in [1 << 16, 1 << 32, usize::MAX] {
+            assert_eq!(continuation(b"  a", OPTIONS, set(size)), stops(clear(size)));
+        }
 
         // no option is asked for
         assert_eq!(continuation(b"  a", Options::NONE, clear(2)), goes(2, clear(2)));

@@ -1,4 +1,4 @@
-//! What the tests share: events in a short notation, memory to lend whose surroundings are looked at too, and calls whose buffers are looked at whole.
+//! What the tests share: events in a short notation, memory to lend that lies inside a larger buffer, and calls after which all of it is looked at.
 
 // Each test file is a crate of its own and uses a part of this.
 #![allow(dead_code)]
