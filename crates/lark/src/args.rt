@@ -1,7 +1,8 @@
 // The arguments behind a command: options, and at most one operand, which is a text or the name of a file.
 //
 // A text may begin with a dash, as the line of a list item does. So where the operand is a text, only the options that the command has are
-// options; where it is a file, any other word with a dash is wrong.
+// options; where it is a file, any other word that looks like one is wrong. Where there are two texts, one that looks like an option was meant
+// as one.
 
 use crate::say::blame;
 use crate::say::wrong;
@@ -28,8 +29,8 @@ const TOO_LARGE: u8 = 4;
 const USUAL: u32 = 59;
 
 // What is asked for. Of a line, `continuing` says that an item's size and flag are given. The operand is given by its number among the
-// arguments, or is 0 where there is none. `awaits` is the letter of the option whose number is the next word, or 0, and `ended` says that --
-// was there. Where something is wrong, `culprit` is the number of that argument.
+// arguments, or is 0 where there is none; `dashed` says that it looks like an option. `awaits` is the letter of the option whose number is the
+// next word, or 0, and `ended` says that -- was there. Where something is wrong, `culprit` is the number of that argument.
 pub struct Asked {
     pub options: u32,
     pub as_text: bool,
@@ -38,6 +39,7 @@ pub struct Asked {
     pub size: usize,
     pub blank: bool,
     pub operand: usize,
+    pub dashed: bool,
     pub awaits: u8,
     pub ended: bool,
     pub wrong: u8,
@@ -105,35 +107,48 @@ fn is_too_large(awaits: u8, value: u32) -> bool {
 
 // Argument i as the number behind an option.
 fn take_number(asked: Asked, i: usize) -> Asked {
-    let mut asked = asked;
     let mut word = [0u8; 32];
     let n = os::arg(i, &mut word);
     match spelled(&word[..n]) {
         Number::Is(value) => {
             if is_too_large(asked.awaits, value) {
-                asked.wrong = TOO_LARGE;
-                asked.culprit = i;
-                return asked;
+                return put_wrong(asked, TOO_LARGE, i);
             }
             return put_number(asked, value);
         }
         Number::Not => {
-            asked.wrong = NO_NUMBER;
-            asked.culprit = i;
+            return put_wrong(asked, NO_NUMBER, i);
         }
     }
+}
+
+// What is wrong with an argument, by its number.
+fn put_wrong(asked: Asked, wrong: u8, culprit: usize) -> Asked {
+    let mut asked = asked;
+    asked.wrong = wrong;
+    asked.culprit = culprit;
     asked
 }
 
-// Argument i as the operand.
-fn take_operand(asked: Asked, i: usize) -> Asked {
-    let mut asked = asked;
-    if asked.operand == 0 {
-        asked.operand = i;
-    } else {
-        asked.wrong = ONE_TOO_MANY;
-        asked.culprit = i;
+// Argument i is a second operand: of the two the first that looks like an option is blamed as one, or else this one as one too many.
+fn blame_operand(asked: Asked, i: usize, dashed: bool) -> Asked {
+    if asked.dashed {
+        return put_wrong(asked, UNKNOWN, asked.operand);
     }
+    if dashed {
+        return put_wrong(asked, UNKNOWN, i);
+    }
+    put_wrong(asked, ONE_TOO_MANY, i)
+}
+
+// Argument i as the operand; `dashed` says that it looks like an option.
+fn take_operand(asked: Asked, i: usize, dashed: bool) -> Asked {
+    let mut asked = asked;
+    if asked.operand != 0 {
+        return blame_operand(asked, i, dashed);
+    }
+    asked.operand = i;
+    asked.dashed = dashed;
     asked
 }
 
@@ -148,15 +163,13 @@ fn letter(word: &[u8]) -> u8 {
     word[1]
 }
 
-// Whether a word that is no option of the command's is to be one: a dash and more. Of a longer word `first` is all that is known.
-fn is_unknown(first: u8, n: usize, takes: u8) -> bool {
-    if takes < FILE {
-        return false;
-    }
+// Whether a word that begins with these two bytes looks like an option: a dash with more right behind it. A list item has a space there, and a
+// dash alone nothing, which is a zero byte.
+fn is_dashed(first: u8, second: u8) -> bool {
     if first != b'-' {
         return false;
     }
-    n != 1
+    second > b' '
 }
 
 // Whether an option is one that only a line has.
@@ -188,8 +201,19 @@ fn take_of_line(asked: Asked, option: u8) -> Asked {
     asked
 }
 
-// Argument i, by its letter as an option and by whether it is an option that the command does not have.
-fn take_option(asked: Asked, i: usize, takes: u8, option: u8, unknown: bool) -> Asked {
+// Argument i as an operand, where it is none of the command's options. A file's name does not look like one.
+fn take_other(asked: Asked, i: usize, takes: u8, dashed: bool) -> Asked {
+    if takes < FILE {
+        return take_operand(asked, i, dashed);
+    }
+    if dashed {
+        return put_wrong(asked, UNKNOWN, i);
+    }
+    take_operand(asked, i, dashed)
+}
+
+// Argument i, by its letter as an option and by whether it looks like one.
+fn take_option(asked: Asked, i: usize, takes: u8, option: u8, dashed: bool) -> Asked {
     let mut asked = asked;
     if option == b'o' {
         asked.awaits = option;
@@ -208,12 +232,7 @@ fn take_option(asked: Asked, i: usize, takes: u8, option: u8, unknown: bool) -> 
     if is_of_line(option, takes) {
         return take_of_line(asked, option);
     }
-    if unknown {
-        asked.wrong = UNKNOWN;
-        asked.culprit = i;
-        return asked;
-    }
-    take_operand(asked, i)
+    take_other(asked, i, takes, dashed)
 }
 
 // Argument i where no number is awaited and -- was not there.
@@ -221,7 +240,7 @@ fn take_word(asked: Asked, i: usize, takes: u8) -> Asked {
     let mut word = [0u8; 3];
     let n = os::arg(i, &mut word);
     let option = letter(&word[..n]);
-    take_option(asked, i, takes, option, is_unknown(word[0], n, takes))
+    take_option(asked, i, takes, option, is_dashed(word[0], word[1]))
 }
 
 // Argument i. What is wrong first is what is said.
@@ -233,7 +252,7 @@ fn take(asked: Asked, i: usize, takes: u8) -> Asked {
         return take_number(asked, i);
     }
     if asked.ended {
-        return take_operand(asked, i);
+        return take_operand(asked, i, false);
     }
     take_word(asked, i, takes)
 }
@@ -249,6 +268,7 @@ pub fn arguments(from: usize, takes: u8) -> Asked {
         size: 0,
         blank: false,
         operand: 0,
+        dashed: false,
         awaits: 0,
         ended: false,
         wrong: 0,
@@ -272,6 +292,22 @@ fn say_wrong(what: u8, culprit: usize) -> u8 {
     }
 }
 
+// Says that an option, by its letter, wants a number.
+fn ask_number(option: u8) -> u8 {
+    if option == b'c' {
+        return wrong(b"-c wants a number");
+    }
+    wrong(b"-o wants a number")
+}
+
+// Whether -b stands alone: it says something of the item whose size -c gives.
+fn lacks_size(asked: Asked) -> bool {
+    if asked.continuing {
+        return false;
+    }
+    asked.blank
+}
+
 // Whether the arguments are good; says what is wrong where they are not.
 pub fn are_good(asked: Asked) -> bool {
     if asked.wrong != 0 {
@@ -279,7 +315,11 @@ pub fn are_good(asked: Asked) -> bool {
         return false;
     }
     if asked.awaits != 0 {
-        wrong(b"the last option wants a number");
+        ask_number(asked.awaits);
+        return false;
+    }
+    if lacks_size(asked) {
+        wrong(b"-b wants -c beside it");
         return false;
     }
     true

@@ -1,4 +1,59 @@
-// The commands, in words.
+// Help and version: the words that ask for them, and what is then said.
+
+use crate::words::same;
+use libc::STDOUT_FILENO;
+
+// What a word asks for: nothing, these words, the version, or that behind it no word asks for anything.
+const NOTHING: u8 = 0;
+
+pub const HELP: u8 = 1;
+
+pub const VERSION: u8 = 2;
+
+const ENDED: u8 = 3;
+
+// What a word asks for.
+fn wish_of(word: &[u8]) -> u8 {
+    if same(word, b"--help") {
+        return HELP;
+    }
+    if same(word, b"-h") {
+        return HELP;
+    }
+    if same(word, b"--version") {
+        return VERSION;
+    }
+    if same(word, b"--") {
+        return ENDED;
+    }
+    NOTHING
+}
+
+// What argument i asks for.
+fn wish_at(i: usize) -> u8 {
+    let mut word = [0u8; 16];
+    let n = os::arg(i, &mut word);
+    wish_of(&word[..n])
+}
+
+// What the arguments from a number on ask for: the first that asks for something, wherever it stands before --.
+pub fn wish_from(from: usize) -> u8 {
+    let count = os::arg_count();
+    let mut i = from;
+    while i < count {
+        let wish = wish_at(i);
+        if wish != NOTHING {
+            return wish;
+        }
+        i += 1;
+    }
+    NOTHING
+}
+
+// The version, which the header and the binding have too; whether it was written.
+pub fn say_version() -> bool {
+    io::write_all(STDOUT_FILENO, b"lark 0.2.0\n")
+}
 
 // All of it, on a descriptor, as it stands on the terminal; whether it was written.
 pub fn say_help(fd: i32) -> bool {
@@ -14,11 +69,13 @@ pub fn say_help(fd: i32) -> bool {
   lark headings [-o N] [-t] [FILE]   the same with the headings resolved
   lark lists [-o N] [-t] [FILE]      the same with the lists resolved
   lark read [-o N] [FILE]            whether a record is good, and its two counts
-  lark help                          these words
+  lark help                          these words; --help or -h does the same, also behind a command
+  lark version                       the version; --version does the same, also behind a command
 
 Without TEXT or FILE, or with - for FILE, standard input is read; of a TEXT that comes from there one line feed at the
-end is dropped. A TEXT may begin with a dash; -- ends the options. show and record take each longest run of one marker
-for an attention run and all between for data: they know nothing of escapes, code or links.
+end is dropped. A TEXT may begin with a dash; -- ends the options, and behind it even --help is a TEXT. show and record
+take each longest run of one marker for an attention run and all between for data: they know nothing of escapes, code
+or links.
 
 N is a sum: 1 attention, 2 strikethrough, 4 single tilde, 8 heading, 16 list item, 32 code indented; 59 without -o.
 Exit status: 0 answered; 1 refused, with the refusal on standard error; 2 bad arguments, or a file that fails.

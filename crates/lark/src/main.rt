@@ -7,7 +7,7 @@
 
 mod args; // the arguments behind a command
 mod events; // a section of events, read and said
-mod help; // the commands, in words
+mod help; // help and version
 mod input; // texts and records, from arguments, files and standard input
 mod line; // the command `line`
 mod resolve; // the commands on records
@@ -24,6 +24,11 @@ use args::LINE;
 use args::TEXT;
 use args::are_good;
 use args::arguments;
+use help::HELP;
+use help::VERSION;
+use help::say_help;
+use help::say_version;
+use help::wish_from;
 use input::Got;
 use input::TEXT_ROOM;
 use input::text_asked;
@@ -114,18 +119,7 @@ fn run_on_text(command: OnText, asked: Asked) -> u8 {
     }
 }
 
-// Whether the command is one of the three words for help.
-fn asks_for_help(command: &[u8]) -> bool {
-    if same(command, b"help") {
-        return true;
-    }
-    if same(command, b"--help") {
-        return true;
-    }
-    same(command, b"-h")
-}
-
-// The commands on a text, and help; `next` is the number of the argument behind the command.
+// The commands on a text, help and version; `next` is the number of the argument behind the command.
 fn run(command: &[u8], next: usize) -> u8 {
     if same(command, b"show") {
         return run_on_text(OnText::Show, arguments(next, TEXT));
@@ -136,8 +130,11 @@ fn run(command: &[u8], next: usize) -> u8 {
     if same(command, b"record") {
         return run_on_text(OnText::Record, arguments(next, TEXT));
     }
-    if asks_for_help(command) {
-        return done(help::say_help(libc::STDOUT_FILENO));
+    if same(command, b"help") {
+        return done(say_help(libc::STDOUT_FILENO));
+    }
+    if same(command, b"version") {
+        return done(say_version());
     }
     run_on_record(command, next)
 }
@@ -147,10 +144,19 @@ fn command_at(i: usize) -> u8 {
     let mut word = [0u8; 16];
     let n = os::arg(i, &mut word);
     if i >= os::arg_count() {
-        help::say_help(libc::STDERR_FILENO);
+        say_help(libc::STDERR_FILENO);
         return WRONG;
     }
     run(&word[..n], i + 1)
+}
+
+// Help or version, where one of the arguments from number i on asks for it, or the command, which is argument i.
+fn answer_from(i: usize) -> u8 {
+    match wish_from(i) {
+        HELP => done(say_help(libc::STDOUT_FILENO)),
+        VERSION => done(say_version()),
+        _ => command_at(i),
+    }
 }
 
 // Whether the first argument asks for the status on its descriptor.
@@ -168,8 +174,8 @@ fn tell(status: u8) {
 // The command is the first argument, or the second where the first asks for the status.
 fn main() {
     if wants_status() {
-        tell(command_at(2));
+        tell(answer_from(2));
     } else {
-        command_at(1);
+        answer_from(1);
     }
 }

@@ -64,12 +64,21 @@ pub fn wrong(what: &[u8]) -> u8 {
     WRONG
 }
 
+// A word, or two quotes for one that is empty.
+fn complain_word(word: &[u8]) {
+    if word.len() == 0 {
+        complain(b"''");
+        return;
+    }
+    complain(word);
+}
+
 // Argument i; of a long one the beginning.
 fn complain_argument(i: usize) {
     let mut word = [0u8; 40];
     let n = os::arg(i, &mut word);
     if os::errno() == 0 {
-        complain(&word[..n]);
+        complain_word(&word[..n]);
         return;
     }
     complain(&word);
@@ -89,6 +98,10 @@ pub fn blame(what: &[u8], i: usize) -> u8 {
 // What failed, as a file's name or other words, in a line that ends with the system's reason.
 pub fn fail(what: &[u8]) -> u8 {
     complain(b"lark: ");
+    if what.len() == 0 {
+        os::fail(b"''");
+        return WRONG;
+    }
     os::fail(what);
     WRONG
 }
