@@ -2,13 +2,14 @@
 
 use crate::say::end_line;
 use crate::say::say;
-use crate::say::say_number;
-use crate::say::say_with;
+use libc::STDERR_FILENO;
+use libc::STDOUT_FILENO;
 use record::event::Event;
 use record::event::event_at;
 use record::limits::ENTER;
 use record::limits::EXIT;
 use record::limits::MAX_RESULT;
+ghost use Prim.Native.Nat.{_≤_};
 
 // A section's k-th event, counted from 0. There are as many as the call answered; an exit at 0 stands for any other.
 pub fn event_of(section: &[u8], k: usize) -> Event {
@@ -30,19 +31,40 @@ pub fn event_of(section: &[u8], k: usize) -> Event {
     event_at(section, at)
 }
 
-// The k-th event, + for enter and - for exit.
+// An event's kind: + for enter, - for exit, and ? for what is neither, which only a record that is refused has.
+fn write_kind(fd: i32, kind: u8) {
+    match kind {
+        ENTER => {
+            io::write_all(fd, b"+");
+        }
+        EXIT => {
+            io::write_all(fd, b"-");
+        }
+        _ => {
+            io::write_all(fd, b"?");
+        }
+    }
+}
+
+// An event in the notation, on a descriptor.
+fn write_event(fd: i32, event: Event) {
+    write_kind(fd, event.kind);
+    io::print_decimal(fd, event.name as u64);
+    io::write_all(fd, b"@");
+    io::print_decimal(fd, event.place as u64);
+}
+
+// The k-th event, on standard error.
+pub fn complain_event(section: &[u8], k: usize) {
+    write_event(STDERR_FILENO, event_of(section, k));
+}
+
+// The k-th event, behind a space where it is not the first.
 fn say_event(section: &[u8], k: usize) {
-    let event = event_of(section, k);
     if k > 0 {
         say(b" ");
     }
-    if event.kind == ENTER {
-        say(b"+");
-    } else {
-        say(b"-");
-    }
-    say_number(event.name as usize);
-    say_with(b"@", event.place);
+    write_event(STDOUT_FILENO, event_of(section, k));
 }
 
 // So many events, on a line; whether it was written.
@@ -67,6 +89,55 @@ fn open_after(event: Event, open: usize) -> usize {
         return 0;
     }
     open - 1
+}
+
+// How many events are open before the k-th.
+pub fn open_before(section: &[u8], k: usize) -> usize {
+    let mut open = 0;
+    let mut i = 0;
+    while i < k {
+        open = open_after(event_of(section, i), open);
+        i += 1;
+    }
+    open
+}
+
+// The number of the innermost event that is open before the k-th, or k where none is.
+pub fn innermost_before(section: &[u8], k: usize) -> usize {
+    let mut left: usize = 0;
+    let mut i = k;
+    while i > 0 {
+        i -= 1;
+        let event = event_of(section, i);
+        if event.kind == ENTER {
+            if left == 0 {
+                return i;
+            }
+            left -= 1;
+        } else {
+            left += 1;
+        }
+    }
+    k
+}
+
+// Whether the k-th event has this kind and name.
+pub fn stands(section: &[u8], k: usize, kind: u8, name: u8) -> bool {
+    let event = event_of(section, k);
+    if event.kind != kind {
+        return false;
+    }
+    event.name == name
+}
+
+// Whether the k-th event enters this name and the next one leaves it.
+pub fn is_leaf(section: &[u8], k: usize, name: u8) -> bool
+    requires { ⌜ k ≤ 8000 ⌝ }
+{
+    if !stands(section, k, ENTER, name) {
+        return false;
+    }
+    stands(section, k + 1, EXIT, name)
 }
 
 // The place where the event that the k-th one enters is left.

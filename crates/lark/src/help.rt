@@ -78,7 +78,8 @@ take each longest run of one marker for an attention run and all between for dat
 or links.
 
 N is a sum: 1 attention, 2 strikethrough, 4 single tilde, 8 heading, 16 list item, 32 code indented; 59 without -o.
-Exit status: 0 answered; 1 refused, with the refusal on standard error; 2 bad arguments, or a file that fails.
+Exit status: 0 answered; 1 refused, with the refusal on standard error; 2 bad arguments, or a file that fails. The place
+that a refusal names is an offset in the TEXT, or in the record where a FILE is read.
 ",
     )
 }

@@ -8,9 +8,9 @@ use crate::events::say_events;
 use crate::input::RECORD_ROOM;
 use crate::input::TEXT_ROOM;
 use crate::input::memory;
+use crate::refuse::refuse_line;
 use crate::say::done;
 use crate::say::end_line;
-use crate::say::refuse;
 use crate::say::say;
 use crate::say::say_number;
 use crate::say::say_range;
@@ -31,6 +31,7 @@ use lines::spaces::space_or_tab;
 use record::bytes::put_u32;
 use record::check::Refusal;
 use record::limits::HEADING_TEXT;
+use record::limits::MAX_EVENTS;
 ghost use Prim.Native.Nat.{_≤_};
 ghost use lib.ListN.{length};
 
@@ -62,12 +63,22 @@ fn put_heading(line: &[u8], section: &[u8], events: usize, rec: &mut [u8]) -> us
     8 + d + 8 * events
 }
 
-// The resolved events of a record, put into the section.
+// A refusal of a heading's record, which is for its events alone, by the place in the line of the first piece for which it has no room: its enter
+// is the last event that a record takes, where the heading's exit should be.
+fn crowded(refusal: Refusal, section: &[u8]) -> Title {
+    let event = event_of(section, MAX_EVENTS - 1);
+    Title::Refused(Refusal {
+        number: refusal.number,
+        place: event.place,
+    })
+}
+
+// The resolved events of a record, put into the section, where its events as they were read are.
 fn resolve_title(rec: &[u8], options: u32, section: &mut [u8]) -> Title {
     let mut work = memory();
     match resolve_headings(rec, options, section, &mut work) {
         Answer::Resolved { events } => Title::Events(events),
-        Answer::Refused(refusal) => Title::Refused(refusal),
+        Answer::Refused(refusal) => crowded(refusal, section),
     }
 }
 
@@ -220,7 +231,7 @@ pub fn read_line(line: &[u8], asked: Asked) -> u8 {
     let mut section = memory();
     let title = find_title(line, asked.options, &mut section);
     if let Title::Refused(refusal) = title {
-        return refuse(refusal);
+        return refuse_line(line, refusal);
     }
     answer(line, asked, &section, title)
 }

@@ -9,10 +9,14 @@ mod args; // the arguments behind a command
 mod events; // a section of events, read and said
 mod help; // help and version
 mod input; // texts and records, from arguments, files and standard input
+mod lengths; // the cause of refusal 3
 mod line; // the command `line`
+mod refuse; // a refusal in a line
 mod resolve; // the commands on records
 mod say; // words on standard output and standard error, and the statuses
+mod shapes; // the cause of refusal 6
 mod show; // the commands `show` and `record`
+mod soundness; // the cause of refusal 5
 mod split; // a text made into a record
 mod tree; // groups as an indented tree
 mod words; // bytes compared and copied

@@ -7,10 +7,10 @@ use crate::input::Got;
 use crate::input::RECORD_ROOM;
 use crate::input::memory;
 use crate::input::record_asked;
+use crate::refuse::refuse_record;
 use crate::say::WRONG;
 use crate::say::done;
 use crate::say::end_line;
-use crate::say::refuse;
 use crate::say::say;
 use crate::say::say_with;
 use record::check::Reading;
@@ -75,39 +75,28 @@ fn say_section(out: &[u8], events: usize) -> bool {
     say(&out[0..end])
 }
 
-// The section that was made, as text or as bytes, or the refusal.
-fn say_made(made: Made, out: &[u8], as_text: bool) -> u8 {
-    match made {
-        Made::Events(events) => {
-            if as_text {
-                return done(say_events(out, events));
-            }
-            return done(say_section(out, events));
-        }
-        Made::Refused(refusal) => {
-            return refuse(refusal);
-        }
+// The section that was made, as text or as bytes.
+fn say_made(out: &[u8], events: usize, as_text: bool) -> u8 {
+    if as_text {
+        return done(say_events(out, events));
     }
+    done(say_section(out, events))
 }
 
 // The two counts of a good record.
-fn say_reading(reading: Reading) -> u8 {
-    match reading {
-        Reading::Good { document, events } => {
-            say_with(b"document ", document);
-            say_with(b" events ", events);
-            return done(end_line());
-        }
-        Reading::Refused(refusal) => {
-            return refuse(refusal);
-        }
-    }
+fn say_counts(document: usize, events: usize) -> u8 {
+    say_with(b"document ", document);
+    say_with(b" events ", events);
+    done(end_line())
 }
 
 // Whether a record is good, and its two counts.
 fn run_read(rec: &[u8], options: u32) -> u8 {
     let mut work = memory();
-    say_reading(record::call::read(rec, options, &mut work))
+    match record::call::read(rec, options, &mut work) {
+        Reading::Good { document, events } => say_counts(document, events),
+        Reading::Refused(refusal) => refuse_record(rec, options, refusal),
+    }
 }
 
 // One of the three resolvers.
@@ -123,8 +112,10 @@ fn make(resolver: Resolver, rec: &[u8], options: u32, out: &mut [u8], work: &mut
 fn run_resolver(resolver: Resolver, rec: &[u8], options: u32, as_text: bool) -> u8 {
     let mut out = memory();
     let mut work = memory();
-    let made = make(resolver, rec, options, &mut out, &mut work);
-    say_made(made, &out, as_text)
+    match make(resolver, rec, options, &mut out, &mut work) {
+        Made::Events(events) => say_made(&out, events, as_text),
+        Made::Refused(refusal) => refuse_record(rec, options, refusal),
+    }
 }
 
 // The call that is asked for, on a record; only a resolver's answer can be had as text.

@@ -4,7 +4,6 @@
 
 use libc::STDERR_FILENO;
 use libc::STDOUT_FILENO;
-use record::check::Refusal;
 ghost use Prim.Native.Nat.{_≤_, _<_};
 ghost use lib.ListN.{length};
 
@@ -37,12 +36,12 @@ pub fn say_with(text: &[u8], n: usize) {
 }
 
 // Words on standard error.
-fn complain(text: &[u8]) {
+pub fn complain(text: &[u8]) {
     io::write_all(STDERR_FILENO, text);
 }
 
 // Words and a number, on standard error.
-fn complain_with(text: &[u8], n: usize) {
+pub fn complain_with(text: &[u8], n: usize) {
     complain(text);
     io::print_decimal(STDERR_FILENO, n as u64);
 }
@@ -104,34 +103,6 @@ pub fn fail(what: &[u8]) -> u8 {
     }
     os::fail(what);
     WRONG
-}
-
-// The row of document 01's table that a number stands for. Number 1 and number 8 are never given here, where 65,536 bytes of each are lent.
-fn complain_row(number: usize) {
-    match number {
-        1 => complain(b"the work memory is under 65,536 bytes"),
-        2 => complain(b"the options are over 63"),
-        3 => complain(
-            b"a count does not fit, is over its limit or runs past the record, bytes follow the last section, or a line is over 16,384 bytes",
-        ),
-        4 => complain(b"a carriage return"),
-        5 => complain(
-            b"a bad kind, name, zero byte or place, an exit without its enter, a depth over 64, or events left open",
-        ),
-        6 => complain(b"a run, heading or item that breaks the resolver's shape rule"),
-        7 => complain(b"the result is over 8,000 events"),
-        _ => complain(b"the output is too short"),
-    }
-}
-
-// A refusal in a line: its number, its place and its row's words.
-pub fn refuse(refusal: Refusal) -> u8 {
-    complain_with(b"lark: refused ", refusal.number);
-    complain_with(b" at ", refusal.place);
-    complain(b": ");
-    complain_row(refusal.number);
-    complain(b"\n");
-    REFUSED
 }
 
 // From one place up to another.

@@ -1,9 +1,9 @@
 // The commands `show` and `record`: a text made into a record, and resolved or written as it is.
 
 use crate::input::memory;
+use crate::refuse::refuse_text;
 use crate::say::done;
 use crate::say::end_line;
-use crate::say::refuse;
 use crate::say::say;
 use crate::say::say_quoted;
 use crate::say::say_with;
@@ -23,7 +23,7 @@ fn say_counts(groups: usize, tried: usize, events: usize) -> bool {
 }
 
 // The text, its tree and the counts, or the refusal.
-fn say_answer(text: &[u8], section: &[u8], answer: Answer) -> u8 {
+fn say_answer(text: &[u8], rec: &[u8], section: &[u8], answer: Answer) -> u8 {
     match answer {
         Answer::Resolved {
             events,
@@ -36,7 +36,7 @@ fn say_answer(text: &[u8], section: &[u8], answer: Answer) -> u8 {
             return done(say_counts(groups, tried, events));
         }
         Answer::Refused(refusal) => {
-            return refuse(refusal);
+            return refuse_text(text, rec, refusal);
         }
     }
 }
@@ -46,7 +46,7 @@ fn show_record(text: &[u8], rec: &[u8], options: u32) -> u8 {
     let mut out = memory();
     let mut work = memory();
     let answer = resolve_attention(rec, options, &mut out, &mut work);
-    say_answer(text, &out, answer)
+    say_answer(text, rec, &out, answer)
 }
 
 // The command `show`: a text's groups, by way of its record.
@@ -57,11 +57,11 @@ pub fn show_text(text: &[u8], options: u32) -> u8 {
 }
 
 // Only a good record is written.
-fn write_good(rec: &[u8], options: u32) -> u8 {
+fn write_good(text: &[u8], rec: &[u8], options: u32) -> u8 {
     let mut work = memory();
     match read(rec, options, &mut work) {
         Reading::Good { document, events } => done(say(rec)),
-        Reading::Refused(refusal) => refuse(refusal),
+        Reading::Refused(refusal) => refuse_text(text, rec, refusal),
     }
 }
 
@@ -69,5 +69,5 @@ fn write_good(rec: &[u8], options: u32) -> u8 {
 pub fn record_text(text: &[u8], options: u32) -> u8 {
     let mut rec = memory();
     let n = put_record(text, options, &mut rec);
-    write_good(&rec[0..n], options)
+    write_good(text, &rec[0..n], options)
 }

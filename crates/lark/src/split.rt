@@ -14,7 +14,7 @@ ghost use Prim.Native.Nat.{_+_, _≤_, _<_};
 ghost use lib.ListN.{length};
 
 // The marker that a byte is, or 0 where it is none or its option is off.
-fn marker(byte: u8, options: u32) -> u8 {
+pub fn marker(byte: u8, options: u32) -> u8 {
     if byte == b'~' {
         if options / 2 % 2 == 1 {
             return byte;
