@@ -11,6 +11,7 @@ mod help; // help and version
 mod input; // texts and records, from arguments, files and standard input
 mod lengths; // the cause of refusal 3
 mod line; // the command `line`
+mod quoted; // a user's bytes, where a terminal may show them
 mod refuse; // a refusal in a line
 mod resolve; // the commands on records
 mod say; // words on standard output and standard error, and the statuses

@@ -1,11 +1,11 @@
 // The commands `show` and `record`: a text made into a record, and resolved or written as it is.
 
 use crate::input::memory;
+use crate::quoted::say_quoted;
 use crate::refuse::refuse_text;
 use crate::say::done;
 use crate::say::end_line;
 use crate::say::say;
-use crate::say::say_quoted;
 use crate::say::say_with;
 use crate::split::put_record;
 use crate::tree::say_tree;

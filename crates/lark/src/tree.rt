@@ -2,9 +2,9 @@
 
 use crate::events::event_of;
 use crate::events::exit_of;
+use crate::quoted::say_quoted;
 use crate::say::end_line;
 use crate::say::say;
-use crate::say::say_quoted;
 use crate::say::say_range;
 use record::event::Event;
 use record::limits::DATA;

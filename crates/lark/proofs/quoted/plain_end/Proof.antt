@@ -1,10 +1,10 @@
--- `lark::say::plain_end` is safe, ends, and answers a place that is there. The measure is what is left of the text.
+-- `lark::quoted::plain_end` is safe, ends, and answers a place that is there. The measure is what is left of the text.
 -- Assumes nothing.
 use Prim.Native.Nat.{_≤_, _-_}
 use lib.ListN.{length}
 use borrow.Author.Needs.{needs}
-use Rattle.lark.proofs.say.plain_end.Statement.{statement}
-use Rattle.lark.proofs.say.plain_end.Tie as tie
+use Rattle.lark.proofs.quoted.plain_end.Statement.{statement}
+use Rattle.lark.proofs.quoted.plain_end.Tie as tie
 
 abbrev Inv-loop : tie.InvT-loop
 Inv-loop text at i₀ i = (at ≤ i) × (i ≤ length text)
@@ -15,11 +15,8 @@ abbrev μ-loop : tie.MeasureT-loop
 loop-holds : tie.Need-loop-holds Inv-loop μ-loop
 loop-holds c = search needs
 
-shared-slice-read-is-plain : tie.Need-shared-slice-read-is-plain Inv-loop μ-loop
-shared-slice-read-is-plain c = search needs
-
-is-plain-requires : tie.Need-is-plain-requires Inv-loop μ-loop
-is-plain-requires c κs = search needs
+plain-width-requires : tie.Need-plain-width-requires Inv-loop μ-loop
+plain-width-requires c κs = search needs
 
 returns : tie.Need-returns Inv-loop μ-loop
 returns c = search needs
@@ -43,8 +40,7 @@ plain-end-spec =
     Inv-loop
     μ-loop
     loop-holds
-    shared-slice-read-is-plain
-    is-plain-requires
+    plain-width-requires
     returns
     add-i
     loop-less
