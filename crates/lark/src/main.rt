@@ -1,7 +1,8 @@
 // lark: what the library makes of a text, a line or a record, for the terminal. `help.rt` has the commands.
 //
 // A Rattle program has no exit status of its own to give. So where its first argument is `--status` it writes the digit 0, 1 or 2 to
-// descriptor 3, and the script `lark` at the repository's root, which asks for that, leaves with it. Nobody else needs to pass it.
+// descriptor 3, and the script `lark` at the repository's root, which asks for that, leaves with it. Nor can it read TERM and NO_COLOR: the
+// script does, and says `--styled` behind `--status` where `show` is to use a terminal's styles. Nobody else needs to pass the two words.
 //
 // Each command finds out first whether something is wrong, and writes then, so that nothing is on standard output where something is.
 
@@ -19,6 +20,7 @@ mod shapes; // the cause of refusal 6
 mod show; // the commands `show` and `record`
 mod soundness; // the cause of refusal 5
 mod split; // a text made into a record
+mod style; // the styles of a text on a terminal
 mod tree; // groups as an indented tree
 mod words; // bytes compared and copied
 
@@ -91,7 +93,7 @@ fn run_on_record(command: &[u8], next: usize) -> u8 {
 
 // The commands on a text.
 enum OnText {
-    Show,
+    Show { styled: bool },
     Line,
     Record,
 }
@@ -99,7 +101,7 @@ enum OnText {
 // What a command says of its text, and the status that it leaves with.
 fn answer(command: OnText, text: &[u8], asked: Asked) -> u8 {
     match command {
-        OnText::Show => show::show_text(text, asked.options),
+        OnText::Show { styled } => show::show_text(text, asked.options, styled),
         OnText::Line => line::read_line(text, asked),
         OnText::Record => show::record_text(text, asked.options),
     }
@@ -125,9 +127,9 @@ fn run_on_text(command: OnText, asked: Asked) -> u8 {
 }
 
 // The commands on a text, help and version; `next` is the number of the argument behind the command.
-fn run(command: &[u8], next: usize) -> u8 {
+fn run(command: &[u8], next: usize, styled: bool) -> u8 {
     if same(command, b"show") {
-        return run_on_text(OnText::Show, arguments(next, TEXT));
+        return run_on_text(OnText::Show { styled: styled }, arguments(next, TEXT));
     }
     if same(command, b"line") {
         return run_on_text(OnText::Line, arguments(next, LINE));
@@ -145,30 +147,30 @@ fn run(command: &[u8], next: usize) -> u8 {
 }
 
 // The command is argument i. One that does not fit the word is none of ours.
-fn command_at(i: usize) -> u8 {
+fn command_at(i: usize, styled: bool) -> u8 {
     let mut word = [0u8; 16];
     let n = os::arg(i, &mut word);
     if i >= os::arg_count() {
         say_help(libc::STDERR_FILENO);
         return WRONG;
     }
-    run(&word[..n], i + 1)
+    run(&word[..n], i + 1, styled)
 }
 
 // Help or version, where one of the arguments from number i on asks for it, or the command, which is argument i.
-fn answer_from(i: usize) -> u8 {
+fn answer_from(i: usize, styled: bool) -> u8 {
     match wish_from(i) {
         HELP => done(say_help(libc::STDOUT_FILENO)),
         VERSION => done(say_version()),
-        _ => command_at(i),
+        _ => command_at(i, styled),
     }
 }
 
-// Whether the first argument asks for the status on its descriptor.
-fn wants_status() -> bool {
-    let mut word = [0u8; 16];
-    let n = os::arg(1, &mut word);
-    same(&word[..n], b"--status")
+// Whether argument i is this word.
+fn is_word(i: usize, word: &[u8]) -> bool {
+    let mut got = [0u8; 16];
+    let n = os::arg(i, &mut got);
+    same(&got[..n], word)
 }
 
 // Writes the status where the script `lark` reads it.
@@ -176,11 +178,15 @@ fn tell(status: u8) {
     io::print_decimal(STATUS_FILENO, status as u64);
 }
 
-// The command is the first argument, or the second where the first asks for the status.
+// The command is the first argument, or stands behind the words that the script `lark` says.
 fn main() {
-    if wants_status() {
-        tell(answer_from(2));
+    if !is_word(1, b"--status") {
+        answer_from(1, false);
+        return;
+    }
+    if is_word(2, b"--styled") {
+        tell(answer_from(3, true));
     } else {
-        answer_from(1);
+        tell(answer_from(2, false));
     }
 }

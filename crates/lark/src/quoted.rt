@@ -3,6 +3,9 @@
 // Text is said as it stands: ASCII but its control bytes, and the sequences of UTF-8 that RFC 3629 calls well-formed but the C1 controls, U+0080
 // to U+009F, which some terminals obey as they do ESC. Quotes, backslashes and all other bytes are escaped.
 
+use crate::say::say;
+use crate::style::begin_styles;
+use crate::style::end_styles;
 use libc::STDOUT_FILENO;
 ghost use Prim.Native.Nat.{_+_, _≤_, _<_};
 ghost use lib.ListN.{length};
@@ -162,9 +165,11 @@ pub fn put_escaped(fd: i32, text: &[u8]) {
     }
 }
 
-// A text between quotes, on standard output.
-pub fn say_quoted(text: &[u8]) {
-    io::write_all(STDOUT_FILENO, b"\"");
+// A text between quotes, on standard output, in a sum of styles.
+pub fn say_quoted(text: &[u8], styles: u8) {
+    say(b"\"");
+    begin_styles(styles);
     put_escaped(STDOUT_FILENO, text);
-    io::write_all(STDOUT_FILENO, b"\"");
+    end_styles(styles);
+    say(b"\"");
 }

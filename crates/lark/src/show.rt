@@ -8,6 +8,7 @@ use crate::say::end_line;
 use crate::say::say;
 use crate::say::say_with;
 use crate::split::put_record;
+use crate::style::PLAIN;
 use crate::tree::say_tree;
 use attention::call::Answer;
 use attention::call::resolve_attention;
@@ -23,16 +24,16 @@ fn say_counts(groups: usize, tried: usize, events: usize) -> bool {
 }
 
 // The text, its tree and the counts, or the refusal.
-fn say_answer(text: &[u8], rec: &[u8], section: &[u8], answer: Answer) -> u8 {
+fn say_answer(text: &[u8], rec: &[u8], section: &[u8], answer: Answer, styled: bool) -> u8 {
     match answer {
         Answer::Resolved {
             events,
             groups,
             tried,
         } => {
-            say_quoted(text);
+            say_quoted(text, PLAIN);
             end_line();
-            say_tree(text, section, events);
+            say_tree(text, section, events, styled);
             return done(say_counts(groups, tried, events));
         }
         Answer::Refused(refusal) => {
@@ -42,18 +43,18 @@ fn say_answer(text: &[u8], rec: &[u8], section: &[u8], answer: Answer) -> u8 {
 }
 
 // The record of a text, resolved.
-fn show_record(text: &[u8], rec: &[u8], options: u32) -> u8 {
+fn show_record(text: &[u8], rec: &[u8], options: u32, styled: bool) -> u8 {
     let mut out = memory();
     let mut work = memory();
     let answer = resolve_attention(rec, options, &mut out, &mut work);
-    say_answer(text, rec, &out, answer)
+    say_answer(text, rec, &out, answer, styled)
 }
 
-// The command `show`: a text's groups, by way of its record.
-pub fn show_text(text: &[u8], options: u32) -> u8 {
+// The command `show`: a text's groups, by way of its record, with or without styles.
+pub fn show_text(text: &[u8], options: u32, styled: bool) -> u8 {
     let mut rec = memory();
     let n = put_record(text, options, &mut rec);
-    show_record(text, &rec[0..n], options)
+    show_record(text, &rec[0..n], options, styled)
 }
 
 // Only a good record is written.
