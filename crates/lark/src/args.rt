@@ -1,20 +1,25 @@
-// The arguments behind a command: options, and at most one operand, which is a text or the name of a file.
+// The arguments behind a command: options, and at most one operand, which is a text or the name of a file. Behind the text of `record` stand
+// events; they begin with a dash too, so no word there is an option.
 //
 // A text may begin with a dash, as the line of a list item does. So where the operand is a text, only the options that the command has are
 // options; where it is a file, any other word that looks like one is wrong. Where there are two texts, one that looks like an option was meant
 // as one.
 
+use crate::number::Number;
+use crate::number::spelled;
 use crate::say::blame;
 use crate::say::wrong;
 
-// What a command takes: a text, a text that is a line, a file, a file whose events can be had as text.
+// What a command takes: a text, a text that is a line, a text and events, a file, a file whose events can be had as text.
 pub const TEXT: u8 = 0;
 
 pub const LINE: u8 = 1;
 
-pub const FILE: u8 = 2;
+pub const TEXT_AND_EVENTS: u8 = 2;
 
-pub const FILE_OF_EVENTS: u8 = 3;
+pub const FILE: u8 = 3;
+
+pub const FILE_OF_EVENTS: u8 = 4;
 
 // What is wrong with the arguments.
 const NO_NUMBER: u8 = 1;
@@ -29,8 +34,9 @@ const TOO_LARGE: u8 = 4;
 const USUAL: u32 = 59;
 
 // What is asked for. Of a line, `continuing` says that an item's size and flag are given. The operand is given by its number among the
-// arguments, or is 0 where there is none; `dashed` says that it looks like an option. `awaits` is the letter of the option whose number is the
-// next word, or 0, and `ended` says that -- was there. Where something is wrong, `culprit` is the number of that argument.
+// arguments, or is 0 where there is none, and so is the first of the events; `dashed` says that the operand looks like an option. `awaits` is the
+// letter of the option whose number is the next word, or 0, and `ended` says that -- was there. Where something is wrong, `culprit` is the number
+// of that argument.
 pub struct Asked {
     pub options: u32,
     pub as_text: bool,
@@ -40,48 +46,11 @@ pub struct Asked {
     pub blank: bool,
     pub operand: usize,
     pub dashed: bool,
+    pub events: usize,
     pub awaits: u8,
     pub ended: bool,
     pub wrong: u8,
     pub culprit: usize,
-}
-
-// Stands for every number of more than six digits.
-const LARGE: u32 = 1000000;
-
-// A word that is to be a number.
-enum Number {
-    Is(u32),
-    Not,
-}
-
-// The number that a word of digits spells, or `LARGE`.
-fn spelled(word: &[u8]) -> Number {
-    if word.len() == 0 {
-        return Number::Not;
-    }
-    let mut value: u32 = 0;
-    let mut i = 0;
-    while i < word.len() {
-        let byte = word[i];
-        if byte < b'0' {
-            return Number::Not;
-        }
-        if byte > b'9' {
-            return Number::Not;
-        }
-        value = with_digit(value, byte - b'0');
-        i += 1;
-    }
-    Number::Is(value)
-}
-
-// A number with one more digit behind it. Where it has six already it becomes `LARGE`, so that it never overflows.
-fn with_digit(value: u32, digit: u8) -> u32 {
-    if value > 99999 {
-        return LARGE;
-    }
-    value * 10 + digit as u32
 }
 
 // The number behind an option.
@@ -97,12 +66,12 @@ fn put_number(asked: Asked, value: u32) -> Asked {
     asked
 }
 
-// Whether a number cannot be taken. Options that large are refused as all over 63 are; a size would be said wrongly.
+// Whether a number cannot be taken. Options that large are refused as all over 63 are; a size has six digits at most.
 fn is_too_large(awaits: u8, value: u32) -> bool {
     if awaits != b'c' {
         return false;
     }
-    value == LARGE
+    value > 999999
 }
 
 // Argument i as the number behind an option.
@@ -243,6 +212,23 @@ fn take_word(asked: Asked, i: usize, takes: u8) -> Asked {
     take_option(asked, i, takes, option, is_dashed(word[0], word[1]))
 }
 
+// Whether the next argument is an event.
+fn wants_event(asked: Asked, takes: u8) -> bool {
+    if takes != TEXT_AND_EVENTS {
+        return false;
+    }
+    asked.operand != 0
+}
+
+// Argument i as an event. Each one behind the first is one too.
+fn take_event(asked: Asked, i: usize) -> Asked {
+    let mut asked = asked;
+    if asked.events == 0 {
+        asked.events = i;
+    }
+    asked
+}
+
 // Argument i. What is wrong first is what is said.
 fn take(asked: Asked, i: usize, takes: u8) -> Asked {
     if asked.wrong != 0 {
@@ -250,6 +236,9 @@ fn take(asked: Asked, i: usize, takes: u8) -> Asked {
     }
     if asked.awaits != 0 {
         return take_number(asked, i);
+    }
+    if wants_event(asked, takes) {
+        return take_event(asked, i);
     }
     if asked.ended {
         return take_operand(asked, i, false);
@@ -269,6 +258,7 @@ pub fn arguments(from: usize, takes: u8) -> Asked {
         blank: false,
         operand: 0,
         dashed: false,
+        events: 0,
         awaits: 0,
         ended: false,
         wrong: 0,

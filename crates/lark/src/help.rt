@@ -65,6 +65,7 @@ pub fn say_help(fd: i32) -> bool {
   lark line [-o N] [..] [TEXT]       what the line readers find in a line; -i: where it would interrupt a paragraph;
                                      -c SIZE: as a further line of an item of that size, -b: whose flag is set
   lark record [-o N] [TEXT]          the record that show makes of a text
+  lark record [-o N] TEXT EVENT..    the record of a text and of these events
   lark attention [-o N] [-t] [FILE]  a record's events with the attention runs resolved; -t: as text
   lark headings [-o N] [-t] [FILE]   the same with the headings resolved
   lark lists [-o N] [-t] [FILE]      the same with the lists resolved
@@ -76,6 +77,9 @@ Without TEXT or FILE, or with - for FILE, standard input is read; of a TEXT that
 end is dropped. A TEXT may begin with a dash; -- ends the options, and behind it even --help is a TEXT. show and record
 take each longest run of one marker for an attention run and all between for data: they know nothing of escapes, code
 or links.
+
+An EVENT is what -t prints: + or - for enter or exit, a name, @ and a place. The name is a number or its word, as in
++11@0 or +HeadingAtx@0; several EVENTs may stand in one argument. Behind a TEXT every word of record's is an EVENT.
 
 N is a sum: 1 attention, 2 strikethrough, 4 single tilde, 8 heading, 16 list item, 32 code indented; 59 without -o.
 Exit status: 0 answered; 1 refused, with the refusal on standard error; 2 bad arguments, or a file that fails. The place

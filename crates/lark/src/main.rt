@@ -8,10 +8,14 @@
 
 mod args; // the arguments behind a command
 mod events; // a section of events, read and said
+mod given; // a record of events that are given
 mod help; // help and version
 mod input; // texts and records, from arguments, files and standard input
 mod lengths; // the cause of refusal 3
 mod line; // the command `line`
+mod names; // the words for the names of events
+mod notation; // an event in words
+mod number; // numbers in decimal digits
 mod quoted; // a user's bytes, where a terminal may show them
 mod refuse; // a refusal in a line
 mod resolve; // the commands on records
@@ -22,13 +26,14 @@ mod soundness; // the cause of refusal 5
 mod split; // a text made into a record
 mod style; // the styles of a text on a terminal
 mod tree; // groups as an indented tree
-mod words; // bytes compared and copied
+mod words; // words compared, copied and found
 
 use args::Asked;
 use args::FILE;
 use args::FILE_OF_EVENTS;
 use args::LINE;
 use args::TEXT;
+use args::TEXT_AND_EVENTS;
 use args::are_good;
 use args::arguments;
 use help::HELP;
@@ -103,7 +108,7 @@ fn answer(command: OnText, text: &[u8], asked: Asked) -> u8 {
     match command {
         OnText::Show { styled } => show::show_text(text, asked.options, styled),
         OnText::Line => line::read_line(text, asked),
-        OnText::Record => show::record_text(text, asked.options),
+        OnText::Record => show::record_text(text, asked),
     }
 }
 
@@ -135,7 +140,7 @@ fn run(command: &[u8], next: usize, styled: bool) -> u8 {
         return run_on_text(OnText::Line, arguments(next, LINE));
     }
     if same(command, b"record") {
-        return run_on_text(OnText::Record, arguments(next, TEXT));
+        return run_on_text(OnText::Record, arguments(next, TEXT_AND_EVENTS));
     }
     if same(command, b"help") {
         return done(say_help(libc::STDOUT_FILENO));

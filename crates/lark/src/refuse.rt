@@ -1,7 +1,7 @@
 // A refusal in a line: its number, its place, its words and, for 3, 5 and 6, the one cause that applies.
 //
 // A place is an offset in what was given: in a text or a line for the commands on these, which make a record of it that nobody sees, and in the
-// record for the commands on a record. Numbers 1, 2, 7 and 8 have no place.
+// record for the commands on a record. An event that was given beside a text stands in the text where it says. Numbers 1, 2, 7 and 8 have no place.
 
 use crate::events::complain_event;
 use crate::events::event_of;
@@ -119,8 +119,19 @@ fn in_text(place: usize) -> usize {
     place - 4
 }
 
-// The record of a text is refused for a length: the text's, or the events', two for each piece. Of these the record has one pair past the limit.
-fn refuse_text_length(text: &[u8], rec: &[u8]) -> u8 {
+// More events than a record takes: they were given, or were made of the text, two for each piece.
+fn refuse_crowd(place: usize, given: bool) -> u8 {
+    if given {
+        return refuse_length(place, b"over 2,048 events are given");
+    }
+    refuse_length(
+        place,
+        b"the text has over 1,024 runs and pieces between them",
+    )
+}
+
+// The record of a text is refused for a length: the text's, or the events', of which the record has at least one past the limit.
+fn refuse_text_length(text: &[u8], rec: &[u8], given: bool) -> u8 {
     let d = text.len();
     if d > MAX_DOCUMENT {
         return refuse_length(MAX_DOCUMENT, b"the text is over 16,384 bytes");
@@ -129,20 +140,7 @@ fn refuse_text_length(text: &[u8], rec: &[u8]) -> u8 {
         return refuse_bare(3);
     }
     let event = event_of(&rec[4 + d..], MAX_EVENTS);
-    refuse_length(
-        event.place,
-        b"the text has over 1,024 runs and pieces between them",
-    )
-}
-
-// A refusal of the record that was made of a text.
-pub fn refuse_text(text: &[u8], rec: &[u8], refusal: Refusal) -> u8 {
-    let number = refusal.number;
-    match number {
-        3 => refuse_text_length(text, rec),
-        4 => refuse_return(text, in_text(refusal.place)),
-        _ => refuse_bare(number),
-    }
+    refuse_crowd(event.place, given)
 }
 
 // A carriage return in a record's document.
@@ -192,6 +190,51 @@ fn refuse_events(document: &[u8], section: &[u8], events: usize, place: usize) -
     begin_at(5, place);
     complain_unsound(section, events, number_at(place, d), d);
     end()
+}
+
+// The place in the text that the k-th of so many events says, or the end of its d bytes where there is none.
+fn place_of(section: &[u8], events: usize, k: usize, d: usize) -> usize {
+    if k < events {
+        let event = event_of(section, k);
+        return event.place;
+    }
+    d
+}
+
+// The same of events that were given beside a text, by the place in the text.
+fn refuse_given(text: &[u8], section: &[u8], place: usize) -> u8 {
+    if section.len() < 4 {
+        return refuse_bare(5);
+    }
+    let events = u32_at(section, 0);
+    let d = text.len();
+    let k = number_at(place, d);
+    begin_at(5, place_of(section, events, k, d));
+    complain_unsound(section, events, k, d);
+    end()
+}
+
+// The same, by the record.
+fn refuse_given_in(text: &[u8], rec: &[u8], place: usize) -> u8 {
+    let d = text.len();
+    if d > MAX_DOCUMENT {
+        return refuse_bare(5);
+    }
+    if 4 + d > rec.len() {
+        return refuse_bare(5);
+    }
+    refuse_given(text, &rec[4 + d..], place)
+}
+
+// A refusal of the record of a text, whose events were given beside it or were made of it.
+pub fn refuse_text(text: &[u8], rec: &[u8], given: bool, refusal: Refusal) -> u8 {
+    let number = refusal.number;
+    match number {
+        3 => refuse_text_length(text, rec, given),
+        4 => refuse_return(text, in_text(refusal.place)),
+        5 => refuse_given_in(text, rec, refusal.place),
+        _ => refuse_bare(number),
+    }
 }
 
 // A run, a heading or an item that is not of its shape.

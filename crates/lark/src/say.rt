@@ -81,25 +81,24 @@ fn complain_beginning(word: &[u8]) {
     complain_word(word);
 }
 
-// Argument i. One that does not fit here is longer than what is said of it.
-fn complain_argument(i: usize) {
-    let mut word = [0u8; 41];
-    let n = os::arg(i, &mut word);
-    if os::errno() == 0 {
-        complain_beginning(&word[..n]);
-        return;
-    }
-    complain_beginning(&word);
-}
-
-// What is wrong with argument i, in a line.
-pub fn blame(what: &[u8], i: usize) -> u8 {
+// What is wrong with a word, in a line.
+pub fn blame_word(what: &[u8], word: &[u8]) -> u8 {
     complain(b"lark: ");
     complain(what);
     complain(b": ");
-    complain_argument(i);
+    complain_beginning(word);
     complain(b"; see lark help\n");
     WRONG
+}
+
+// What is wrong with argument i, in a line. One that does not fit here is longer than what is said of it.
+pub fn blame(what: &[u8], i: usize) -> u8 {
+    let mut word = [0u8; 41];
+    let n = os::arg(i, &mut word);
+    if os::errno() == 0 {
+        return blame_word(what, &word[..n]);
+    }
+    blame_word(what, &word)
 }
 
 // What failed, as a file's name or other words, in a line that ends with the system's reason.

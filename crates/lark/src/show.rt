@@ -1,8 +1,13 @@
 // The commands `show` and `record`: a text made into a record, and resolved or written as it is.
 
+use crate::args::Asked;
+use crate::given::put_given;
+use crate::input::Got;
+use crate::input::RECORD_ROOM;
 use crate::input::memory;
 use crate::quoted::say_quoted;
 use crate::refuse::refuse_text;
+use crate::say::WRONG;
 use crate::say::done;
 use crate::say::end_line;
 use crate::say::say;
@@ -37,7 +42,7 @@ fn say_answer(text: &[u8], rec: &[u8], section: &[u8], answer: Answer, styled: b
             return done(say_counts(groups, tried, events));
         }
         Answer::Refused(refusal) => {
-            return refuse_text(text, rec, refusal);
+            return refuse_text(text, rec, false, refusal);
         }
     }
 }
@@ -57,18 +62,37 @@ pub fn show_text(text: &[u8], options: u32, styled: bool) -> u8 {
     show_record(text, &rec[0..n], options, styled)
 }
 
-// Only a good record is written.
-fn write_good(text: &[u8], rec: &[u8], options: u32) -> u8 {
+// The record of a text, whose events were given beside it or were made of it. Only a good one is written.
+fn write_good(text: &[u8], rec: &[u8], given: bool, options: u32) -> u8 {
     let mut work = memory();
     match read(rec, options, &mut work) {
         Reading::Good { document, events } => done(say(rec)),
-        Reading::Refused(refusal) => refuse_text(text, rec, refusal),
+        Reading::Refused(refusal) => refuse_text(text, rec, given, refusal),
     }
 }
 
-// The command `record`: the bytes of the record that `show` makes.
-pub fn record_text(text: &[u8], options: u32) -> u8 {
+// The record of a text with the events that the arguments from a number on spell.
+fn record_given(text: &[u8], first: usize, options: u32) -> u8 {
     let mut rec = memory();
-    let n = put_record(text, options, &mut rec);
-    write_good(text, &rec[0..n], options)
+    match put_given(text, first, &mut rec) {
+        Got::Bytes(n) => {
+            if n > RECORD_ROOM {
+                return WRONG;
+            }
+            return write_good(text, &rec[0..n], true, options);
+        }
+        Got::Nothing => {
+            return WRONG;
+        }
+    }
+}
+
+// The command `record`: the bytes of the record that `show` makes, or of one with the events that are given.
+pub fn record_text(text: &[u8], asked: Asked) -> u8 {
+    if asked.events != 0 {
+        return record_given(text, asked.events, asked.options);
+    }
+    let mut rec = memory();
+    let n = put_record(text, asked.options, &mut rec);
+    write_good(text, &rec[0..n], false, asked.options)
 }

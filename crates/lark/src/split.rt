@@ -91,12 +91,16 @@ fn put_pieces(text: &[u8], options: u32, rec: &mut [u8], from: usize) -> usize {
     events
 }
 
-// Writes the record of a text; its length. RECORD_ROOM bytes have room for any that is over a limit by as much as it takes to be refused.
-pub fn put_record(text: &[u8], options: u32, rec: &mut [u8]) -> usize
+// Writes what a record has round its events, so many, which are there already: the text and both counts; its length. RECORD_ROOM bytes have room
+// for any that is over a limit by as much as it takes to be refused.
+pub fn frame(text: &[u8], events: usize, rec: &mut [u8]) -> usize
     ensures { λ r. ⌜ r ≤ length (now (rec .exit)) ⌝ }
 {
     let d = text.len();
     if d > TEXT_ROOM {
+        return 0;
+    }
+    if events > 4096 {
         return 0;
     }
     if rec.len() < RECORD_ROOM {
@@ -104,10 +108,18 @@ pub fn put_record(text: &[u8], options: u32, rec: &mut [u8]) -> usize
     }
     put_u32(rec, 0, d);
     copy_in(text, rec, 4);
-    let events = put_pieces(text, options, rec, 8 + d);
     put_u32(rec, 4 + d, events);
-    if events > 4096 {
+    8 + d + 8 * events
+}
+
+// Writes the record of a text; its length.
+pub fn put_record(text: &[u8], options: u32, rec: &mut [u8]) -> usize
+    ensures { λ r. ⌜ r ≤ length (now (rec .exit)) ⌝ }
+{
+    let d = text.len();
+    if d > TEXT_ROOM {
         return 0;
     }
-    8 + d + 8 * events
+    let events = put_pieces(text, options, rec, 8 + d);
+    frame(text, events, rec)
 }

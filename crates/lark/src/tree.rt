@@ -3,6 +3,7 @@
 
 use crate::events::event_of;
 use crate::events::exit_of;
+use crate::names::say_word;
 use crate::quoted::say_quoted;
 use crate::say::end_line;
 use crate::say::say;
@@ -60,21 +61,14 @@ fn is_shown(name: u8) -> bool {
     is_group(name)
 }
 
-// What a group or data is called, and a space.
+// What a group or data is called, and a space. Strikethrough goes without the Gfm of its name.
 fn say_name(name: u8) {
-    if name == EMPHASIS {
-        say(b"Emphasis ");
-        return;
-    }
-    if name == STRONG {
-        say(b"Strong ");
-        return;
-    }
     if name == STRIKETHROUGH {
         say(b"Strikethrough ");
         return;
     }
-    say(b"Data ");
+    say_word(name);
+    say(b" ");
 }
 
 // The bytes of the text from a place up to another, in a sum of styles.

@@ -1,10 +1,10 @@
--- `lark::args::spelled` is safe and ends. The measure is what is left of the word.
+-- `lark::number::spelled` is safe and ends. The measure is what is left of the word.
 -- Assumes nothing.
 use Prim.Native.Nat.{_≤_, _-_}
 use lib.ListN.{length}
 use borrow.Author.Needs.{needs}
-use Rattle.lark.proofs.args.spelled.Statement.{statement}
-use Rattle.lark.proofs.args.spelled.Tie as tie
+use Rattle.lark.proofs.number.spelled.Statement.{statement}
+use Rattle.lark.proofs.number.spelled.Tie as tie
 
 abbrev Inv-loop : tie.InvT-loop
 Inv-loop word value₀ i₀ value i = i ≤ length word
