@@ -1,7 +1,7 @@
 # Everything by one word. The toolchain (rt) proves and compiles the library; the rest is gcc, cargo and the scripts named here.
 #
 #     make            the archive: target/staticlib/libledgerlark.a
-#     make check      the tests in C, C++ and Rust, and those of the program
+#     make check      the tests in C, C++ and Rust, and those of the program and its script
 #     make install    archive, header, pkg-config file, LICENSE and NOTICE, to DESTDIR and PREFIX
 #     make uninstall  takes these five away again
 #     make bench      the measurements
@@ -37,6 +37,7 @@ all: $(ARCHIVE)
 
 check: $(ARCHIVE)
 	LARK_ARCHIVE=$(abspath $(ARCHIVE)) tests/run
+	tests/script
 	tests/lark
 
 install: $(ARCHIVE)

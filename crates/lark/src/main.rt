@@ -2,7 +2,8 @@
 //
 // A Rattle program has no exit status of its own to give. So where its first argument is `--status` it writes the digit 0, 1 or 2 to
 // descriptor 3, and the script `lark` at the repository's root, which asks for that, leaves with it. Nor can it read TERM and NO_COLOR: the
-// script does, and says `--styled` behind `--status` where `show` is to use a terminal's styles. Nobody else needs to pass the two words.
+// script does, and says `--styled` in place of `--status` where `show` is to use a terminal's styles. Nobody else needs to pass either: the
+// script always says one of them first, so that what its user says is the command.
 //
 // Each command finds out first whether something is wrong, and writes then, so that nothing is on standard output where something is.
 
@@ -183,15 +184,15 @@ fn tell(status: u8) {
     io::print_decimal(STATUS_FILENO, status as u64);
 }
 
-// The command is the first argument, or stands behind the words that the script `lark` says.
+// The command is the first argument, or stands behind the word that the script `lark` says.
 fn main() {
-    if !is_word(1, b"--status") {
-        answer_from(1, false);
+    if is_word(1, b"--status") {
+        tell(answer_from(2, false));
         return;
     }
-    if is_word(2, b"--styled") {
-        tell(answer_from(3, true));
-    } else {
-        tell(answer_from(2, false));
+    if is_word(1, b"--styled") {
+        tell(answer_from(2, true));
+        return;
     }
+    answer_from(1, false);
 }
