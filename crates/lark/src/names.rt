@@ -4,6 +4,8 @@ use crate::number::Number;
 use crate::say::say;
 use crate::words::copy_in;
 use crate::words::same_letters;
+use crate::words::word_end;
+use crate::words::word_start;
 use record::limits::LAST_NAME;
 ghost use Prim.Native.Nat.{_≤_};
 ghost use lib.ListN.{length};
@@ -23,37 +25,50 @@ fn put(word: &[u8], buffer: &mut [u8]) -> usize
     n
 }
 
-// The table of the names, 0 to 24: writes the word for one at the start of a buffer; its length.
+// The place where the n-th of some words begins, counted from 0, or the end where there are not so many.
+fn nth_start(words: &[u8], n: u8) -> usize
+    ensures { λ r. ⌜ r ≤ length (now (words .entry)) ⌝ }
+{
+    let mut at = word_start(words, 0);
+    let mut left = n;
+    while left > 0 {
+        if at >= words.len() {
+            return at;
+        }
+        at = word_start(words, word_end(words, at));
+        left -= 1;
+    }
+    at
+}
+
+// Writes the n-th of some words at the start of a buffer; its length.
+fn put_nth(words: &[u8], n: u8, buffer: &mut [u8]) -> usize
+    ensures { λ r. ⌜ r ≤ length (now (buffer .exit)) ⌝ }
+{
+    let at = nth_start(words, n);
+    if at >= words.len() {
+        return 0;
+    }
+    let end = word_end(words, at);
+    put(&words[at..end], buffer)
+}
+
+// The table of the names, 0 to 24, five to a line: writes the word for one at the start of a buffer; its length. It is one literal, since a match
+// of as many arms takes half a minute to prove.
 fn put_word(name: u8, buffer: &mut [u8]) -> usize
     ensures { λ r. ⌜ r ≤ length (now (buffer .exit)) ⌝ }
 {
-    match name {
-        0 => put(b"Data", buffer),
-        1 => put(b"AttentionSequence", buffer),
-        2 => put(b"Emphasis", buffer),
-        3 => put(b"EmphasisSequence", buffer),
-        4 => put(b"EmphasisText", buffer),
-        5 => put(b"Strong", buffer),
-        6 => put(b"StrongSequence", buffer),
-        7 => put(b"StrongText", buffer),
-        8 => put(b"GfmStrikethrough", buffer),
-        9 => put(b"GfmStrikethroughSequence", buffer),
-        10 => put(b"GfmStrikethroughText", buffer),
-        11 => put(b"HeadingAtx", buffer),
-        12 => put(b"HeadingAtxSequence", buffer),
-        13 => put(b"HeadingAtxText", buffer),
-        14 => put(b"SpaceOrTab", buffer),
-        15 => put(b"ListItem", buffer),
-        16 => put(b"ListItemPrefix", buffer),
-        17 => put(b"ListItemMarker", buffer),
-        18 => put(b"ListItemValue", buffer),
-        19 => put(b"ListOrdered", buffer),
-        20 => put(b"ListUnordered", buffer),
-        21 => put(b"LineEnding", buffer),
-        22 => put(b"BlankLineEnding", buffer),
-        23 => put(b"BlockQuotePrefix", buffer),
-        _ => put(b"OtherContainer", buffer),
-    }
+    put_nth(
+        b"
+        Data AttentionSequence Emphasis EmphasisSequence EmphasisText
+        Strong StrongSequence StrongText GfmStrikethrough GfmStrikethroughSequence
+        GfmStrikethroughText HeadingAtx HeadingAtxSequence HeadingAtxText SpaceOrTab
+        ListItem ListItemPrefix ListItemMarker ListItemValue ListOrdered
+        ListUnordered LineEnding BlankLineEnding BlockQuotePrefix OtherContainer
+        ",
+        name,
+        buffer,
+    )
 }
 
 // Whether a word is the one for a name, in small letters or capitals.
