@@ -1,7 +1,7 @@
 // Help and version: the words that ask for them, and what is then said.
 
-use crate::words::same;
 use libc::STDOUT_FILENO;
+use terminal::words::same;
 
 // What a word asks for: nothing, these words, the version, or that behind it no word asks for anything.
 const NOTHING: u8 = 0;

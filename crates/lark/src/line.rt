@@ -1,23 +1,12 @@
 // The command `line`: what the line readers find in one line, and what the heading resolver makes of it where it is a heading.
 
-use crate::args::Asked;
-use crate::events::event_of;
-use crate::events::exit_of;
-use crate::events::first_enter;
-use crate::events::say_events;
-use crate::input::RECORD_ROOM;
-use crate::input::TEXT_ROOM;
-use crate::input::memory;
-use crate::refuse::refuse_line;
-use crate::say::done;
-use crate::say::end_line;
-use crate::say::say;
-use crate::say::say_number;
-use crate::say::say_range;
-use crate::say::say_with;
-use crate::words::copy_in;
+use asked::args::Asked;
+use asked::input::RECORD_ROOM;
+use asked::input::TEXT_ROOM;
+use asked::input::memory;
 use atx::Headed;
 use atx::heading;
+use causes::refuse::refuse_line;
 use heading::resolve::Answer;
 use heading::resolve::resolve_headings;
 use lines::container::Container;
@@ -32,6 +21,17 @@ use record::bytes::put_u32;
 use record::check::Refusal;
 use record::limits::HEADING_TEXT;
 use record::limits::MAX_EVENTS;
+use terminal::events::event_of;
+use terminal::events::exit_of;
+use terminal::events::first_enter;
+use terminal::events::say_events;
+use terminal::say::done;
+use terminal::say::end_line;
+use terminal::say::say;
+use terminal::say::say_number;
+use terminal::say::say_range;
+use terminal::say::say_with;
+use terminal::words::copy_in;
 ghost use Prim.Native.Nat.{_≤_};
 ghost use lib.ListN.{length};
 

@@ -1,4 +1,5 @@
 // lark: what the library makes of a text, a line or a record, for the terminal. `help.rt` has the commands.
+// What it says is in the crate `terminal`, what it is asked in `asked`, and why something is refused in `causes`.
 //
 // A Rattle program has no exit status of its own to give. So where its first argument is `--status` it writes the digit 0, 1 or 2 to
 // descriptor 3, and the script `lark` at the repository's root, which asks for that, leaves with it. Nor can it read TERM and NO_COLOR: the
@@ -7,50 +8,33 @@
 //
 // Each command finds out first whether something is wrong, and writes then, so that nothing is on standard output where something is.
 
-mod args; // the arguments behind a command
-mod events; // a section of events, read and said
-mod given; // a record of events that are given
 mod help; // help and version
-mod input; // texts and records, from arguments, files and standard input
-mod lengths; // the cause of refusal 3
 mod line; // the command `line`
-mod names; // the words for the names of events
-mod notation; // an event in words
-mod number; // numbers in decimal digits
-mod quoted; // a user's bytes, where a terminal may show them
-mod refuse; // a refusal in a line
 mod resolve; // the commands on records
-mod say; // words on standard output and standard error, and the statuses
-mod shapes; // the cause of refusal 6
 mod show; // the commands `show` and `record`
-mod soundness; // the cause of refusal 5
-mod split; // a text made into a record
-mod style; // the styles of a text on a terminal
-mod tree; // groups as an indented tree
-mod words; // words compared, copied and found
 
-use args::Asked;
-use args::FILE;
-use args::FILE_OF_EVENTS;
-use args::LINE;
-use args::TEXT;
-use args::TEXT_AND_EVENTS;
-use args::are_good;
-use args::arguments;
+use asked::args::Asked;
+use asked::args::FILE;
+use asked::args::FILE_OF_EVENTS;
+use asked::args::LINE;
+use asked::args::TEXT;
+use asked::args::TEXT_AND_EVENTS;
+use asked::args::are_good;
+use asked::args::arguments;
+use asked::input::Got;
+use asked::input::TEXT_ROOM;
+use asked::input::text_asked;
 use help::HELP;
 use help::VERSION;
 use help::say_help;
 use help::say_version;
 use help::wish_from;
-use input::Got;
-use input::TEXT_ROOM;
-use input::text_asked;
 use resolve::Call;
 use resolve::Resolver;
-use say::WRONG;
-use say::blame;
-use say::done;
-use words::same;
+use terminal::say::WRONG;
+use terminal::say::blame;
+use terminal::say::done;
+use terminal::words::same;
 
 // The descriptor that a status is written to, where that is asked for.
 const STATUS_FILENO: i32 = 3;

@@ -1,21 +1,21 @@
 // The commands on a record: `attention`, `headings`, `lists` and `read`.
 
-use crate::args::Asked;
-use crate::args::are_good;
-use crate::events::say_events;
-use crate::input::Got;
-use crate::input::RECORD_ROOM;
-use crate::input::memory;
-use crate::input::record_asked;
-use crate::refuse::refuse_record;
-use crate::say::WRONG;
-use crate::say::done;
-use crate::say::end_line;
-use crate::say::say;
-use crate::say::say_with;
+use asked::args::Asked;
+use asked::args::are_good;
+use asked::input::Got;
+use asked::input::RECORD_ROOM;
+use asked::input::memory;
+use asked::input::record_asked;
+use causes::refuse::refuse_record;
 use record::check::Reading;
 use record::check::Refusal;
 use record::limits::MAX_RESULT;
+use terminal::events::say_events;
+use terminal::say::WRONG;
+use terminal::say::done;
+use terminal::say::end_line;
+use terminal::say::say;
+use terminal::say::say_with;
 
 pub enum Resolver {
     Attention,

@@ -1,24 +1,24 @@
 // The commands `show` and `record`: a text made into a record, and resolved or written as it is.
 
-use crate::args::Asked;
-use crate::given::put_given;
-use crate::input::Got;
-use crate::input::RECORD_ROOM;
-use crate::input::memory;
-use crate::quoted::say_quoted;
-use crate::refuse::refuse_text;
-use crate::say::WRONG;
-use crate::say::done;
-use crate::say::end_line;
-use crate::say::say;
-use crate::say::say_with;
-use crate::split::put_record;
-use crate::style::PLAIN;
-use crate::tree::say_tree;
+use asked::args::Asked;
+use asked::given::put_given;
+use asked::input::Got;
+use asked::input::RECORD_ROOM;
+use asked::input::memory;
+use asked::split::put_record;
 use attention::call::Answer;
 use attention::call::resolve_attention;
+use causes::refuse::refuse_text;
 use record::call::read;
 use record::check::Reading;
+use terminal::quoted::say_quoted;
+use terminal::say::WRONG;
+use terminal::say::done;
+use terminal::say::end_line;
+use terminal::say::say;
+use terminal::say::say_with;
+use terminal::style::PLAIN;
+use terminal::tree::say_tree;
 
 // The last line of `show`.
 fn say_counts(groups: usize, tried: usize, events: usize) -> bool {

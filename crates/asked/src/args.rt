@@ -1,0 +1,316 @@
+// The arguments behind a command: options, and at most one operand, which is a text or the name of a file. Behind the text of `record` stand
+// events; they begin with a dash too, so no word there is an option.
+//
+// A text may begin with a dash, as the line of a list item does. So where the operand is a text, only the options that the command has are
+// options; where it is a file, any other word that looks like one is wrong. Where there are two texts, one that looks like an option was meant
+// as one.
+
+use terminal::number::Number;
+use terminal::number::spelled;
+use terminal::say::blame;
+use terminal::say::wrong;
+
+// What a command takes: a text, a text that is a line, a text and events, a file, a file whose events can be had as text.
+pub const TEXT: u8 = 0;
+
+pub const LINE: u8 = 1;
+
+pub const TEXT_AND_EVENTS: u8 = 2;
+
+pub const FILE: u8 = 3;
+
+pub const FILE_OF_EVENTS: u8 = 4;
+
+// What is wrong with the arguments.
+const NO_NUMBER: u8 = 1;
+
+const UNKNOWN: u8 = 2;
+
+const ONE_TOO_MANY: u8 = 3;
+
+const TOO_LARGE: u8 = 4;
+
+// The options without -o: all but the single tilde.
+const USUAL: u32 = 59;
+
+// What is asked for. Of a line, `continuing` says that an item's size and flag are given. The operand is given by its number among the
+// arguments, or is 0 where there is none, and so is the first of the events; `dashed` says that the operand looks like an option. `awaits` is the
+// letter of the option whose number is the next word, or 0, and `ended` says that -- was there. Where something is wrong, `culprit` is the number
+// of that argument.
+pub struct Asked {
+    pub options: u32,
+    pub as_text: bool,
+    pub interrupting: bool,
+    pub continuing: bool,
+    pub size: usize,
+    pub blank: bool,
+    pub operand: usize,
+    pub dashed: bool,
+    pub events: usize,
+    pub awaits: u8,
+    pub ended: bool,
+    pub wrong: u8,
+    pub culprit: usize,
+}
+
+// The number behind an option.
+fn put_number(asked: Asked, value: u32) -> Asked {
+    let mut asked = asked;
+    if asked.awaits == b'c' {
+        asked.continuing = true;
+        asked.size = value as usize;
+    } else {
+        asked.options = value;
+    }
+    asked.awaits = 0;
+    asked
+}
+
+// Whether a number cannot be taken. Options that large are refused as all over 63 are; a size has six digits at most.
+fn is_too_large(awaits: u8, value: u32) -> bool {
+    if awaits != b'c' {
+        return false;
+    }
+    value > 999999
+}
+
+// Argument i as the number behind an option.
+fn take_number(asked: Asked, i: usize) -> Asked {
+    let mut word = [0u8; 32];
+    let n = os::arg(i, &mut word);
+    match spelled(&word[..n]) {
+        Number::Is(value) => {
+            if is_too_large(asked.awaits, value) {
+                return put_wrong(asked, TOO_LARGE, i);
+            }
+            return put_number(asked, value);
+        }
+        Number::Not => {
+            return put_wrong(asked, NO_NUMBER, i);
+        }
+    }
+}
+
+// What is wrong with an argument, by its number.
+fn put_wrong(asked: Asked, wrong: u8, culprit: usize) -> Asked {
+    let mut asked = asked;
+    asked.wrong = wrong;
+    asked.culprit = culprit;
+    asked
+}
+
+// Argument i is a second operand: of the two the first that looks like an option is blamed as one, or else this one as one too many.
+fn blame_operand(asked: Asked, i: usize, dashed: bool) -> Asked {
+    if asked.dashed {
+        return put_wrong(asked, UNKNOWN, asked.operand);
+    }
+    if dashed {
+        return put_wrong(asked, UNKNOWN, i);
+    }
+    put_wrong(asked, ONE_TOO_MANY, i)
+}
+
+// Argument i as the operand; `dashed` says that it looks like an option.
+fn take_operand(asked: Asked, i: usize, dashed: bool) -> Asked {
+    let mut asked = asked;
+    if asked.operand != 0 {
+        return blame_operand(asked, i, dashed);
+    }
+    asked.operand = i;
+    asked.dashed = dashed;
+    asked
+}
+
+// The letter of an option, or 0.
+fn letter(word: &[u8]) -> u8 {
+    if word.len() != 2 {
+        return 0;
+    }
+    if word[0] != b'-' {
+        return 0;
+    }
+    word[1]
+}
+
+// Whether a word that begins with these two bytes looks like an option: a dash with more right behind it. A list item has a space there, and a
+// dash alone nothing, which is a zero byte.
+fn is_dashed(first: u8, second: u8) -> bool {
+    if first != b'-' {
+        return false;
+    }
+    second > b' '
+}
+
+// Whether an option is one that only a line has.
+fn is_of_line(option: u8, takes: u8) -> bool {
+    if takes != LINE {
+        return false;
+    }
+    if option == b'i' {
+        return true;
+    }
+    if option == b'b' {
+        return true;
+    }
+    option == b'c'
+}
+
+// An option that only a line has: -i and -b set what they stand for, and -c awaits its number.
+fn take_of_line(asked: Asked, option: u8) -> Asked {
+    let mut asked = asked;
+    if option == b'i' {
+        asked.interrupting = true;
+        return asked;
+    }
+    if option == b'b' {
+        asked.blank = true;
+        return asked;
+    }
+    asked.awaits = option;
+    asked
+}
+
+// Argument i as an operand, where it is none of the command's options. A file's name does not look like one.
+fn take_other(asked: Asked, i: usize, takes: u8, dashed: bool) -> Asked {
+    if takes < FILE {
+        return take_operand(asked, i, dashed);
+    }
+    if dashed {
+        return put_wrong(asked, UNKNOWN, i);
+    }
+    take_operand(asked, i, dashed)
+}
+
+// Argument i, by its letter as an option and by whether it looks like one.
+fn take_option(asked: Asked, i: usize, takes: u8, option: u8, dashed: bool) -> Asked {
+    let mut asked = asked;
+    if option == b'o' {
+        asked.awaits = option;
+        return asked;
+    }
+    if option == b'-' {
+        asked.ended = true;
+        return asked;
+    }
+    if option == b't' {
+        if takes == FILE_OF_EVENTS {
+            asked.as_text = true;
+            return asked;
+        }
+    }
+    if is_of_line(option, takes) {
+        return take_of_line(asked, option);
+    }
+    take_other(asked, i, takes, dashed)
+}
+
+// Argument i where no number is awaited and -- was not there.
+fn take_word(asked: Asked, i: usize, takes: u8) -> Asked {
+    let mut word = [0u8; 3];
+    let n = os::arg(i, &mut word);
+    let option = letter(&word[..n]);
+    take_option(asked, i, takes, option, is_dashed(word[0], word[1]))
+}
+
+// Whether the next argument is an event.
+fn wants_event(asked: Asked, takes: u8) -> bool {
+    if takes != TEXT_AND_EVENTS {
+        return false;
+    }
+    asked.operand != 0
+}
+
+// Argument i as an event. Each one behind the first is one too.
+fn take_event(asked: Asked, i: usize) -> Asked {
+    let mut asked = asked;
+    if asked.events == 0 {
+        asked.events = i;
+    }
+    asked
+}
+
+// Argument i. What is wrong first is what is said.
+fn take(asked: Asked, i: usize, takes: u8) -> Asked {
+    if asked.wrong != 0 {
+        return asked;
+    }
+    if asked.awaits != 0 {
+        return take_number(asked, i);
+    }
+    if wants_event(asked, takes) {
+        return take_event(asked, i);
+    }
+    if asked.ended {
+        return take_operand(asked, i, false);
+    }
+    take_word(asked, i, takes)
+}
+
+// The arguments from a number on.
+pub fn arguments(from: usize, takes: u8) -> Asked {
+    let count = os::arg_count();
+    let mut asked = Asked {
+        options: USUAL,
+        as_text: false,
+        interrupting: false,
+        continuing: false,
+        size: 0,
+        blank: false,
+        operand: 0,
+        dashed: false,
+        events: 0,
+        awaits: 0,
+        ended: false,
+        wrong: 0,
+        culprit: 0,
+    };
+    let mut i = from;
+    while i < count {
+        asked = take(asked, i, takes);
+        i += 1;
+    }
+    asked
+}
+
+// Says what is wrong with an argument.
+fn say_wrong(what: u8, culprit: usize) -> u8 {
+    match what {
+        NO_NUMBER => blame(b"not a number", culprit),
+        UNKNOWN => blame(b"no such option", culprit),
+        TOO_LARGE => blame(b"too large", culprit),
+        _ => blame(b"one argument too many", culprit),
+    }
+}
+
+// Says that an option, by its letter, wants a number.
+fn ask_number(option: u8) -> u8 {
+    if option == b'c' {
+        return wrong(b"-c wants a number");
+    }
+    wrong(b"-o wants a number")
+}
+
+// Whether -b stands alone: it says something of the item whose size -c gives.
+fn lacks_size(asked: Asked) -> bool {
+    if asked.continuing {
+        return false;
+    }
+    asked.blank
+}
+
+// Whether the arguments are good; says what is wrong where they are not.
+pub fn are_good(asked: Asked) -> bool {
+    if asked.wrong != 0 {
+        say_wrong(asked.wrong, asked.culprit);
+        return false;
+    }
+    if asked.awaits != 0 {
+        ask_number(asked.awaits);
+        return false;
+    }
+    if lacks_size(asked) {
+        wrong(b"-b wants -c beside it");
+        return false;
+    }
+    true
+}
