@@ -111,7 +111,7 @@ static const char *const call_names[CALLS] = {"lark_read",         "lark_resolve
 
 /* The fields of the answer, and what was written. */
 static void make(int call, struct given g, size_t fields[FIELDS], struct bytes *wrote) {
-    struct slice in = lend_bytes(g.in->at, g.in->n), out = lend(g.out_length), work = lend(g.work_length);
+    struct slice in = lend_bytes(g.in->at, g.in->n), out = lend(g.out_length), work = lend(call <= LISTS ? g.work_length : 0);
     size_t n = 0, i;
     memset(fields, 0, FIELDS * sizeof *fields);
     switch (call) {
@@ -157,7 +157,7 @@ static void make(int call, struct given g, size_t fields[FIELDS], struct bytes *
         put(wrote, out.p, n);
         all_are("output past the section", out.p + n, out.n - n, way_dirt[way]);
     }
-    if (call <= LISTS) all_are("work memory", work.p, work.n, 0);
+    all_are("work memory", work.p, work.n, 0);
     if (fields[0] > 8) fail("number", fields[0], 8);
     for (i = 2; i < FIELDS && fields[0]; i++) equal("a field of a refusal", fields[i], 0);
     take_back(in);

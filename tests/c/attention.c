@@ -85,6 +85,10 @@ static void by_line(void) {
     attention("~a~", 59, "+1@0 -1@1 +0@1 -0@2 +1@2 -1@3", 0, 1, "+0@0 -0@1 +0@1 -0@2 +0@2 -0@3");
     begin("`~a~` with option 4");
     attention("~a~", 63, "+1@0 -1@1 +0@1 -0@2 +1@2 -1@3", 1, 1, "+8@0 +9@0 -9@1 +10@1 +0@1 -0@2 -10@2 +9@2 -9@3 -8@3");
+    begin("`~a~` with options 2 and 4 alone");
+    attention("~a~", 6, "+1@0 -1@1 +0@1 -0@2 +1@2 -1@3", 1, 1, "+8@0 +9@0 -9@1 +10@1 +0@1 -0@2 -10@2 +9@2 -9@3 -8@3");
+    begin("a byte from 128 up before `_a_`: none");
+    attention("\x80_a_", 63, "+1@1 -1@2 +0@2 -0@3 +1@3 -1@4", 0, 0, "+0@1 -0@2 +0@2 -0@3 +0@3 -0@4");
     begin("`*a _b* c_`: one group");
     attention("*a _b* c_", 59, "+1@0 -1@1 +0@1 -0@3 +1@3 -1@4 +0@4 -0@5 +1@5 -1@6 +0@6 -0@8 +1@8 -1@9", 1, 1,
               "+2@0 +3@0 -3@1 +4@1 +0@1 -0@3 +0@3 -0@4 +0@4 -0@5 -4@5 +3@5 -3@6 -2@6 +0@6 -0@8 +0@8 -0@9");
@@ -99,6 +103,55 @@ static void by_line(void) {
               "+24@0 +0@0 -0@1 -24@1 +0@1 -0@2 +24@2 +0@2 -0@3 -24@3");
     begin("no runs: the events as they are");
     attention("ab", 0, "+11@0 +13@0 -13@2 -11@2", 0, 0, "+11@0 +13@0 -13@2 -11@2");
+}
+
+/* Two runs of one `*`, and nothing else for events: whether they become a group. */
+#define TWO(text, n, a, b, c, d, group) \
+    resolves_once(record_of(text, n, "+1@" a " -1@" b " +1@" c " -1@" d), group, \
+                  section(group ? "+2@" a " +3@" a " -3@" b " +4@" b " -4@" c " +3@" c " -3@" d " -2@" d : "+0@" a " -0@" b " +0@" c " -0@" d))
+static void resolves_once(const struct bytes *r, int group, const struct bytes *result) {
+    resolves_into(result->n, LARK_WORK_BYTES, lark_resolve_attention, r, 63, (size_t)group, (size_t)group, result);
+}
+
+/* Every byte beside a run. A letter on the other side: the run opens (closes) if the byte is other. The document's end on the other side: it does
+ * unless the byte is whitespace. Beside `*`, `_` and `~` it does in any case. */
+static void neighbours(void) {
+    static const char punctuation[] = "!\"#$%&'()*+,-./:;<=>?@[\\]^_`{|}~";
+    char text[5];
+    int byte;
+    begin("32 punctuation marks");
+    equal("how many there are", sizeof punctuation - 1, 32);
+    begin("every byte beside a run");
+    for (byte = 0; byte < 256; byte++) {
+        int white = byte == '\t' || byte == '\n' || byte == '\f' || byte == ' ', marker = byte == '*' || byte == '_' || byte == '~';
+        int other = !white && !memchr(punctuation, byte, 32);
+        if (byte == '\r') continue;
+        text[0] = 'a', text[1] = '*', text[2] = (char)byte, text[3] = 'b', text[4] = '*';
+        if (byte != '*') TWO(text, 5, "1", "2", "4", "5", other || marker);
+        if (byte != '*') TWO(text + 1, 4, "0", "1", "3", "4", !white);
+        text[0] = '*', text[1] = 'b', text[2] = (char)byte, text[3] = '*', text[4] = 'a';
+        TWO(text, 5, "0", "1", "3", "4", other || marker);
+        TWO(text, 4, "0", "1", "3", "4", !white);
+    }
+}
+
+/* Options 1, 2 and 4 by what they do; the others do nothing. */
+static void every_option(void) {
+    static const char a[] = "+1@0 -1@1 +0@1 -0@2 +1@2 -1@3";
+    uint32_t options;
+    begin("every options number");
+    for (options = 0; options <= 63; options++) {
+        if (options & 1)
+            attention("*a*", options, a, 1, 1, "+2@0 +3@0 -3@1 +4@1 +0@1 -0@2 -4@2 +3@2 -3@3 -2@3");
+        else
+            refuses(lark_resolve_attention, record("*a*", a), options, LARK_OUT_BYTES, LARK_WORK_BYTES, 6, 11);
+        if (!(options & 2))
+            refuses(lark_resolve_attention, record("~a~", a), options, LARK_OUT_BYTES, LARK_WORK_BYTES, 6, 11);
+        else if (options & 4)
+            attention("~a~", options, a, 1, 1, "+8@0 +9@0 -9@1 +10@1 +0@1 -0@2 -10@2 +9@2 -9@3 -8@3");
+        else
+            attention("~a~", options, a, 0, 1, "+0@0 -0@1 +0@1 -0@2 +0@2 -0@3");
+    }
 }
 
 /* Refused with 6 at a place, with ample output and with none. */
@@ -127,6 +180,8 @@ static void number_6(void) {
     shape("~~", 61, "+1@0 -1@2", 10);
     begin("6: the earliest run that offends");
     shape("*a*ba", 63, "+0@0 -0@0 +1@0 -1@1 +0@1 -0@2 +1@2 -1@4 +1@4 -1@5", 13 + 8 * 6);
+    begin("6: far on");
+    refuses_far_on(lark_resolve_attention, "+1@0 -1@0");
     begin("a run behind its own marker is good");
     attention("**", 63, "+1@1 -1@2", 0, 0, "+0@1 -0@2");
 }
@@ -219,6 +274,7 @@ static void number_8(void) {
 static void all(void) {
     whole_case();
     by_line();
+    if (way == EXACT) neighbours(), every_option(); /* once is enough: what is lent is not what they are about */
     number_6();
     number_7();
     most_tried();

@@ -187,13 +187,14 @@ static inline void put_document(struct bytes *b, const char *text, size_t n) {
 /* A record, or a section: the bytes of each stay until its next use. */
 static struct bytes record_bytes, section_bytes;
 
-static inline const struct bytes *record(const char *text, const char *events) {
-    struct lark_record r = lark_begin_record(record_bytes.at, sizeof record_bytes.at, text, strlen(text));
+static inline const struct bytes *record_of(const char *text, size_t n, const char *events) {
+    struct lark_record r = lark_begin_record(record_bytes.at, sizeof record_bytes.at, text, n);
     struct lark_event event;
     while (next_event(&events, &event)) lark_add_event(&r, event.kind, event.name, event.place);
     record_bytes.n = r.length;
     return &record_bytes;
 }
+static inline const struct bytes *record(const char *text, const char *events) { return record_of(text, strlen(text), events); }
 
 static inline const struct bytes *section(const char *events) {
     struct lark_event event;
@@ -257,18 +258,23 @@ static inline void resolves_with(resolver *call, const struct bytes *r, uint32_t
     take_back(work);
 }
 
-/* A resolver accepts and writes this section: into ample output, into output of just its length, and with more output and work memory than is
- * needed. 65,536 cut to 16 bits is 0. */
-static inline void resolves(resolver *call, const struct bytes *r, uint32_t options, size_t groups, size_t tried, const struct bytes *result) {
+/* A resolver accepts and writes this section, into an output of this length. */
+static inline void resolves_into(size_t out_length, size_t work_length, resolver *call, const struct bytes *r, uint32_t options, size_t groups,
+                                 size_t tried, const struct bytes *result) {
     struct lark_resolved want;
     want.number = want.place = 0;
     want.events = (result->n - 4) / 8;
     want.groups = groups;
     want.tried = tried;
-    resolves_with(call, r, options, LARK_OUT_BYTES, LARK_WORK_BYTES, want, result);
-    resolves_with(call, r, options, result->n, LARK_WORK_BYTES, want, result);
-    resolves_with(call, r, options, result->n + 1, LARK_WORK_BYTES + 4099, want, result);
-    resolves_with(call, r, options, 65536, LARK_WORK_BYTES + 65536, want, result);
+    resolves_with(call, r, options, out_length, work_length, want, result);
+}
+
+/* The same into ample output, into output of just its length, and with more output and work memory than is needed. 65,536 cut to 16 bits is 0. */
+static inline void resolves(resolver *call, const struct bytes *r, uint32_t options, size_t groups, size_t tried, const struct bytes *result) {
+    resolves_into(LARK_OUT_BYTES, LARK_WORK_BYTES, call, r, options, groups, tried, result);
+    resolves_into(result->n, LARK_WORK_BYTES, call, r, options, groups, tried, result);
+    resolves_into(result->n + 1, LARK_WORK_BYTES + 4099, call, r, options, groups, tried, result);
+    resolves_into(65536, LARK_WORK_BYTES + 65536, call, r, options, groups, tried, result);
 }
 
 static inline void refuses(resolver *call, const struct bytes *r, uint32_t options, size_t out_length, size_t work_length, size_t number,
@@ -278,6 +284,13 @@ static inline void refuses(resolver *call, const struct bytes *r, uint32_t optio
     want.place = place;
     want.events = want.groups = want.tried = 0;
     resolves_with(call, r, options, out_length, work_length, want, NULL);
+}
+
+/* Behind a document of 300 bytes the first event is refused with 6: at a place that eight bits do not hold. */
+static inline void refuses_far_on(resolver *call, const char *events) {
+    static char text[300];
+    memset(text, 'a', sizeof text);
+    refuses(call, record_of(text, sizeof text, events), 63, LARK_OUT_BYTES, LARK_WORK_BYTES, 6, 308);
 }
 
 /* --- the program --- */

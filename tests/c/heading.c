@@ -52,12 +52,42 @@ static void found(void) {
     heading("#\na", 59, "+11@0 +12@0 -12@1 -11@1");
     begin("`#` and a tab");
     heading("#\ta", 59, "+11@0 +12@0 -12@1 +14@1 -14@2 +0@2 -0@3 -11@3");
+    begin("one or two spaces, or a tab, in front");
+    heading(" # a", 59, "+11@0 +14@0 -14@1 +12@1 -12@2 +14@2 -14@3 +0@3 -0@4 -11@4");
+    heading("  # a", 59, "+11@0 +14@0 -14@2 +12@2 -12@3 +14@3 -14@4 +0@4 -0@5 -11@5");
+    heading("\t# a", 59, "+11@0 +14@0 -14@1 +12@1 -12@2 +14@2 -14@3 +0@3 -0@4 -11@4");
     begin("three spaces in front, and spaces behind");
     heading("   # a \t", 59, "+11@0 +14@0 -14@3 +12@3 -12@4 +14@4 -14@5 +0@5 -0@6 +14@6 -14@8 -11@8");
     begin("four spaces in front without option 32");
     heading("    # a", 27, "+11@0 +14@0 -14@4 +12@4 -12@5 +14@5 -14@6 +0@6 -0@7 -11@7");
     begin("zero bytes and bytes from 128 up are Data");
     heading("# \0\xc3\xa9", 59, "+11@0 +12@0 -12@1 +14@1 -14@2 +0@2 -0@5 -11@5");
+}
+
+/* Two to six `#` and a word; one has cases of its own. */
+static void more_hashes(void) {
+    begin("two to six `#` and a word");
+    heading("## a", 59, "+11@0 +12@0 -12@2 +14@2 -14@3 +0@3 -0@4 -11@4");
+    heading("### a", 59, "+11@0 +12@0 -12@3 +14@3 -14@4 +0@4 -0@5 -11@5");
+    heading("#### a", 59, "+11@0 +12@0 -12@4 +14@4 -14@5 +0@5 -0@6 -11@6");
+    heading("##### a", 59, "+11@0 +12@0 -12@5 +14@5 -14@6 +0@6 -0@7 -11@7");
+    heading("###### a", 59, "+11@0 +12@0 -12@6 +14@6 -14@7 +0@7 -0@8 -11@8");
+}
+
+/* Option 8 finds headings, and option 32 keeps those indented by four from being found. The others do nothing. */
+static void every_option(void) {
+    uint32_t options;
+    begin("every options number");
+    for (options = 0; options <= 63; options++) {
+        if (options & 8)
+            heading("#", options, "+11@0 +12@0 -12@1 -11@1");
+        else
+            no_heading("#", options);
+        if ((options & 8) && !(options & 32))
+            heading("    #", options, "+11@0 +14@0 -14@4 +12@4 -12@5 -11@5");
+        else
+            no_heading("    #", options);
+    }
 }
 
 /* One word to the end of the longest line. */
@@ -153,6 +183,8 @@ static void longest(void) {
 
 static void all(void) {
     found();
+    more_hashes();
+    every_option();
     longest_line();
     not_found();
     refusals();

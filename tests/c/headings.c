@@ -13,8 +13,6 @@ static void texts(void) {
              "+11@0 +12@0 -12@1 +14@1 -14@2 +13@2 +0@2 -0@5 -13@5 -11@5");
     begin("`# a#`: text 2 to 4");
     headings("# a#", 59, "+11@0 +12@0 -12@1 +14@1 -14@2 +0@2 -0@4 -11@4", "+11@0 +12@0 -12@1 +14@1 -14@2 +13@2 +0@2 -0@4 -13@4 -11@4");
-    begin("no option need be on");
-    headings("# a#", 0, "+11@0 +12@0 -12@1 +14@1 -14@2 +0@2 -0@4 -11@4", "+11@0 +12@0 -12@1 +14@1 -14@2 +13@2 +0@2 -0@4 -13@4 -11@4");
     begin("`# #a`: the text is `a`");
     headings("# #a", 63, "+11@0 +12@0 -12@1 +14@1 -14@2 +12@2 -12@3 +0@3 -0@4 -11@4",
              "+11@0 +12@0 -12@1 +14@1 -14@2 +12@2 -12@3 +13@3 +0@3 -0@4 -13@4 -11@4");
@@ -37,6 +35,13 @@ static void texts(void) {
     headings("a", 63, "+1@0 -1@0 +15@0 -15@1", "+1@0 -1@0 +15@0 -15@1");
     begin("no events");
     headings("", 63, "", "");
+}
+
+static void every_option(void) {
+    uint32_t options;
+    begin("every options number, and none need be on");
+    for (options = 0; options <= 63; options++)
+        headings("#a", options, "+11@0 +12@0 -12@1 +0@1 -0@2 -11@2", "+11@0 +12@0 -12@1 +13@1 +0@1 -0@2 -13@2 -11@2");
 }
 
 /* Refused with 6 at a place, with ample output and with none. */
@@ -64,6 +69,8 @@ static void number_6(void) {
     shape("# a", "+11@0 +12@0 -12@1 +14@1 -14@2 +13@2 +0@2 -0@3 -13@3 -11@3", 11);
     begin("6: the earliest heading that offends");
     shape("# a", "+11@0 +12@0 -12@1 -11@1 +11@2 -11@3 +11@3 -11@3", 11 + 8 * 4);
+    begin("6: far on");
+    refuses_far_on(lark_resolve_headings, "+11@0 -11@0");
 }
 
 static void number_8(void) {
@@ -107,6 +114,7 @@ static void many(void) {
 
 static void all(void) {
     texts();
+    if (way == EXACT) every_option(); /* once is enough: what is lent is not what it is about */
     number_6();
     number_8();
     many();

@@ -129,6 +129,9 @@ static void space_or_tab(void) {
     taken(longest(""), LARK_MAX_LINE, 16384, SIZE_MAX, 16384);
     taken(longest(""), LARK_MAX_LINE, 0, 16383, 16383);
     too_few(longest(""), LARK_MAX_LINE, 16385, SIZE_MAX);
+    taken(longest(""), 300, 0, SIZE_MAX, 300);
+    begin("space-or-tab: more than there may be, and just as many");
+    taken(LINE("       a"), 5, 5, 5);
     begin("space-or-tab: every options number");
     for (options = 0; options <= 63; options++) spaces_with(LINE("  a"), options, 0, 9, 0, 0, 1, 2);
 }
@@ -163,6 +166,7 @@ static void every_rest(const char *marker) {
 }
 
 static void list_item(void) {
+    uint32_t options;
     int bit;
     begin("item: every mark, with every kind of rest");
     every_rest("-");
@@ -196,8 +200,11 @@ static void list_item(void) {
     item(LINE("123456789. a"), 59, 0, 11, 11, 0, '.');
     begin("item: `1) a`");
     item(LINE("1) a"), 59, 0, 3, 3, 0, ')');
+    begin("item: `100. a`");
+    item(LINE("100. a"), 59, 0, 5, 5, 0, '.');
     begin("item: ten digits are none");
     no_item(LINE("1234567890. a"), 59, 0);
+    no_item(LINE("1234567890) a"), 59, 0);
     begin("item: digits alone are none");
     no_item(LINE("12"), 59, 0);
     no_item(LINE("12 a"), 59, 0);
@@ -211,6 +218,8 @@ static void list_item(void) {
     item(LINE("-\ta"), 59, 0, 2, 2, 0, '-');
     begin("item: `   - a` has an indentation of 3");
     item(LINE("   - a"), 59, 0, 5, 5, 0, '-');
+    begin("item: a tab in front is one byte");
+    item(LINE("\t- a"), 59, 0, 3, 3, 0, '-');
     begin("item: `    - a` is none with option 32");
     no_item(LINE("    - a"), 59, 0);
     begin("item: `    - a` is one without option 32");
@@ -219,9 +228,15 @@ static void list_item(void) {
     no_item(LINE("- - -"), 59, 0);
     no_item(LINE("***"), 59, 0);
     no_item(LINE("* *\t* \nx"), 59, 0);
+    begin("item: a thematic break that is indented, and one of four marks");
+    no_item(LINE("  - - -"), 59, 0);
+    no_item(LINE("- - - -"), 59, 0);
     begin("item: two marks are no thematic break, nor are `+`");
     item(LINE("- -"), 59, 0, 2, 2, 0, '-');
     item(LINE("+ + +"), 59, 0, 2, 2, 0, '+');
+    begin("item: three marks and something else, and two kinds of marks, are no thematic break");
+    item(LINE("- - - a"), 59, 0, 2, 2, 0, '-');
+    item(LINE("- * -"), 59, 0, 2, 2, 0, '-');
     begin("item: a blank start");
     item(LINE("-"), 59, 0, 1, 2, 1, '-');
     item(LINE(" 12.  \t\na"), 59, 0, 4, 5, 1, '.');
@@ -234,6 +249,9 @@ static void list_item(void) {
     item(LINE("1. a"), 59, 1, 3, 3, 0, '.');
     begin("item: `01. a` interrupting is none");
     no_item(LINE("01. a"), 59, 1);
+    begin("item: `12. a` interrupting is none");
+    no_item(LINE("12. a"), 59, 1);
+    item(LINE("12. a"), 59, 0, 4, 4, 0, '.');
     begin("item: a blank start interrupting is none");
     no_item(LINE("-"), 59, 1);
     no_item(LINE("1.  "), 59, 1);
@@ -247,9 +265,21 @@ static void list_item(void) {
     no_item(LINE("\n- a"), 59, 0);
     begin("item: text is none");
     no_item(LINE("a"), 59, 0);
+    begin("item: every options number");
+    for (options = 0; options <= 63; options++) {
+        if (options & 16)
+            item(LINE("- a"), options, 0, 2, 2, 0, '-');
+        else
+            no_item(LINE("- a"), options, 0);
+        if ((options & 16) && !(options & 32))
+            item(LINE("    - a"), options, 0, 6, 6, 0, '-');
+        else
+            no_item(LINE("    - a"), options, 0);
+    }
 }
 
 static void continuation(void) {
+    uint32_t options;
     int bit;
     begin("continuation: a filled line with size of spaces");
     goes(LINE("  a"), 2, 0, 2, 0);
@@ -295,8 +325,15 @@ static void continuation(void) {
     stops(longest("a"), LARK_MAX_LINE, 16384, 0, 0);
     goes(longest(""), LARK_MAX_LINE, 16384, 0, 16384, 0);
     goes(longest(""), LARK_MAX_LINE, 300, 0, 300, 0);
-    begin("continuation: no option need be on");
-    going_with(LINE("  a"), 0, 2, 0, 0, 0, 1, 2, 0);
+    goes(longest(""), 400, 400, 0, 400, 0);
+    begin("continuation: a form feed is not blank");
+    stops(LINE("\f"), 2, 0, 0);
+    stops(LINE("\f"), 2, 1, 0);
+    begin("continuation: every options number, and none need be on");
+    for (options = 0; options <= 63; options++) {
+        going_with(LINE("  a"), options, 2, 0, 0, 0, 1, 2, 0);
+        going_with(LINE(" a"), options, 2, 0, 0, 0, 0, 0, 0);
+    }
 }
 
 static void refusals(void) {

@@ -14,9 +14,6 @@ static void joined(void) {
     begin("one item");
     lists("- a", 63, "+15@0 +16@0 +17@0 -17@1 +14@1 -14@2 -16@2 +0@2 -0@3 -15@3",
           "+20@0 +15@0 +16@0 +17@0 -17@1 +14@1 -14@2 -16@2 +0@2 -0@3 -15@3 -20@3");
-    begin("no option need be on");
-    lists("- a", 0, "+15@0 +16@0 +17@0 -17@1 +14@1 -14@2 -16@2 +0@2 -0@3 -15@3",
-          "+20@0 +15@0 +16@0 +17@0 -17@1 +14@1 -14@2 -16@2 +0@2 -0@3 -15@3 -20@3");
     begin("an ordered item, indented");
     lists(" 1. a", 63, "+15@0 +14@0 -14@1 +16@1 +18@1 -18@2 +17@2 -17@3 +14@3 -14@4 -16@4 +0@4 -0@5 -15@5",
           "+19@0 +15@0 +14@0 -14@1 +16@1 +18@1 -18@2 +17@2 -17@3 +14@3 -14@4 -16@4 +0@4 -0@5 -15@5 -19@5");
@@ -31,6 +28,12 @@ static void joined(void) {
     lists("-", 63, ITEM("0", "1"), "+20@0 " ITEM("0", "1") "-20@1");
     lists(".", 63, ITEM("0", "1"), "+19@0 " ITEM("0", "1") "-19@1");
     lists(")", 63, ITEM("0", "1"), "+19@0 " ITEM("0", "1") "-19@1");
+    begin("two items of every mark");
+    lists("*\n*", 63, ITEM("0", "1") "+21@1 -21@2 " ITEM("2", "3"), "+20@0 " ITEM("0", "1") "+21@1 -21@2 " ITEM("2", "3") "-20@3");
+    lists("+\n+", 63, ITEM("0", "1") "+21@1 -21@2 " ITEM("2", "3"), "+20@0 " ITEM("0", "1") "+21@1 -21@2 " ITEM("2", "3") "-20@3");
+    lists("-\n-", 63, ITEM("0", "1") "+21@1 -21@2 " ITEM("2", "3"), "+20@0 " ITEM("0", "1") "+21@1 -21@2 " ITEM("2", "3") "-20@3");
+    lists(".\n.", 63, ITEM("0", "1") "+21@1 -21@2 " ITEM("2", "3"), "+19@0 " ITEM("0", "1") "+21@1 -21@2 " ITEM("2", "3") "-19@3");
+    lists(")\n)", 63, ITEM("0", "1") "+21@1 -21@2 " ITEM("2", "3"), "+19@0 " ITEM("0", "1") "+21@1 -21@2 " ITEM("2", "3") "-19@3");
     begin("two marks, two lists");
     lists("-\n*", 63, ITEM("0", "1") "+21@1 -21@2 " ITEM("2", "3"), "+20@0 " ITEM("0", "1") "-20@1 +21@1 -21@2 +20@2 " ITEM("2", "3") "-20@3");
     lists(".\n)", 63, ITEM("0", "1") "+21@1 -21@2 " ITEM("2", "3"), "+19@0 " ITEM("0", "1") "-19@1 +21@1 -21@2 +19@2 " ITEM("2", "3") "-19@3");
@@ -51,6 +54,12 @@ static void joined(void) {
     lists("a", 63, "+1@0 -1@0 +11@0 -11@1", "+1@0 -1@0 +11@0 -11@1");
     begin("no events");
     lists("", 63, "", "");
+}
+
+static void every_option(void) {
+    uint32_t options;
+    begin("every options number, and none need be on");
+    for (options = 0; options <= 63; options++) lists("-", options, ITEM("0", "1"), "+20@0 " ITEM("0", "1") "-20@1");
 }
 
 /* Refused with 6 at a place, with ample output and with none. */
@@ -84,6 +93,8 @@ static void number_6(void) {
     shape("--", ITEM("0", "1") ITEM("1", "2"), 10 + 8 * 6);
     begin("6: the earliest item that offends");
     shape("-\n-", ITEM("0", "1") "+21@1 -21@2 +15@2 -15@2 +21@2 -21@2 +15@2 -15@3", 11 + 8 * 8);
+    begin("6: far on");
+    refuses_far_on(lark_resolve_lists, "+15@0 -15@0");
     begin("an empty pair between two items is enough");
     lists("--", 63, ITEM("0", "1") "+14@1 -14@1 " ITEM("1", "2"), "+20@0 " ITEM("0", "1") "+14@1 -14@1 " ITEM("1", "2") "-20@2");
 }
@@ -97,13 +108,39 @@ static void number_8(void) {
     refuses(lark_resolve_lists, record("", ""), 63, 3, LARK_WORK_BYTES, 8, 0);
 }
 
-static void put_item(struct bytes *b, size_t at) {
+/* An item up to where its content begins, and a whole one with none. */
+static void put_start(struct bytes *b, size_t at) {
     put_event(b, LARK_ENTER, 15, at);
     put_event(b, LARK_ENTER, 16, at);
     put_event(b, LARK_ENTER, 17, at);
     put_event(b, LARK_EXIT, 17, at + 1);
     put_event(b, LARK_EXIT, 16, at + 1);
+}
+static void put_item(struct bytes *b, size_t at) {
+    put_start(b, at);
     put_event(b, LARK_EXIT, 15, at + 1);
+}
+
+/* Items in each other as deep as a record goes: 62, and the prefix and marker of the last. Each has a list of its own. */
+static void deep(void) {
+    size_t i;
+    begin("62 items in each other");
+    record_bytes.n = section_bytes.n = 0;
+    put_number(&record_bytes, 62);
+    put_many(&record_bytes, '-', 62);
+    put_number(&record_bytes, 62 * 6);
+    put_number(&section_bytes, 62 * 8);
+    for (i = 0; i < 62; i++) {
+        put_event(&section_bytes, LARK_ENTER, 20, i);
+        put_start(&record_bytes, i);
+        put_start(&section_bytes, i);
+    }
+    for (i = 0; i < 62; i++) {
+        put_event(&record_bytes, LARK_EXIT, 15, 62);
+        put_event(&section_bytes, LARK_EXIT, 15, 62);
+        put_event(&section_bytes, LARK_EXIT, 20, 62);
+    }
+    resolves(lark_resolve_lists, &record_bytes, 63, 0, 0, &section_bytes);
 }
 
 /* As many items as a record can hold, in one list, and each in a list of its own. */
@@ -152,8 +189,10 @@ static void many(void) {
 
 static void all(void) {
     joined();
+    if (way == EXACT) every_option(); /* once is enough: what is lent is not what it is about */
     number_6();
     number_8();
+    deep();
     many();
 }
 
