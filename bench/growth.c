@@ -6,35 +6,24 @@
  * Families in which runs both open and close, so that the candidates tried are quadratic, have a table of their own: its last column is what a
  * candidate costs. The last table is of the wipe alone, which is of all that is lent.
  */
-#include <stdint.h>
+#include <ledgerlark.h>
+
 #include <stdio.h>
 #include <stdlib.h>
 #include <string.h>
 #include <time.h>
 
-struct lark_resolved {
-    size_t number, place, events, groups, tried;
-};
 typedef struct lark_resolved resolver(const uint8_t *record, size_t record_length, uint32_t options, uint8_t *out, size_t out_length,
                                       uint8_t *work, size_t work_length);
-resolver lark_resolve_attention, lark_resolve_headings, lark_resolve_lists;
-struct lark_reading {
-    size_t number, place, document, events;
-};
-struct lark_reading lark_read(const uint8_t *record, size_t record_length, uint32_t options, uint8_t *work, size_t work_length);
 
-enum { WORK = 65536, OUT = 4 + 8 * 8000, OPTIONS = 59 };
-static uint8_t document[16384], events[8 * 2048], record[8 + sizeof document + sizeof events], out[OUT], work[WORK];
+enum { WORK = LARK_WORK_BYTES, OUT = LARK_OUT_BYTES, OPTIONS = 59 };
+static uint8_t document[LARK_MAX_DOCUMENT], events[8 * LARK_MAX_EVENTS], record[LARK_RECORD_BYTES], out[OUT], work[WORK];
 static size_t bytes, count;
-
-static void put32(uint8_t *at, size_t x) {
-    for (int i = 0; i < 4; i++) at[i] = (uint8_t)(x >> (8 * i));
-}
 
 static void event(uint8_t kind, uint8_t name) {
     uint8_t *at = events + 8 * count++;
     at[0] = kind, at[1] = name, at[2] = at[3] = 0;
-    put32(at + 4, bytes);
+    lark_put_number(at + 4, bytes);
 }
 
 static void text(const char *t) {
@@ -212,9 +201,9 @@ static struct cell {
 static int timed(const struct table *t, const struct family *f, size_t n, struct cell *cell) {
     bytes = count = 0;
     f->make(n);
-    put32(record, bytes);
+    lark_put_number(record, bytes);
     memcpy(record + 4, document, bytes);
-    put32(record + 4 + bytes, count);
+    lark_put_number(record + 4 + bytes, count);
     memcpy(record + 8 + bytes, events, 8 * count);
     cell->events = count;
     double begun = now();

@@ -2,41 +2,23 @@
  * longer paint shows how deep the call went. The depth is counted from the frame that makes the call, and the same is done with a call that
  * does nothing, so that what the thread itself takes is seen. Ends with 1 if a call passes 4 KiB.
  */
+#include <ledgerlark.h>
+
 #include <pthread.h>
-#include <stdint.h>
 #include <stdio.h>
 #include <string.h>
 
-struct lark_resolved { size_t n[5]; };
-struct lark_reading { size_t n[4]; };
-struct lark_spaces { size_t n[4]; };
-struct lark_item { size_t n[7]; };
-struct lark_going { size_t n[5]; };
-struct lark_headed { size_t n[4]; };
-
-typedef struct lark_resolved resolver(const uint8_t *record, size_t record_length, uint32_t options, uint8_t *out, size_t out_length,
-                                      uint8_t *work, size_t work_length);
-resolver lark_resolve_attention, lark_resolve_headings, lark_resolve_lists;
-struct lark_reading lark_read(const uint8_t *, size_t, uint32_t, uint8_t *, size_t);
-struct lark_spaces lark_space_or_tab(const uint8_t *, size_t, uint32_t, size_t, size_t);
-struct lark_item lark_list_item(const uint8_t *, size_t, uint32_t, uint32_t);
-struct lark_going lark_continuation(const uint8_t *, size_t, uint32_t, size_t, uint32_t, uint32_t);
-struct lark_headed lark_heading(const uint8_t *, size_t, uint32_t, uint8_t *, size_t);
-
-enum { WORK = 65536, OUT = 4 + 8 * 8000, OPTIONS = 59, STACK = 1 << 18, PAINT = 0xa7, MOST = 4096 };
-static uint8_t document[16384], events[8 * 2048], record[8 + sizeof document + sizeof events], out[OUT], work[WORK], line[1024];
+enum { WORK = LARK_WORK_BYTES, OUT = LARK_OUT_BYTES, OPTIONS = 59, STACK = 1 << 18, PAINT = 0xa7, MOST = 4096 };
+static uint8_t document[LARK_MAX_DOCUMENT], events[8 * LARK_MAX_EVENTS], record[LARK_RECORD_BYTES], out[OUT], work[WORK], line[1024];
 static uint8_t stack[STACK] __attribute__((aligned(4096)));
 static size_t bytes, count, length;
 static uint8_t *frame;
 static volatile size_t answered, refused;
 
-static void put32(uint8_t *at, size_t x) {
-    for (int i = 0; i < 4; i++) at[i] = (uint8_t)(x >> (8 * i));
-}
 static void event(uint8_t kind, uint8_t name) {
     uint8_t *at = events + 8 * count++;
     at[0] = kind, at[1] = name, at[2] = at[3] = 0;
-    put32(at + 4, bytes);
+    lark_put_number(at + 4, bytes);
 }
 static void pair(uint8_t name, const char *text) {
     event(0, name);
@@ -44,9 +26,9 @@ static void pair(uint8_t name, const char *text) {
     event(1, name);
 }
 static void close_record(void) {
-    put32(record, bytes);
+    lark_put_number(record, bytes);
     memcpy(record + 4, document, bytes);
-    put32(record + 4 + bytes, count);
+    lark_put_number(record + 4 + bytes, count);
     memcpy(record + 8 + bytes, events, 8 * count);
     length = 8 + bytes + 8 * count;
 }
@@ -85,14 +67,14 @@ static void blanks(void) {
 }
 
 static void nothing(void) { __asm__ volatile("" : : : "memory"); }
-static void attention(void) { refused = lark_resolve_attention(record, length, OPTIONS, out, OUT, work, WORK).n[0]; }
-static void resolve_headings(void) { refused = lark_resolve_headings(record, length, OPTIONS, out, OUT, work, WORK).n[0]; }
-static void lists(void) { refused = lark_resolve_lists(record, length, OPTIONS, out, OUT, work, WORK).n[0]; }
-static void reads(void) { refused = lark_read(record, length, OPTIONS, work, WORK).n[0]; }
-static void spaces(void) { answered = lark_space_or_tab(line, sizeof line, OPTIONS, 0, 9999).n[2]; }
-static void item(void) { answered = lark_list_item(line, sizeof line, OPTIONS, 0).n[2]; }
-static void going(void) { answered = lark_continuation(line, sizeof line, OPTIONS, 2, 0, '-').n[2]; }
-static void headed(void) { answered = lark_heading(line, sizeof line, OPTIONS, out, OUT).n[2]; }
+static void attention(void) { refused = lark_resolve_attention(record, length, OPTIONS, out, OUT, work, WORK).number; }
+static void resolve_headings(void) { refused = lark_resolve_headings(record, length, OPTIONS, out, OUT, work, WORK).number; }
+static void lists(void) { refused = lark_resolve_lists(record, length, OPTIONS, out, OUT, work, WORK).number; }
+static void reads(void) { refused = lark_read(record, length, OPTIONS, work, WORK).number; }
+static void spaces(void) { answered = lark_space_or_tab(line, sizeof line, OPTIONS, 0, 9999).found; }
+static void item(void) { answered = lark_list_item(line, sizeof line, OPTIONS, 0).found; }
+static void going(void) { answered = lark_continuation(line, sizeof line, OPTIONS, 2, 0, '-').found; }
+static void headed(void) { answered = lark_heading(line, sizeof line, OPTIONS, out, OUT).found; }
 
 static void *in_thread(void *call) {
     frame = __builtin_frame_address(0);
