@@ -29,9 +29,11 @@ fn main() {
     if archive.file_name() != Some(ARCHIVE.as_ref()) {
         fail(&format!("The static library {shown} has another name than {ARCHIVE}."));
     }
-    let target = env::var("CARGO_CFG_TARGET_ARCH").unwrap_or_default();
-    if target != "x86_64" && is_for_x86_64(&archive) {
-        println!("cargo::warning=The static library {shown} is for x86-64. For {target} this crate can be checked, but not linked.");
+    let [processor, system] = ["CARGO_CFG_TARGET_ARCH", "CARGO_CFG_TARGET_OS"].map(|name| env::var(name).unwrap_or_default());
+    if (processor != "x86_64" || system != "linux") && is_for_x86_64(&archive) {
+        println!(
+            "cargo::warning=The static library {shown} is for x86-64 and Linux. For {processor} and {system} this crate can be checked, but not linked."
+        );
     }
     let folder = archive.parent().unwrap_or(&crate_folder);
     println!("cargo::rerun-if-changed={shown}");

@@ -214,16 +214,16 @@ impl Iterator for Events<'_> {
 
 impl FusedIterator for Events<'_> {}
 
-/// How long a section of so many events is: its count and 8 bytes for each.
+/// How long a section of so many events is: its count and 8 bytes for each. Where that is no `usize`, the largest there is.
 #[must_use]
 pub const fn section_length(events: usize) -> usize {
-    4 + Event::LENGTH * events
+    Event::LENGTH.saturating_mul(events).saturating_add(4)
 }
 
-/// How long a record of so many bytes of document and so many events is.
+/// How long a record of so many bytes of document and so many events is. Where that is no `usize`, the largest there is.
 #[must_use]
 pub const fn record_length(document: usize, events: usize) -> usize {
-    4 + document + section_length(events)
+    section_length(events).saturating_add(document).saturating_add(4)
 }
 
 /// A record: the document's count and bytes, then the events' count and bytes. Needs the feature `alloc`.

@@ -16,6 +16,8 @@ fn spaces_and_tabs() {
     assert_eq!(space_or_tab(b"a", OPTIONS, 0, 3), Ok(Some(0)));
     assert_eq!(space_or_tab(b"", OPTIONS, 0, 3), Ok(Some(0)));
     assert_eq!(space_or_tab(b"  \n  ", OPTIONS, 0, usize::MAX), Ok(Some(2)));
+    assert_eq!(space_or_tab(b"       a", OPTIONS, 5, 5), Ok(Some(5)));
+    assert_eq!(space_or_tab(&[b' '; 300], OPTIONS, 0, usize::MAX), Ok(Some(300)));
     // numbers whose lower bits are 0
     assert_eq!(space_or_tab(b"  a", OPTIONS, 0, 1 << 16), Ok(Some(2)));
     assert_eq!(space_or_tab(b"  a", OPTIONS, 0, 1 << 32), Ok(Some(2)));
@@ -58,7 +60,13 @@ fn items() {
     assert_eq!(item_on(b"+ + +", OPTIONS, true), item(2, 2, ListKind::Bullet(b'+')));
     assert_eq!(item_on(b"1) a", OPTIONS, true), item(3, 3, ListKind::Ordered(b')')));
     assert_eq!(item_on(b"2. a", OPTIONS, false), item(3, 3, dot));
+    assert_eq!(item_on(b"100. a", OPTIONS, false), item(5, 5, dot));
+    assert_eq!(item_on(b"12. a", OPTIONS, false), item(4, 4, dot));
+    assert_eq!(item_on(b"\t- a", OPTIONS, false), item(3, 3, dash));
     assert_eq!(item_on(b"    - a", WITHOUT_CODE, false), item(6, 6, dash));
+    // no thematic breaks
+    assert_eq!(item_on(b"- - - a", OPTIONS, false), item(2, 2, dash));
+    assert_eq!(item_on(b"- * -", OPTIONS, false), item(2, 2, dash));
     assert_eq!(item_on(b"-", OPTIONS, false), blank_item(1, 2, dash));
     assert_eq!(item_on(b"  1.   \na", OPTIONS, false), blank_item(4, 5, dot));
     assert_eq!(item_on(b"1)", OPTIONS, false), blank_item(2, 3, ListKind::Ordered(b')')));
@@ -66,12 +74,23 @@ fn items() {
 
 #[test]
 fn not_an_item() {
-    let lines: [&[u8]; 7] = [b"", b"a", b"-a", b"1234567890. a", b"    - a", b"- - -", b"\n- a"];
+    let lines: [&[u8]; 10] = [
+        b"",
+        b"a",
+        b"-a",
+        b"1234567890. a",
+        b"1234567890) a",
+        b"    - a",
+        b"- - -",
+        b"  - - -",
+        b"- - - -",
+        b"\n- a",
+    ];
     for line in lines {
         assert_eq!(list_item(line, OPTIONS, false), Ok(None), "{line:?}");
         assert_eq!(list_item(line, OPTIONS, true), Ok(None), "{line:?}");
     }
-    let lines: [&[u8]; 4] = [b"2. a", b"01. a", b"-", b"1.  "];
+    let lines: [&[u8]; 5] = [b"2. a", b"12. a", b"01. a", b"-", b"1.  "];
     for line in lines {
         assert_eq!(list_item(line, OPTIONS, true), Ok(None), "{line:?}");
     }
@@ -113,17 +132,24 @@ fn continuations() {
             assert_eq!(continuation(b"  a", OPTIONS, set(size)), stops(clear(size)));
         }
 
+        // a form feed is not blank
+        assert_eq!(continuation(b"\x0c", OPTIONS, set(2)), stops(clear(2)));
+        assert_eq!(continuation(&[b' '; 400], OPTIONS, clear(400)), goes(400, clear(400)));
+
         // no option is asked for
-        assert_eq!(continuation(b"  a", Options::NONE, clear(2)), goes(2, clear(2)));
+        for options in (0..=63).map(Options::from_bits) {
+            assert_eq!(continuation(b"  a", options, clear(2)), goes(2, clear(2)));
+            assert_eq!(continuation(b" a", options, clear(2)), stops(clear(2)));
+        }
     }
 }
 
-/// The section, with an output that is just long enough, one that is longer, and one that is a byte short.
+/// The section, with an output that is just long enough, some that are longer, and one that is a byte short. 65,536 cut to 16 bits is 0.
 fn heads(line: &[u8], options: Options, notation: &str) {
     let section = section(notation);
     let events = (section.len() - 4) / 8;
-    for longer in [0, 1, 1_000] {
-        let mut out = Lent::new(section.len() + longer);
+    for length in [section.len(), section.len() + 1, 65_536] {
+        let mut out = Lent::new(length);
         assert_eq!(heading(line, options, out.lend()), Ok(Some(events)), "{line:?}");
         assert_eq!(out.after()[..section.len()], section, "{line:?}");
         assert!(is_dirty(&out.after()[section.len()..]), "{line:?}");
@@ -148,6 +174,8 @@ fn headings() {
         OPTIONS,
         "+11@0 +12@0 -12@6 +14@6 -14@7 +0@7 -0@8 +14@8 -14@9 +0@9 -0@10 +14@10 -14@11 -11@11",
     );
+    heads(b"### a", OPTIONS, "+11@0 +12@0 -12@3 +14@3 -14@4 +0@4 -0@5 -11@5");
+    heads(b"\t# a", OPTIONS, "+11@0 +14@0 -14@1 +12@1 -12@2 +14@2 -14@3 +0@3 -0@4 -11@4");
     heads(b"#\na", OPTIONS, "+11@0 +12@0 -12@1 -11@1");
     heads(b"    #", WITHOUT_CODE, "+11@0 +14@0 -14@4 +12@4 -12@5 -11@5");
 }

@@ -25,6 +25,8 @@ fn options() {
     assert_eq!(Options::default().bits(), 59);
     assert_eq!(Options::default() | Options::SINGLE_TILDE, Options::ALL);
     assert_eq!(Options::from_bits(u32::MAX).bits(), u32::MAX);
+    // All of the options asked for, not one of them.
+    assert!(!Options::ATTENTION.contains(Options::ATTENTION | Options::HEADING));
 }
 
 #[test]
@@ -119,7 +121,9 @@ fn events_in_bytes() {
     for (event, bytes) in written {
         assert_eq!((event.to_bytes(), Event::from_bytes(bytes)), (bytes, Some(event)));
     }
-    assert_eq!(Event::enter(Name::DATA, usize::MAX).to_bytes(), [0, 0, 0, 0, 255, 255, 255, 255]);
+    for place in [1 << 32, usize::MAX] {
+        assert_eq!(Event::enter(Name::DATA, place).to_bytes(), [0, 0, 0, 0, 255, 255, 255, 255]);
+    }
     for (at, wrong) in [(0, 2), (0, 255), (2, 1), (3, 1), (3, 128)] {
         let mut odd = [0; 8];
         odd[at] = wrong;
@@ -142,6 +146,8 @@ fn events_of_a_section() {
         assert_eq!(read(&bytes[..short]), []);
     }
     assert_eq!(Events::new(&bytes).size_hint(), (0, Some(2)));
+    // No more than there is room for, whatever the count says.
+    assert_eq!(Events::new(&[255; 4]).size_hint(), (0, Some(0)));
 }
 
 #[test]
@@ -196,7 +202,7 @@ fn any_bytes_will_do() {
 }
 
 /// A document of two bytes and two events, and the record that it is.
-const EVENTS: [Event; 2] = [Event::enter(Name::DATA, 258), Event::exit(Name::STRONG, usize::MAX)];
+const EVENTS: [Event; 2] = [Event::enter(Name::DATA, 258), Event::exit(Name::STRONG, 1 << 32)];
 const RECORD: [u8; 26] = [
     2, 0, 0, 0, b'a', b'\n', 2, 0, 0, 0, 0, 0, 0, 0, 2, 1, 0, 0, 1, 5, 0, 0, 255, 255, 255, 255,
 ];
@@ -222,6 +228,16 @@ fn records_in_lent_memory() {
     // Events as a section has them.
     let mut again = [7; 26];
     assert_eq!(record_into(b"a\n", Events::new(&RECORD[6..]), &mut again), Some(&RECORD[..]));
+}
+
+/// Lengths that no memory has are not cut.
+#[test]
+fn lengths_without_bound() {
+    const MOST: usize = usize::MAX;
+    assert_eq!((section_length(0), section_length(MOST / 8)), (4, MOST - 3));
+    assert_eq!((section_length(MOST / 8 + 1), section_length(MOST)), (MOST, MOST));
+    assert_eq!((record_length(MOST - 8, 0), record_length(MOST - 7, 0)), (MOST, MOST));
+    assert_eq!((record_length(0, MOST), record_length(MOST, MOST)), (MOST, MOST));
 }
 
 /// Every refusal, with its number, its place and its words.

@@ -106,12 +106,13 @@ pub struct Expected<'a> {
     pub tried: usize,
 }
 
-/// Resolves with an output that is just long enough, one that is longer, and one that is a byte short; looks at all of every buffer.
+/// Resolves with an output that is just long enough, some that are longer, and one that is a byte short; looks at all of every buffer. 65,536 cut to
+/// 16 bits is 0.
 pub fn resolves(resolver: Resolver, options: Options, document: &str, before: &str, expected: Expected) {
     let record = record(document.as_bytes(), before);
     let section = section(expected.events);
-    for longer in [0, 1, 1_000] {
-        let mut out = Lent::new(section.len() + longer);
+    for length in [section.len(), section.len() + 1, 65_536] {
+        let mut out = Lent::new(length);
         let mut work = Lent::work();
         let resolved = resolver(&record, options, out.lend(), &mut Work::from(work.lend())).expect(document);
         assert_eq!(resolved.section, section, "{document}");
