@@ -22,6 +22,7 @@ ifdef LARK_ARCHIVE
 ARCHIVE := $(LARK_ARCHIVE)
 else
 ARCHIVE := target/staticlib/libledgerlark.a
+BUILT := $(ARCHIVE)
 SOURCES := crates.txt $(shell find crates -name '*.rt' -o -name '*.antt')
 
 # rt leaves alone what has not changed, so the date is set here.
@@ -33,19 +34,22 @@ endif
 .PHONY: all check install uninstall bench oracle clean
 .DEFAULT_GOAL := all
 
-all: $(ARCHIVE)
+all: $(BUILT)
 
-check: $(ARCHIVE)
-	LARK_ARCHIVE=$(abspath $(ARCHIVE)) tests/run
+check: $(BUILT)
+	LARK_ARCHIVE='$(ARCHIVE)' tests/run
 	tests/script
 	tests/lark
 
-install: $(ARCHIVE)
+# What stands for itself in the second part of sed's `s|..|..|`.
+for_sed = $(subst |,\|,$(subst &,\&,$(subst \,\\,$1)))
+
+install: $(BUILT)
 	install -d '$(DESTDIR)$(LIBDIR)/pkgconfig' '$(DESTDIR)$(INCLUDEDIR)' '$(DESTDIR)$(DOCDIR)'
 	install -m 644 '$(ARCHIVE)' '$(DESTDIR)$(LIBDIR)/libledgerlark.a'
 	install -m 644 include/ledgerlark.h '$(DESTDIR)$(INCLUDEDIR)/ledgerlark.h'
-	sed -e 's|@PREFIX@|$(PREFIX)|' -e 's|@LIBDIR@|$(LIBDIR)|' -e 's|@INCLUDEDIR@|$(INCLUDEDIR)|' -e 's|@VERSION@|$(VERSION)|' ledgerlark.pc.in \
-	    > '$(DESTDIR)$(LIBDIR)/pkgconfig/ledgerlark.pc'
+	sed -e 's|@PREFIX@|$(call for_sed,$(PREFIX))|' -e 's|@LIBDIR@|$(call for_sed,$(LIBDIR))|' -e 's|@INCLUDEDIR@|$(call for_sed,$(INCLUDEDIR))|' \
+	    -e 's|@VERSION@|$(VERSION)|' ledgerlark.pc.in > '$(DESTDIR)$(LIBDIR)/pkgconfig/ledgerlark.pc'
 	chmod 644 '$(DESTDIR)$(LIBDIR)/pkgconfig/ledgerlark.pc'
 	install -m 644 LICENSE NOTICE '$(DESTDIR)$(DOCDIR)'
 
@@ -55,11 +59,11 @@ uninstall:
 	    '$(DESTDIR)$(DOCDIR)/LICENSE' '$(DESTDIR)$(DOCDIR)/NOTICE'
 	@rmdir '$(DESTDIR)$(DOCDIR)' 2>/dev/null || true
 
-bench: $(ARCHIVE)
-	LARK_ARCHIVE=$(abspath $(ARCHIVE)) bench/run
+bench: $(BUILT)
+	LARK_ARCHIVE='$(ARCHIVE)' bench/run
 
-oracle: $(ARCHIVE)
-	LARK_ARCHIVE=$(abspath $(ARCHIVE)) oracle/run
+oracle: $(BUILT)
+	LARK_ARCHIVE="$$(realpath '$(ARCHIVE)')" oracle/run
 
 clean:
 	rm -rf target bindings/rust/target oracle/target bench/driver/target
