@@ -30,9 +30,9 @@
  *     lark_add_event(&r, LARK_EXIT, LARK_NAME_DATA, length);
  *     struct lark_reading answer = lark_read(r.bytes, r.length, options, work, sizeof work);
  *
- * Its counts are right at every step. What does not fit the buffer is not written, and leaves the length 0 for good; every call refuses that
- * with 3, so nothing need be asked in between. LARK_RECORD_BYTES are enough for every good record. What a call has written is read with
- * lark_event_at(out, i), for each i under the answer's `events`.
+ * Its counts are right at every step. What does not fit the buffer is not written, and leaves the length 0 for good; every call on a record
+ * refuses that with 3, unless 1 or 2 applies, so nothing need be asked in between. LARK_RECORD_BYTES are enough for every good record. What a
+ * call has written is read with lark_event_at(out, i), for each i under the answer's `events`.
  *
  * To hand a section on to another resolver, begin a record with the same document and add each event of the section. A resolver may write more
  * events than a record may have, and deeper ones, attention most of all; such a record is refused with 3 or 5. So attention comes last.

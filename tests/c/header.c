@@ -38,6 +38,9 @@ SILENT(lark_put_number(NULL, 0));
 SILENT(lark_event_at(NULL, 0));
 SILENT(lark_begin_record(NULL, 0, NULL, 0));
 SILENT(lark_add_event(NULL, 0, 0, 0));
+#elif defined __cplusplus
+/* Before C++11 nobody can ask, but a second declaration has to say the same. */
+extern "C" struct lark_reading lark_read(const uint8_t *, size_t, uint32_t, uint8_t *, size_t) throw();
 #endif
 
 /* --- numbers, events and records, byte by byte --- */
@@ -217,6 +220,10 @@ int main(void) {
     holds("limits", LARK_MAX_DOCUMENT == 16384 && LARK_MAX_LINE == 16384 && LARK_MAX_EVENTS == 2048 && LARK_MAX_DEPTH == 64 &&
                         LARK_MAX_RESULT == 8000);
     holds("sizes", LARK_WORK_BYTES == 65536 && LARK_OUT_BYTES == 64004 && LARK_RECORD_BYTES == 32776);
+    holds("sizes as parts of something else", 2 * LARK_WORK_BYTES == 131072 && 2 * LARK_OUT_BYTES == 128008 && 2 * LARK_RECORD_BYTES == 65552);
+    holds("options are unsigned", LARK_OPTION_ATTENTION - 64 > 63 && LARK_OPTION_STRIKETHROUGH - 64 > 63 && LARK_OPTION_SINGLE_TILDE - 64 > 63 &&
+                                      LARK_OPTION_HEADING - 64 > 63 && LARK_OPTION_LIST_ITEM - 64 > 63 && LARK_OPTION_CODE_INDENTED - 64 > 63 &&
+                                      LARK_MAX_OPTIONS - 64 > 63);
 
     sprintf(version, "%d.%d.%d", LARK_VERSION_MAJOR, LARK_VERSION_MINOR, LARK_VERSION_PATCH);
     holds("the version in both forms", strcmp(LARK_VERSION, version) == 0);

@@ -5,22 +5,48 @@
 
 #include <string.h>
 
-struct lark_reading __real_lark_read(const uint8_t *, size_t, uint32_t, uint8_t *, size_t);
-struct lark_reading __wrap_lark_read(const uint8_t *, size_t, uint32_t, uint8_t *, size_t);
-struct lark_resolved __real_lark_resolve_attention(const uint8_t *, size_t, uint32_t, uint8_t *, size_t, uint8_t *, size_t);
-struct lark_resolved __wrap_lark_resolve_attention(const uint8_t *, size_t, uint32_t, uint8_t *, size_t, uint8_t *, size_t);
-struct lark_spaces __real_lark_space_or_tab(const uint8_t *, size_t, uint32_t, size_t, size_t);
-struct lark_spaces __wrap_lark_space_or_tab(const uint8_t *, size_t, uint32_t, size_t, size_t);
-struct lark_item __real_lark_list_item(const uint8_t *, size_t, uint32_t, uint32_t);
-struct lark_item __wrap_lark_list_item(const uint8_t *, size_t, uint32_t, uint32_t);
-struct lark_going __real_lark_continuation(const uint8_t *, size_t, uint32_t, size_t, uint32_t, uint32_t);
-struct lark_going __wrap_lark_continuation(const uint8_t *, size_t, uint32_t, size_t, uint32_t, uint32_t);
-struct lark_headed __real_lark_heading(const uint8_t *, size_t, uint32_t, uint8_t *, size_t);
-struct lark_headed __wrap_lark_heading(const uint8_t *, size_t, uint32_t, uint8_t *, size_t);
+#define ON_RECORD const uint8_t *record, size_t record_length, uint32_t options
+#define RESOLVER ON_RECORD, uint8_t *out, size_t out_length, uint8_t *work, size_t work_length
+#define ON_LINE const uint8_t *line, size_t line_length, uint32_t options
+#define WRAPPED(answer, call, ...) \
+    struct answer __real_##call(__VA_ARGS__); \
+    struct answer __wrap_##call(__VA_ARGS__)
+
+WRAPPED(lark_reading, lark_read, ON_RECORD, uint8_t *work, size_t work_length);
+WRAPPED(lark_resolved, lark_resolve_attention, RESOLVER);
+WRAPPED(lark_resolved, lark_resolve_headings, RESOLVER);
+WRAPPED(lark_resolved, lark_resolve_lists, RESOLVER);
+WRAPPED(lark_spaces, lark_space_or_tab, ON_LINE, size_t min, size_t max);
+WRAPPED(lark_item, lark_list_item, ON_LINE, uint32_t interrupting);
+WRAPPED(lark_going, lark_continuation, ON_LINE, size_t size, uint32_t blank, uint32_t mark);
+WRAPPED(lark_headed, lark_heading, ON_LINE, uint8_t *out, size_t out_length);
 
 volatile uint8_t seen;
 
-struct lark_reading __wrap_lark_read(const uint8_t *record, size_t record_length, uint32_t options, uint8_t *work, size_t work_length) {
+/* A record with another byte in place of some bytes of its document. */
+static inline const uint8_t *replaced(const uint8_t *record, size_t n, int least, int most, char by) {
+    static uint8_t copy[100000];
+    size_t i;
+    if (n < 8 || n > sizeof copy) return record;
+    memcpy(copy, record, n);
+    for (i = 4; i < n && i < 4 + lark_number_at(record); i++)
+        if (copy[i] >= least && copy[i] <= most) copy[i] = (uint8_t)by;
+    return copy;
+}
+
+/* How many items of a good record are open at once, at most. */
+static inline size_t most_open(const uint8_t *record) {
+    const uint8_t *section = record + 4 + lark_number_at(record);
+    size_t i, open = 0, most = 0;
+    for (i = 0; i < lark_number_at(section); i++) {
+        struct lark_event event = lark_event_at(section, i);
+        if (event.name == LARK_NAME_LIST_ITEM) open += event.kind == LARK_ENTER ? 1 : (size_t)-1;
+        if (open > most) most = open;
+    }
+    return most;
+}
+
+struct lark_reading __wrap_lark_read(ON_RECORD, uint8_t *work, size_t work_length) {
     struct lark_reading r;
 #if WRONG == 1 /* record: a byte past the record is read */
     seen = record[record_length];
@@ -34,118 +60,156 @@ struct lark_reading __wrap_lark_read(const uint8_t *record, size_t record_length
     options = (uint16_t)options;
 #elif WRONG == 6 /* record: the work memory's length is cut to 16 bits */
     work_length = (uint16_t)work_length;
+#elif WRONG == 7 /* work: the work memory's length is cut to 32 bits */
+    work_length = (uint32_t)work_length;
 #endif
     r = __real_lark_read(record, record_length, options, work, work_length);
-#if WRONG == 7 /* record: a byte of work memory is left when it is too short */
+#if WRONG == 8 /* record: a byte of work memory is left when it is too short */
     if (r.number == 1 && work_length) work[work_length - 1] = 7;
-#elif WRONG == 8 /* record: a byte past the work memory is wiped */
+#elif WRONG == 9 /* record: a byte past the work memory is wiped */
     work[work_length] = 0;
-#elif WRONG == 9 /* record: only as much work memory is wiped as is needed */
+#elif WRONG == 10 /* record: only as much work memory is wiped as is needed */
     if (work_length > LARK_WORK_BYTES) work[LARK_WORK_BYTES] = 7;
-#elif WRONG == 10 /* record: a refusal tells more than its number and place */
+#elif WRONG == 11 /* record: a refusal tells more than its number and place */
     if (r.number == 3) r.document = record_length;
-#elif WRONG == 11 /* record: a place of 32,768 and over is lost */
+#elif WRONG == 12 /* record: a place of 32,768 and over is lost */
     r.place &= 0x7fff;
 #endif
     return r;
 }
 
-struct lark_resolved __wrap_lark_resolve_attention(const uint8_t *record, size_t record_length, uint32_t options, uint8_t *out,
-                                                   size_t out_length, uint8_t *work, size_t work_length) {
+struct lark_resolved __wrap_lark_resolve_attention(RESOLVER) {
     struct lark_resolved r;
     uint8_t held = out_length ? out[0] : 0;
-#if WRONG == 12 /* attention: the output's length is cut to 16 bits */
+#if WRONG == 13 /* attention: the output's length is cut to 16 bits */
     out_length = (uint16_t)out_length;
-#elif WRONG == 13 /* lengths: the output's length is cut to 32 bits */
+#elif WRONG == 14 /* lengths: the output's length is cut to 32 bits */
     out_length = (uint32_t)out_length;
+#elif WRONG == 15 /* attention: bytes from 128 up are punctuation */
+    record = replaced(record, record_length, 128, 255, '.');
+#elif WRONG == 16 /* attention: a form feed is a letter */
+    record = replaced(record, record_length, '\f', '\f', 'a');
+#elif WRONG == 17 /* attention: option 4 is lost where only option 2 is on too */
+    if (options == 6) options = 2;
 #endif
     r = __real_lark_resolve_attention(record, record_length, options, out, out_length, work, work_length);
-#if WRONG == 14 /* attention: the output is cleared on a refusal */
+#if WRONG == 18 /* attention: the output is cleared on a refusal */
     if (r.number && out_length) memset(out, 0, out_length);
-#elif WRONG == 15 /* attention: one byte past the section is written */
+#elif WRONG == 19 /* attention: one byte past the section is written */
     if (!r.number && out_length > 4 + 8 * r.events) out[4 + 8 * r.events] = 0;
-#elif WRONG == 16 /* attention: the answer depends on what the output held */
+#elif WRONG == 20 /* attention: the answer depends on what the output held */
     if (held == 0xa5) r.tried++;
-#elif WRONG == 17 /* attention: the last event is off by one place */
+#elif WRONG == 21 /* attention: the last event is off by one place */
     if (!r.number && r.events) out[4 + 8 * r.events - 4]++;
-#elif WRONG == 18 /* attention: number 6 is given one event late */
+#elif WRONG == 22 /* attention: number 6 is given one event late */
     if (r.number == 6) r.place += 8;
-#elif WRONG == 19 /* attention: a result of 8,000 events is said to have 7,999 */
+#elif WRONG == 23 /* attention: a result of 8,000 events is said to have 7,999 */
     if (r.events == 8000) r.events--;
-#elif WRONG == 20 /* attention: what was tried is counted in 16 bits */
+#elif WRONG == 24 /* attention: what was tried is counted in 16 bits */
     r.tried &= 0xffff;
 #endif
     (void)held;
     return r;
 }
 
-struct lark_spaces __wrap_lark_space_or_tab(const uint8_t *line, size_t line_length, uint32_t options, size_t min, size_t max) {
-#if WRONG == 21 /* lines: `min` is cut to 16 bits */
+struct lark_resolved __wrap_lark_resolve_headings(RESOLVER) {
+    struct lark_resolved r;
+#if WRONG == 25 /* headings: option 32 alone is refused */
+    if (options == 32) options = 64;
+#endif
+    r = __real_lark_resolve_headings(record, record_length, options, out, out_length, work, work_length);
+#if WRONG == 26 /* headings: the place of number 6 is counted in eight bits */
+    if (r.number == 6) r.place &= 255;
+#endif
+    return r;
+}
+
+struct lark_resolved __wrap_lark_resolve_lists(RESOLVER) {
+    struct lark_resolved r = __real_lark_resolve_lists(record, record_length, options, out, out_length, work, work_length);
+#if WRONG == 27 /* lists: nine items in each other are said to make a shorter section */
+    if (!r.number && most_open(record) > 8) r.events--;
+#elif WRONG == 28 /* lists: two items with `)` are an unordered list */
+    if (!r.number && r.events > 8 && record[4] == ')' && out[5] == LARK_NAME_LIST_ORDERED) out[5] = LARK_NAME_LIST_UNORDERED;
+#endif
+    return r;
+}
+
+struct lark_spaces __wrap_lark_space_or_tab(ON_LINE, size_t min, size_t max) {
+#if WRONG == 29 /* lines: `min` is cut to 16 bits */
     min = (uint16_t)min;
-#elif WRONG == 22 /* lines: `max` is cut to 16 bits */
+#elif WRONG == 30 /* lines: `max` is cut to 16 bits */
     max = (uint16_t)max;
-#elif WRONG == 23 /* lines: `min` is cut to 32 bits */
+#elif WRONG == 31 /* lines: `min` is cut to 32 bits */
     min = (uint32_t)min;
-#elif WRONG == 24 /* lines: `max` is cut to 32 bits */
+#elif WRONG == 32 /* lines: `max` is cut to 32 bits */
     max = (uint32_t)max;
-#elif WRONG == 25 /* lines: a line's length is cut to 16 bits */
+#elif WRONG == 33 /* lines: a line's length is cut to 16 bits */
     line_length = (uint16_t)line_length;
-#elif WRONG == 26 /* lengths: a line's length is cut to 32 bits */
+#elif WRONG == 34 /* lengths: a line's length is cut to 32 bits */
     line_length = (uint32_t)line_length;
 #endif
     return __real_lark_space_or_tab(line, line_length, options, min, max);
 }
 
-struct lark_item __wrap_lark_list_item(const uint8_t *line, size_t line_length, uint32_t options, uint32_t interrupting) {
+struct lark_item __wrap_lark_list_item(ON_LINE, uint32_t interrupting) {
     struct lark_item r;
-#if WRONG == 27 /* lines: only the lowest byte of a flag counts */
+#if WRONG == 35 /* lines: only the lowest byte of a flag counts */
     interrupting &= 255;
-#elif WRONG == 28 /* lines: a line is read past its end */
+#elif WRONG == 36 /* lines: a line is read past its end */
     seen = line[line_length];
-#elif WRONG == 29 /* lines: only the lower half of a flag counts */
+#elif WRONG == 37 /* lines: only the lower half of a flag counts */
     interrupting &= 0xffff;
-#elif WRONG == 30 /* lines: 0 is no digit of a number */
+#elif WRONG == 38 /* lines: 0 is no digit of a number */
     if (line_length && line[0] == '0') line_length = 0;
+#elif WRONG == 39 /* lines: any number that begins with 1 may interrupt */
+    if (line_length > 1 && line[0] == '1' && line[1] >= '0' && line[1] <= '9') interrupting = 0;
+#elif WRONG == 40 /* lines: a thematic break that is indented is an item */
+    if (line_length == 7 && !memcmp(line, "  - - -", 7)) line_length = 4;
+#elif WRONG == 41 /* lines: three marks are a thematic break, whatever follows */
+    if (line_length > 5 && !memcmp(line, "- - -", 5)) line_length = 5;
 #endif
     r = __real_lark_list_item(line, line_length, options, interrupting);
-#if WRONG == 31 /* lines: an item with `)` is never blank */
+#if WRONG == 42 /* lines: an item with `)` is never blank */
     if (r.mark == ')') r.blank = 0;
-#elif WRONG == 32 /* lines: an item with `+` is never blank */
+#elif WRONG == 43 /* lines: an item with `+` is never blank */
     if (r.mark == '+') r.blank = 0;
-#elif WRONG == 33 /* lines: the bytes that an item takes are counted in eight bits */
+#elif WRONG == 44 /* lines: the bytes that an item takes are counted in eight bits */
     r.taken &= 255;
-#elif WRONG == 34 /* lines: the size of an item is counted in eight bits */
+#elif WRONG == 45 /* lines: the size of an item is counted in eight bits */
     r.size &= 255;
 #endif
     return r;
 }
 
-struct lark_going __wrap_lark_continuation(const uint8_t *line, size_t line_length, uint32_t options, size_t size, uint32_t blank,
-                                           uint32_t mark) {
+struct lark_going __wrap_lark_continuation(ON_LINE, size_t size, uint32_t blank, uint32_t mark) {
     struct lark_going r;
-#if WRONG == 35 /* lines: `size` is cut to 16 bits */
+#if WRONG == 46 /* lines: `size` is cut to 16 bits */
     size = (uint16_t)size;
-#elif WRONG == 36 /* lines: `size` is cut to 32 bits */
+#elif WRONG == 47 /* lines: `size` is cut to 32 bits */
     size = (uint32_t)size;
+#elif WRONG == 48 /* lines: a continuation depends on the options */
+    if (options == 59) size = 0;
 #endif
     r = __real_lark_continuation(line, line_length, options, size, blank, mark);
-#if WRONG == 37 /* lines: the flag is lost with the finding */
+#if WRONG == 49 /* lines: the flag is lost with the finding */
     if (!r.found) r.blank = 0;
-#elif WRONG == 38 /* lines: the answer depends on the mark */
+#elif WRONG == 50 /* lines: the answer depends on the mark */
     if (mark == ')' && r.found) r.taken++;
-#elif WRONG == 39 /* lines: the bytes that a continuation takes are counted in eight bits */
+#elif WRONG == 51 /* lines: the bytes that a continuation takes are counted in eight bits */
     r.taken &= 255;
 #endif
     return r;
 }
 
-struct lark_headed __wrap_lark_heading(const uint8_t *line, size_t line_length, uint32_t options, uint8_t *out, size_t out_length) {
-#if WRONG == 40 /* heading: an output of just the right length is refused */
+struct lark_headed __wrap_lark_heading(ON_LINE, uint8_t *out, size_t out_length) {
+#if WRONG == 52 /* heading: an output of just the right length is refused */
     if (out_length) out_length--;
-#elif WRONG == 41 /* heading: NULL is looked at */
+#elif WRONG == 53 /* heading: NULL is looked at */
     seen = *out;
-#elif WRONG == 42 /* heading: the output's length is cut to 16 bits */
+#elif WRONG == 54 /* heading: the output's length is cut to 16 bits */
     out_length = (uint16_t)out_length;
+#elif WRONG == 55 /* heading: three `#` are none */
+    if (line_length > 3 && !memcmp(line, "### ", 4)) line_length = 0;
 #endif
     return __real_lark_heading(line, line_length, options, out, out_length);
 }
