@@ -97,6 +97,9 @@ static void longest_line(void) {
     memcpy(line, "# ", 2);
     begin("a line of 16,384 bytes");
     gives(line, sizeof line, 63, section("+11@0 +12@0 -12@1 +14@1 -14@2 +0@2 -0@16384 -11@16384"));
+    begin("a line of 16,383 bytes, which ends with a space");
+    line[16382] = ' ';
+    gives(line, 16383, 63, section("+11@0 +12@0 -12@1 +14@1 -14@2 +0@2 -0@16382 +14@16382 -14@16383 -11@16383"));
 }
 
 static void not_found(void) {
