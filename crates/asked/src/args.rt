@@ -5,10 +5,12 @@
 // options; where it is a file, any other word that looks like one is wrong. Where there are two texts, one that looks like an option was meant
 // as one.
 
+use terminal::number::LARGEST;
 use terminal::number::Number;
 use terminal::number::spelled;
 use terminal::say::blame;
 use terminal::say::wrong;
+use terminal::words::word_start;
 
 // What a command takes: a text, a text that is a line, a text and events, a file, a file whose events can be had as text.
 pub const TEXT: u8 = 0;
@@ -29,6 +31,8 @@ const UNKNOWN: u8 = 2;
 const ONE_TOO_MANY: u8 = 3;
 
 const TOO_LARGE: u8 = 4;
+
+const TOO_LONG: u8 = 5;
 
 // The options without -o: all but the single tilde.
 const USUAL: u32 = 59;
@@ -74,20 +78,25 @@ fn is_too_large(awaits: u8, value: u32) -> bool {
     value > 999999
 }
 
-// Argument i as the number behind an option.
+// Argument i, which has this value, as the number behind an option.
+fn take_value(asked: Asked, i: usize, value: u32) -> Asked {
+    if is_too_large(asked.awaits, value) {
+        return put_wrong(asked, TOO_LARGE, i);
+    }
+    put_number(asked, value)
+}
+
+// Argument i as the number behind an option. The largest stands for every larger one: it is over both limits.
 fn take_number(asked: Asked, i: usize) -> Asked {
     let mut word = [0u8; 32];
     let n = os::arg(i, &mut word);
+    if os::errno() != 0 {
+        return put_wrong(asked, TOO_LONG, i);
+    }
     match spelled(&word[..n]) {
-        Number::Is(value) => {
-            if is_too_large(asked.awaits, value) {
-                return put_wrong(asked, TOO_LARGE, i);
-            }
-            return put_number(asked, value);
-        }
-        Number::Not => {
-            return put_wrong(asked, NO_NUMBER, i);
-        }
+        Number::Is(value) => take_value(asked, i, value),
+        Number::Large => take_value(asked, i, LARGEST),
+        Number::Not => put_wrong(asked, NO_NUMBER, i),
     }
 }
 
@@ -220,11 +229,44 @@ fn wants_event(asked: Asked, takes: u8) -> bool {
     asked.operand != 0
 }
 
+// The byte that the first word of argument i begins with, or 0 where its beginning has none.
+fn first_of_words(i: usize) -> u8 {
+    let mut words = [0u8; 32];
+    os::arg(i, &mut words);
+    let at = word_start(&words, 0);
+    if at >= words.len() {
+        return 0;
+    }
+    words[at]
+}
+
+// Whether a word that begins with a byte is rather a text than an event, which has its sign there. Where there is no word it is neither.
+fn begins_text(first: u8) -> bool {
+    if first == 0 {
+        return false;
+    }
+    if first == b'+' {
+        return false;
+    }
+    first != b'-'
+}
+
+// Argument i as the first event. If it is rather a text, then the operand, where that looks like an option, was meant as one.
+fn take_first_event(asked: Asked, i: usize) -> Asked {
+    let mut asked = asked;
+    if asked.dashed {
+        if begins_text(first_of_words(i)) {
+            return put_wrong(asked, UNKNOWN, asked.operand);
+        }
+    }
+    asked.events = i;
+    asked
+}
+
 // Argument i as an event. Each one behind the first is one too.
 fn take_event(asked: Asked, i: usize) -> Asked {
-    let mut asked = asked;
     if asked.events == 0 {
-        asked.events = i;
+        return take_first_event(asked, i);
     }
     asked
 }
@@ -278,6 +320,7 @@ fn say_wrong(what: u8, culprit: usize) -> u8 {
         NO_NUMBER => blame(b"not a number", culprit),
         UNKNOWN => blame(b"no such option", culprit),
         TOO_LARGE => blame(b"too large", culprit),
+        TOO_LONG => blame(b"too long", culprit),
         _ => blame(b"one argument too many", culprit),
     }
 }

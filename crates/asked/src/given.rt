@@ -34,6 +34,9 @@ fn put_word(word: &[u8], rec: &mut [u8], to: usize) -> bool
             put_event(rec, to, event.kind, event.name, event.place);
             return true;
         }
+        Noted::Large => {
+            blame_word(b"too large", word);
+        }
         Noted::Not => {
             blame_word(b"not an event", word);
         }

@@ -1,6 +1,7 @@
 // Help and version: the words that ask for them, and what is then said.
 
 use libc::STDOUT_FILENO;
+use terminal::say::write;
 use terminal::words::same;
 
 // What a word asks for: nothing, these words, the version, or that behind it no word asks for anything.
@@ -52,17 +53,18 @@ pub fn wish_from(from: usize) -> u8 {
 
 // The version, which the header and the binding have too; whether it was written.
 pub fn say_version() -> bool {
-    io::write_all(STDOUT_FILENO, b"lark 0.2.0\n")
+    write(STDOUT_FILENO, b"lark 0.2.0\n")
 }
 
 // All of it, on a descriptor, as it stands on the terminal; whether it was written.
 pub fn say_help(fd: i32) -> bool {
-    io::write_all(
+    write(
         fd,
         b"lark: what Ledgerlark makes of a text, a line or a record
 
   lark show [-o N] [TEXT]            the groups that a text's attention runs form, as a tree
-  lark line [-o N] [..] [TEXT]       what the line readers find in a line; -i: where it would interrupt a paragraph;
+  lark line [-o N] [-i] [-c SIZE [-b]] [TEXT]
+                                     what the line readers find in a line; -i: where it would interrupt a paragraph;
                                      -c SIZE: as a further line of an item of that size, -b: whose flag is set
   lark record [-o N] [TEXT]          the record that show makes of a text
   lark record [-o N] TEXT EVENT..    the record of a text and of these events
@@ -79,7 +81,12 @@ take each longest run of one marker for an attention run and all between for dat
 or links.
 
 An EVENT is what -t prints: + or - for enter or exit, a name, @ and a place. The name is a number or its word, as in
-+11@0 or +HeadingAtx@0; several EVENTs may stand in one argument. Behind a TEXT every word of record's is an EVENT.
++11@0 or +HeadingAtx@0; several EVENTs may stand in one argument. Behind a TEXT every word of record's but --help, -h
+and --version is an EVENT. The words for 0 to 24, in capitals or small letters:
+  Data AttentionSequence Emphasis EmphasisSequence EmphasisText Strong StrongSequence StrongText
+  GfmStrikethrough GfmStrikethroughSequence GfmStrikethroughText HeadingAtx HeadingAtxSequence HeadingAtxText
+  SpaceOrTab ListItem ListItemPrefix ListItemMarker ListItemValue ListOrdered ListUnordered LineEnding
+  BlankLineEnding BlockQuotePrefix OtherContainer
 
 N is a sum: 1 attention, 2 strikethrough, 4 single tilde, 8 heading, 16 list item, 32 code indented; 59 without -o.
 Exit status: 0 answered; 1 refused, with the refusal on standard error; 2 bad arguments, or a file that fails. The place

@@ -2,6 +2,8 @@
 
 use crate::say::end_line;
 use crate::say::say;
+use crate::say::write;
+use crate::say::write_number;
 use libc::STDERR_FILENO;
 use libc::STDOUT_FILENO;
 use record::event::Event;
@@ -35,13 +37,13 @@ pub fn event_of(section: &[u8], k: usize) -> Event {
 fn write_kind(fd: i32, kind: u8) {
     match kind {
         ENTER => {
-            io::write_all(fd, b"+");
+            write(fd, b"+");
         }
         EXIT => {
-            io::write_all(fd, b"-");
+            write(fd, b"-");
         }
         _ => {
-            io::write_all(fd, b"?");
+            write(fd, b"?");
         }
     }
 }
@@ -49,9 +51,9 @@ fn write_kind(fd: i32, kind: u8) {
 // An event in the notation, on a descriptor.
 fn write_event(fd: i32, event: Event) {
     write_kind(fd, event.kind);
-    io::print_decimal(fd, event.name as u64);
-    io::write_all(fd, b"@");
-    io::print_decimal(fd, event.place as u64);
+    write_number(fd, event.name as usize);
+    write(fd, b"@");
+    write_number(fd, event.place);
 }
 
 // The k-th event, on standard error.

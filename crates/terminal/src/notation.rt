@@ -9,9 +9,10 @@ use record::limits::EXIT;
 ghost use Prim.Native.Nat.{_≤_};
 ghost use lib.ListN.{length};
 
-// A word that is to be an event.
+// A word that is to be an event: it is one, one with a number that does not fit its field, or none.
 pub enum Noted {
     Is(Event),
+    Large,
     Not,
 }
 
@@ -33,38 +34,37 @@ fn place_of_at(word: &[u8]) -> usize
 fn name_in(word: &[u8]) -> Number {
     match spelled(word) {
         Number::Is(name) => Number::Is(name),
+        Number::Large => Number::Large,
         Number::Not => named(word),
     }
 }
 
-// An event by its sign, its name and its place.
-fn event_by(sign: u8, name: u32, place: u32) -> Noted {
+// An event of a kind, by its name and its place. A record has a byte for a name.
+fn event_by(kind: u8, name: u32, place: u32) -> Noted {
     if name > 255 {
-        return Noted::Not;
+        return Noted::Large;
     }
-    match sign {
-        b'+' => Noted::Is(Event {
-            kind: ENTER,
-            name: name as u8,
-            place: place as usize,
-        }),
-        b'-' => Noted::Is(Event {
-            kind: EXIT,
-            name: name as u8,
-            place: place as usize,
-        }),
-        _ => Noted::Not,
-    }
+    Noted::Is(Event {
+        kind,
+        name: name as u8,
+        place: place as usize,
+    })
 }
 
-// The same, where name and place are numbers.
-fn event_of(sign: u8, name: Number, place: Number) -> Noted {
+// The same, where name and place are words for numbers.
+fn event_of(kind: u8, name: Number, place: Number) -> Noted {
+    if let Number::Not = name {
+        return Noted::Not;
+    }
+    if let Number::Not = place {
+        return Noted::Not;
+    }
     if let Number::Is(n) = name {
         if let Number::Is(p) = place {
-            return event_by(sign, n, p);
+            return event_by(kind, n, p);
         }
     }
-    Noted::Not
+    Noted::Large
 }
 
 // The event that a word spells.
@@ -76,5 +76,11 @@ pub fn event_in(word: &[u8]) -> Noted {
     if at == word.len() {
         return Noted::Not;
     }
-    event_of(word[0], name_in(&word[1..at]), spelled(&word[at + 1..]))
+    let name = name_in(&word[1..at]);
+    let place = spelled(&word[at + 1..]);
+    match word[0] {
+        b'+' => event_of(ENTER, name, place),
+        b'-' => event_of(EXIT, name, place),
+        _ => Noted::Not,
+    }
 }

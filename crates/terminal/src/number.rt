@@ -1,21 +1,31 @@
 // Numbers in decimal digits.
 
-// The largest number that a record holds. It stands for every larger one too: no limit of the library's lies so far up.
+// The largest number that a record holds.
 pub const LARGEST: u32 = 4294967295;
 
-// A word that is to be a number.
+// A word that is to be a number: it is one, one that is larger than the largest, or none.
 pub enum Number {
     Is(u32),
+    Large,
     Not,
 }
 
-// A number with one more digit behind it.
-fn with_digit(value: u32, digit: u8) -> u32 {
+// A number that has a value, with one more digit behind it.
+fn longer(value: u32, digit: u8) -> Number {
     let longer = value as u64 * 10 + digit as u64;
     if longer > LARGEST as u64 {
-        return LARGEST;
+        return Number::Large;
     }
-    longer as u32
+    Number::Is(longer as u32)
+}
+
+// A number with one more digit behind it.
+fn with_digit(number: Number, digit: u8) -> Number {
+    match number {
+        Number::Is(value) => longer(value, digit),
+        Number::Large => Number::Large,
+        Number::Not => Number::Not,
+    }
 }
 
 // The number that a word of digits spells.
@@ -23,7 +33,7 @@ pub fn spelled(word: &[u8]) -> Number {
     if word.len() == 0 {
         return Number::Not;
     }
-    let mut value: u32 = 0;
+    let mut number = Number::Is(0);
     let mut i = 0;
     while i < word.len() {
         let byte = word[i];
@@ -33,8 +43,8 @@ pub fn spelled(word: &[u8]) -> Number {
         if byte > b'9' {
             return Number::Not;
         }
-        value = with_digit(value, byte - b'0');
+        number = with_digit(number, byte - b'0');
         i += 1;
     }
-    Number::Is(value)
+    number
 }

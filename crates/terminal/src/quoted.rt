@@ -4,6 +4,8 @@
 // to U+009F, which some terminals obey as they do ESC. Quotes, backslashes and all other bytes are escaped.
 
 use crate::say::say;
+use crate::say::write;
+use crate::say::write_byte;
 use crate::style::begin_styles;
 use crate::style::end_styles;
 use libc::STDOUT_FILENO;
@@ -125,20 +127,20 @@ fn plain_end(text: &[u8], at: usize) -> usize
 fn put_odd(fd: i32, byte: u8) {
     match byte {
         b'\n' => {
-            io::write_all(fd, b"\\n");
+            write(fd, b"\\n");
         }
         b'\t' => {
-            io::write_all(fd, b"\\t");
+            write(fd, b"\\t");
         }
         b'"' => {
-            io::write_all(fd, b"\\\"");
+            write(fd, b"\\\"");
         }
         b'\\' => {
-            io::write_all(fd, b"\\\\");
+            write(fd, b"\\\\");
         }
         _ => {
-            io::write_all(fd, b"\\x");
-            io::print_hex(fd, byte as u64, 2);
+            write(fd, b"\\x");
+            write_byte(fd, byte);
         }
     }
 }
@@ -149,7 +151,7 @@ fn put_piece(fd: i32, text: &[u8], at: usize) -> usize
     ensures { λ r. ⌜ (at < r) × (r ≤ length (now (text .entry))) ⌝ }
 {
     let end = plain_end(text, at);
-    io::write_all(fd, &text[at..end]);
+    write(fd, &text[at..end]);
     if end == text.len() {
         return end;
     }

@@ -1,6 +1,7 @@
 // Words on standard output and on standard error, and the statuses that a command leaves with.
 //
-// `say` answers whether its words were written. A command asks that of its last words alone: a full disk or a closed output fails them too.
+// `say` answers whether its words were written. A command asks that of its last words alone: where words could not be written their descriptor is
+// closed, so that those fail too. An output that does not block could take them otherwise, with a gap before them.
 
 use crate::quoted::put_escaped;
 use libc::STDERR_FILENO;
@@ -13,14 +14,37 @@ pub const REFUSED: u8 = 1;
 // Bad arguments, or an input or output that fails.
 pub const WRONG: u8 = 2;
 
+// Whether words were written on a descriptor; where they were not it is closed.
+fn or_close(fd: i32, written: bool) -> bool {
+    if !written {
+        libc::close(fd);
+    }
+    written
+}
+
+// Words on a descriptor; whether they were written.
+pub fn write(fd: i32, text: &[u8]) -> bool {
+    or_close(fd, io::write_all(fd, text))
+}
+
+// A number in decimal digits, on a descriptor.
+pub fn write_number(fd: i32, n: usize) {
+    or_close(fd, io::print_decimal(fd, n as u64));
+}
+
+// A byte as two hexadecimal digits, on a descriptor.
+pub fn write_byte(fd: i32, byte: u8) {
+    or_close(fd, io::print_hex(fd, byte as u64, 2));
+}
+
 // Words on standard output; whether they were written.
 pub fn say(text: &[u8]) -> bool {
-    io::write_all(STDOUT_FILENO, text)
+    write(STDOUT_FILENO, text)
 }
 
 // A number in decimal digits.
 pub fn say_number(n: usize) {
-    io::print_decimal(STDOUT_FILENO, n as u64);
+    write_number(STDOUT_FILENO, n);
 }
 
 // A line feed; whether it was written.
@@ -36,13 +60,13 @@ pub fn say_with(text: &[u8], n: usize) {
 
 // Words on standard error.
 pub fn complain(text: &[u8]) {
-    io::write_all(STDERR_FILENO, text);
+    write(STDERR_FILENO, text);
 }
 
 // Words and a number, on standard error.
 pub fn complain_with(text: &[u8], n: usize) {
     complain(text);
-    io::print_decimal(STDERR_FILENO, n as u64);
+    write_number(STDERR_FILENO, n);
 }
 
 // The status of a command whose last words were written, or were not.

@@ -7,10 +7,10 @@ use Rattle.terminal.proofs.number.spelled.Statement.{statement}
 use Rattle.terminal.proofs.number.spelled.Tie as tie
 
 abbrev Inv-loop : tie.InvT-loop
-Inv-loop word value₀ i₀ value i = i ≤ length word
+Inv-loop word number₀ i₀ number i = i ≤ length word
 
 abbrev μ-loop : tie.MeasureT-loop
-μ-loop word value₀ i₀ value i = length word - i
+μ-loop word number₀ i₀ number i = length word - i
 
 returns : tie.Need-returns Inv-loop μ-loop
 returns c = search needs
