@@ -1,5 +1,5 @@
 /* Slices of 2^32 bytes and over: a length that is cut to 32 bits comes out as a short one. Such a slice is address space, of which the first pages
- * are memory; the calls have no need to look further. Work memory is not tried so, since all of it is wiped.
+ * are memory; the calls have no need to look further. Work memory, all of which is wiped, has work.c.
  */
 #include "check.h"
 
