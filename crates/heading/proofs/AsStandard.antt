@@ -16,7 +16,7 @@ use Rattle.record.specs.Event.{enter, exit}
 use Rattle.record.specs.Stack.{nth}
 use Rattle.record.specs.declared.event.Event.{Event}
 use Rattle.record.proofs.Bools.{and-left, and-both}
-use Rattle.heading.specs.Headings.{beforeFirst, throughLast, leaf, leaves, startsWith, textRound, withText}
+use Rattle.heading.specs.Headings.{isOf, beforeFirst, throughLast, leaf, leaves, startsWith, textRound, withText}
 use Rattle.heading.specs.Standard.{without, withoutLast, endsWith, behindOpening, withoutClosing, contents, textOver, standardText, texts, amendedText, Ordinary, between, TextAsStandard}
 use Rattle.heading.proofs.Seeking.{before-le, before-here, before-next}
 use Rattle.heading.proofs.Leaves.{is-of, not-of, Leaf, first-leaf, rest-leaves, before-past}
@@ -34,10 +34,10 @@ bare-reverse : {xs : List Event} → NoData xs → NoData (reverse xs)
 bare-reverse none = none
 bare-reverse {xs = e ∷ es} (more a b p) = rw (reverse-cons e es) (bare-append (bare-reverse p) (more a b none))
 
-bare-before : (kind : ℕ) {xs : List Event} → NoData xs → length xs ≤ beforeFirst kind 0 xs
+bare-before : (kind : ℕ) {xs : List Event} → NoData xs → length xs ≤ beforeFirst (isOf kind 0) xs
 unfolding beforeFirst
 bare-before kind none = omega arith
-bare-before kind {xs = e ∷ es} (more a b p) = omega (arith, before-next kind 0 e es (not-of kind 0 e (λ k n. a n)), bare-before kind p)
+bare-before kind {xs = e ∷ es} (more a b p) = omega (arith, before-next (isOf kind 0) e es (not-of kind 0 e (λ k n. a n)), bare-before kind p)
 
 bare-texts : {xs : List Event} → NoData xs → texts xs ≡ []
 unfolding texts choose
@@ -205,16 +205,15 @@ no-contents : (inner : List Event) → Cut inner [] → amendedText inner ≡ []
 unfolding amendedText withText choose
 no-contents inner c =
     let bare : NoData inner = rw (c .whole) (bare-append (c .bare-front) (c .bare-back)) in
-    rw (eq-eqb (beforeFirst 0 0 inner) (length inner) (omega (arith, bare-before 0 bare, before-le 0 0 inner))) (bare-texts bare)
+    rw (eq-eqb (beforeFirst (isOf 0 0) inner) (length inner) (omega (arith, bare-before 0 bare, before-le (isOf 0 0) inner))) (bare-texts bare)
 
 -- the text that is brought in round Data
-round-texts : (xs ys : List Event) (a b : Event) → NoData xs → NoData ys → a .name ≡ 0 → b .name ≡ 0 →
-    texts (xs ++ textRound a b ++ ys) ≡ enter 13 (a .place) ∷ exit 13 (b .place) ∷ []
+round-texts : (xs ys : List Event) (p q : ℕ) → NoData xs → NoData ys → texts (xs ++ textRound p q ++ ys) ≡ enter 13 p ∷ exit 13 q ∷ []
 unfolding texts choose
-round-texts xs ys a b p q m n =
-    texts-append (xs ++ textRound a b) ys
-    ∙ ap (λ (x : List Event). x ++ texts ys) (texts-append xs (textRound a b))
-    ∙ rw (bare-texts p, bare-texts q, m, n) refl
+round-texts xs ys p q m n =
+    texts-append (xs ++ textRound p q) ys
+    ∙ ap (λ (x : List Event). x ++ texts ys) (texts-append xs (textRound p q))
+    ∙ rw (bare-texts m, bare-texts n) refl
 
 -- a part that begins and ends with Data
 module _ (inner : List Event) (c : Event) (cs : List Event) (k : Cut inner (c ∷ cs)) (r : LastPair (c ∷ cs)) (first : c .name ≡ 0) (last : r .exits .name ≡ 0) where
@@ -227,11 +226,11 @@ module _ (inner : List Event) (c : Event) (cs : List Event) (k : Cut inner (c �
   inner-length : length inner ≡ length (k .front) + (suc (length cs) + length (k .back))
   inner-length = ap length (k .whole) ∙ length-append (k .front) (c ∷ cs ++ k .back) ∙ ap (λ (n : ℕ). length (k .front) + n) (length-append (c ∷ cs) (k .back))
 
-  starts : beforeFirst 0 0 inner ≡ length (k .front)
+  starts : beforeFirst (isOf 0 0) inner ≡ length (k .front)
   starts =
-      ap (beforeFirst 0 0) (k .whole)
-      ∙ before-past 0 0 (k .front) (c ∷ (cs ++ k .back)) (bare-before 0 (k .bare-front))
-      ∙ omega (arith, before-here 0 0 c (cs ++ k .back) (is-of 0 0 c begins first))
+      ap (beforeFirst (isOf 0 0)) (k .whole)
+      ∙ before-past (isOf 0 0) (k .front) (c ∷ (cs ++ k .back)) (bare-before 0 (k .bare-front))
+      ∙ omega (arith, before-here (isOf 0 0) c (cs ++ k .back) (is-of 0 0 c begins first))
 
   turned : reverse inner ≡ reverse (k .back) ++ (r .exits ∷ r .enters ∷ (reverse (r .rest) ++ reverse (k .front)))
   turned =
@@ -241,27 +240,27 @@ module _ (inner : List Event) (c : Event) (cs : List Event) (k : Cut inner (c �
       (reverse-append (c ∷ cs) (k .back) ∙ ap (λ (x : List Event). reverse (k .back) ++ x) (ap reverse (r .whole) ∙ backward (r .rest) (r .enters) (r .exits)))
       ∙ append-assoc (reverse (k .back)) (r .exits ∷ r .enters ∷ reverse (r .rest)) (reverse (k .front))
 
-  ends : throughLast 1 0 inner ≡ length (k .front) + suc (length cs)
+  ends : throughLast (isOf 1 0) inner ≡ length (k .front) + suc (length cs)
   unfolding throughLast
   ends =
-      let b : beforeFirst 1 0 (reverse inner) ≡ length (k .back) =
-      ap (beforeFirst 1 0) turned
-      ∙ before-past 1 0 (reverse (k .back)) (r .exits ∷ r .enters ∷ (reverse (r .rest) ++ reverse (k .front))) (bare-before 1 (bare-reverse (k .bare-back)))
-      ∙ omega (arith, length-reverse (k .back), before-here 1 0 (r .exits) (r .enters ∷ (reverse (r .rest) ++ reverse (k .front))) (is-of 1 0 (r .exits) (r .pair .exits) last))
+      let b : beforeFirst (isOf 1 0) (reverse inner) ≡ length (k .back) =
+      ap (beforeFirst (isOf 1 0)) turned
+      ∙ before-past (isOf 1 0) (reverse (k .back)) (r .exits ∷ r .enters ∷ (reverse (r .rest) ++ reverse (k .front))) (bare-before 1 (bare-reverse (k .bare-back)))
+      ∙ omega (arith, length-reverse (k .back), before-here (isOf 1 0) (r .exits) (r .enters ∷ (reverse (r .rest) ++ reverse (k .front))) (is-of 1 0 (r .exits) (r .pair .exits) last))
       in
       omega (arith, b, inner-length)
 
-  front-taken : take (beforeFirst 0 0 inner) inner ≡ k .front
+  front-taken : take (beforeFirst (isOf 0 0) inner) inner ≡ k .front
   front-taken = ap (λ (n : ℕ). take n inner) starts ∙ ap (take (length (k .front))) (k .whole) ∙ take-append-seam (k .front) (c ∷ cs ++ k .back)
 
-  back-left : drop (throughLast 1 0 inner) inner ≡ k .back
+  back-left : drop (throughLast (isOf 1 0) inner) inner ≡ k .back
   back-left =
       ap (λ (n : ℕ). drop n inner) ends
       ∙ ap (drop (length (k .front) + suc (length cs))) (k .whole)
       ∙ drop-append-add (k .front) (c ∷ cs ++ k .back) (suc (length cs))
       ∙ drop-append-seam (c ∷ cs) (k .back)
 
-  first-there : nth inner (beforeFirst 0 0 inner) ≡ c
+  first-there : nth inner (beforeFirst (isOf 0 0) inner) ≡ c
   first-there = ap (nth inner) starts ∙ ap (λ (x : List Event). nth x (length (k .front))) (k .whole) ∙ getD-append-seam (k .front) c (cs ++ k .back) _
 
   last-in : (ys : List Event) → nth (c ∷ cs ++ ys) (length cs) ≡ r .exits
@@ -271,9 +270,9 @@ module _ (inner : List Event) (c : Event) (cs : List Event) (k : Cut inner (c �
       ∙ ap (nth (r .rest ++ (r .enters ∷ r .exits ∷ ys))) (omega (arith, part-length))
       ∙ getD-append-add (r .rest) (r .enters ∷ r .exits ∷ ys) 1 _
 
-  last-there : nth inner (throughLast 1 0 inner - 1) ≡ r .exits
+  last-there : nth inner (throughLast (isOf 1 0) inner - 1) ≡ r .exits
   last-there =
-      let n : throughLast 1 0 inner - 1 ≡ length (k .front) + length cs = omega (arith, ends) in
+      let n : throughLast (isOf 1 0) inner - 1 ≡ length (k .front) + length cs = omega (arith, ends) in
       ap (nth inner) n
       ∙ ap (λ (x : List Event). nth x (length (k .front) + length cs)) (k .whole)
       ∙ getD-append-add (k .front) (c ∷ cs ++ k .back) (length cs) _
@@ -285,9 +284,9 @@ module _ (inner : List Event) (c : Event) (cs : List Event) (k : Cut inner (c �
   same-text : amendedText inner ≡ textOver (c ∷ cs)
   unfolding amendedText withText textOver choose
   same-text =
-      let n : beforeFirst 0 0 inner ≡ length inner → ⊥ = λ q. omega (arith, starts, inner-length, q) in
-      rw (ne-eqb (beforeFirst 0 0 inner) (length inner) n, front-taken, back-left, first-there, last-there, last-of)
-      (round-texts (k .front) (k .back) c (r .exits) (k .bare-front) (k .bare-back) first last)
+      let n : beforeFirst (isOf 0 0) inner ≡ length inner → ⊥ = λ q. omega (arith, starts, inner-length, q) in
+      rw (ne-eqb (beforeFirst (isOf 0 0) inner) (length inner) n, front-taken, back-left, first-there, last-there, last-of)
+      (round-texts (k .front) (k .back) (c .place) (r .exits .place) (k .bare-front) (k .bare-back))
 
 ordinary-text : (inner part : List Event) → Cut inner part → Ordinary part → amendedText inner ≡ textOver part
 unfolding textOver startsWith endsWith

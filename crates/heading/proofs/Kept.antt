@@ -12,7 +12,7 @@ use lib.ListN.{length, take, drop, length-append, length-drop}
 use lib.Seq.{split-at, drop-append-seam, drop-cons, length-take-le}
 use lib.Dec.{eqb, ltb}
 use borrow.Author.Tests.{eqb-false, le-ltb}
-use Rattle.record.specs.Choice.{choose}
+use Rattle.record.specs.Choice.{choose, and}
 use Rattle.record.specs.Event.{event, enter, exit, eventsOf}
 use Rattle.record.specs.Stack.{nth}
 use Rattle.record.specs.Check.{admitted}
@@ -41,69 +41,64 @@ outside-other : (e : Event) (es : List Event) → isOf 0 11 e ≡ false → outs
 unfolding outsideFrom choose
 outside-other e es q = rw q
 
-outside-heading : (e : Event) (es : List Event) → isOf 0 11 e ≡ true → outside (e ∷ es) ≡ e ∷ outside (drop (beforeFirst 1 11 es) es)
+outside-heading : (e : Event) (es : List Event) → isOf 0 11 e ≡ true → outside (e ∷ es) ≡ e ∷ outside (drop (beforeFirst (isOf 1 11) es) es)
 unfolding outsideFrom choose
-outside-heading e es q = rw q (ap (λ (l : List Event). e ∷ l) (outside-past (beforeFirst 1 11 es) es))
+outside-heading e es q = rw q (ap (λ (l : List Event). e ∷ l) (outside-past (beforeFirst (isOf 1 11) es) es))
 
 -- a text's four events hold no exit of a heading
-none-round : (a b : Event) → a .kind ≡ 0 → b .name ≡ 0 → beforeFirst 1 11 (textRound a b) ≡ 4
-unfolding beforeFirst
-none-round a b ka nb =
-    let n₁ = before-next 1 11 (enter 13 (a .place)) (a ∷ b ∷ exit 13 (b .place) ∷ []) (not-of 1 11 (enter 13 (a .place)) (λ k n. omega arith)) in
-    let n₂ = before-next 1 11 a (b ∷ exit 13 (b .place) ∷ []) (not-of 1 11 a (λ k n. omega arith)) in
-    let n₃ = before-next 1 11 b (exit 13 (b .place) ∷ []) (not-of 1 11 b (λ k n. omega arith)) in
-    let n₄ = before-next 1 11 (exit 13 (b .place)) [] (not-of 1 11 (exit 13 (b .place)) (λ k n. omega arith)) in
-    omega (arith, n₁, n₂, n₃, n₄)
+none-round : (p q : ℕ) → beforeFirst (isOf 1 11) (textRound p q) ≡ 4
+unfolding beforeFirst isOf choose and
+none-round p q = refl
 
-none-text : (inner : List Event) → leaves inner ≡ true → beforeFirst 1 11 (withText inner) ≡ length (withText inner)
+none-text : (inner : List Event) → leaves inner ≡ true → beforeFirst (isOf 1 11) (withText inner) ≡ length (withText inner)
 unfolding withText choose
-none-text inner q = go (eqb (beforeFirst 0 0 inner) (length inner)) refl
+none-text inner q = go (eqb (beforeFirst (isOf 0 0) inner) (length inner)) refl
   where
-    go : (b : Bool) → eqb (beforeFirst 0 0 inner) (length inner) ≡ b → beforeFirst 1 11 (withText inner) ≡ length (withText inner)
+    go : (b : Bool) → eqb (beforeFirst (isOf 0 0) inner) (length inner) ≡ b → beforeFirst (isOf 1 11) (withText inner) ≡ length (withText inner)
     go true e = rw e (none-before inner q)
     go false e =
-        let ne : beforeFirst 0 0 inner ≡ length inner → ⊥ = eqb-false _ _ e in
+        let ne : beforeFirst (isOf 0 0) inner ≡ length inner → ⊥ = eqb-false _ _ e in
         let ends = data-ends inner q ne in
-        let le = through-le 1 0 inner in
-        let a : Event = nth inner (beforeFirst 0 0 inner) in
-        let b : Event = nth inner (throughLast 1 0 inner - 1) in
-        let xs : List Event = take (beforeFirst 0 0 inner) inner in
-        let us : List Event = take (throughLast 1 0 inner - 1) inner in
-        let zs : List Event = drop (throughLast 1 0 inner) inner in
-        let oa = of-is 0 0 a (before-is 0 0 inner (omega arith)) in
-        let ob = of-is 1 0 b (last-is 1 0 inner (omega arith)) in
-        let ea : inner ≡ xs ++ (a ∷ drop (suc (beforeFirst 0 0 inner)) inner) = split-at inner (beforeFirst 0 0 inner) (event 0 0 0) (omega arith) in
-        let k : suc (throughLast 1 0 inner - 1) ≡ throughLast 1 0 inner = omega arith in
-        let eb : inner ≡ us ++ (b ∷ zs) = split-at inner (throughLast 1 0 inner - 1) (event 0 0 0) (omega arith) ∙ ap (λ (m : ℕ). us ++ (b ∷ drop m inner)) k in
-        let front = none-before xs (leaves-front xs a (drop (suc (beforeFirst 0 0 inner)) inner) (ap leaves (sym ea) ∙ q) (oa .0)) in
+        let le = through-le (isOf 1 0) inner in
+        let a : Event = nth inner (beforeFirst (isOf 0 0) inner) in
+        let b : Event = nth inner (throughLast (isOf 1 0) inner - 1) in
+        let xs : List Event = take (beforeFirst (isOf 0 0) inner) inner in
+        let us : List Event = take (throughLast (isOf 1 0) inner - 1) inner in
+        let zs : List Event = drop (throughLast (isOf 1 0) inner) inner in
+        let oa = of-is 0 0 a (before-is (isOf 0 0) inner (omega arith)) in
+        let ob = of-is 1 0 b (last-is (isOf 1 0) inner (omega arith)) in
+        let ea : inner ≡ xs ++ (a ∷ drop (suc (beforeFirst (isOf 0 0) inner)) inner) = split-at inner (beforeFirst (isOf 0 0) inner) (event 0 0 0) (omega arith) in
+        let k : suc (throughLast (isOf 1 0) inner - 1) ≡ throughLast (isOf 1 0) inner = omega arith in
+        let eb : inner ≡ us ++ (b ∷ zs) = split-at inner (throughLast (isOf 1 0) inner - 1) (event 0 0 0) (omega arith) ∙ ap (λ (m : ℕ). us ++ (b ∷ drop m inner)) k in
+        let front = none-before xs (leaves-front xs a (drop (suc (beforeFirst (isOf 0 0) inner)) inner) (ap leaves (sym ea) ∙ q) (oa .0)) in
         let back = none-before zs (leaves-through us b zs (ap leaves (sym eb) ∙ q) (ob .0) .1) in
-        let mid = none-round a b (oa .0) (ob .1) in
-        let l₁ = length-append xs (textRound a b) in
-        let n₁ = before-past 1 11 xs (textRound a b) (omega (arith, front)) in
-        let n₂ = before-past 1 11 (xs ++ textRound a b) zs (omega (arith, n₁, mid, l₁)) in
-        rw e (omega (arith, n₂, back, length-append (xs ++ textRound a b) zs))
+        let mid = none-round (a .place) (b .place) in
+        let l₁ = length-append xs (textRound (a .place) (b .place)) in
+        let n₁ = before-past (isOf 1 11) xs (textRound (a .place) (b .place)) (omega (arith, front)) in
+        let n₂ = before-past (isOf 1 11) (xs ++ textRound (a .place) (b .place)) zs (omega (arith, n₁, mid, l₁)) in
+        rw e (omega (arith, n₂, back, length-append (xs ++ textRound (a .place) (b .place)) zs))
 
 nothing : (es : List Event) → length es ≡ 0 → es ≡ []
 nothing [] h = refl
 nothing (e ∷ es) h = absurd (omega arith)
 
 -- the events behind a heading's inner ones begin with its exit
-rest-exits : (es : List Event) → beforeFirst 1 11 (resolvedFrom 0 (drop (beforeFirst 1 11 es) es)) ≡ 0
+rest-exits : (es : List Event) → beforeFirst (isOf 1 11) (resolvedFrom 0 (drop (beforeFirst (isOf 1 11) es) es)) ≡ 0
 unfolding beforeFirst resolvedFrom
-rest-exits es = go (at-most (beforeFirst 1 11 es) (length es) (before-le 1 11 es))
+rest-exits es = go (at-most (beforeFirst (isOf 1 11) es) (length es) (before-le (isOf 1 11) es))
   where
-    go : (beforeFirst 1 11 es < length es) ⊎ (beforeFirst 1 11 es ≡ length es) → beforeFirst 1 11 (resolvedFrom 0 (drop (beforeFirst 1 11 es) es)) ≡ 0
+    go : (beforeFirst (isOf 1 11) es < length es) ⊎ (beforeFirst (isOf 1 11) es ≡ length es) → beforeFirst (isOf 1 11) (resolvedFrom 0 (drop (beforeFirst (isOf 1 11) es) es)) ≡ 0
     go (inl h) =
-        let x : Event = nth es (beforeFirst 1 11 es) in
-        let rest : List Event = drop (suc (beforeFirst 1 11 es)) es in
-        let q : isOf 1 11 x ≡ true = before-is 1 11 es h in
+        let x : Event = nth es (beforeFirst (isOf 1 11) es) in
+        let rest : List Event = drop (suc (beforeFirst (isOf 1 11) es)) es in
+        let q : isOf 1 11 x ≡ true = before-is (isOf 1 11) es h in
         let o = of-is 1 11 x q in
-        ap (λ (l : List Event). beforeFirst 1 11 (resolvedFrom 0 l)) (drop-cons es (beforeFirst 1 11 es) (event 0 0 0) h)
-        ∙ ap (beforeFirst 1 11) (other-resolved x rest (not-of 0 11 x (λ k n. omega (arith, o .0))))
-        ∙ before-here 1 11 x (resolvedFrom 0 rest) q
+        ap (λ (l : List Event). beforeFirst (isOf 1 11) (resolvedFrom 0 l)) (drop-cons es (beforeFirst (isOf 1 11) es) (event 0 0 0) h)
+        ∙ ap (beforeFirst (isOf 1 11)) (other-resolved x rest (not-of 0 11 x (λ k n. omega (arith, o .0))))
+        ∙ before-here (isOf 1 11) x (resolvedFrom 0 rest) q
     go (inr h) =
-        let z : length (drop (beforeFirst 1 11 es) es) ≡ 0 = omega (arith, length-drop (beforeFirst 1 11 es) es) in
-        ap (λ (l : List Event). beforeFirst 1 11 (resolvedFrom 0 l)) (nothing (drop (beforeFirst 1 11 es) es) z)
+        let z : length (drop (beforeFirst (isOf 1 11) es) es) ≡ 0 = omega (arith, length-drop (beforeFirst (isOf 1 11) es) es) in
+        ap (λ (l : List Event). beforeFirst (isOf 1 11) (resolvedFrom 0 l)) (nothing (drop (beforeFirst (isOf 1 11) es) es) z)
 
 -- the events one by one, a heading's inner events at once; at most m are left
 keeping : (m : ℕ) (es : List Event) (i : ℕ) (rs : List Event) → length es ≤ m → earliest i es (gives rs) ≡ gives rs → outside (resolvedFrom 0 es) ≡ outside es
@@ -122,13 +117,13 @@ keeping (suc m) (e ∷ es) i rs l q = go (isOf 0 11 e) refl (λ k j. keeping m (
         ∙ ap (λ (l : List Event). e ∷ l) (more 0 (i + 1) (omega arith) (sym (other-passed e es z i (gives rs)) ∙ q))
         ∙ sym (outside-other e es z)
     go true z more =
-        let n : ℕ = beforeFirst 1 11 es in
+        let n : ℕ = beforeFirst (isOf 1 11) es in
         let sh : shaped (innerOf es) ≡ true = heading-shaped e es z i rs q in
         let w : List Event = withText (innerOf es) in
         let r : List Event = resolvedFrom 0 (drop n es) in
-        let nt : beforeFirst 1 11 w ≡ length w = none-text (innerOf es) (inner-leaves (innerOf es) sh) in
-        let b : beforeFirst 1 11 (w ++ r) ≡ length w = before-past 1 11 w r (omega arith) ∙ omega (arith, rest-exits es) in
-        let d : drop (beforeFirst 1 11 (w ++ r)) (w ++ r) ≡ r = ap (λ (k : ℕ). drop k (w ++ r)) b ∙ drop-append-seam w r in
+        let nt : beforeFirst (isOf 1 11) w ≡ length w = none-text (innerOf es) (inner-leaves (innerOf es) sh) in
+        let b : beforeFirst (isOf 1 11) (w ++ r) ≡ length w = before-past (isOf 1 11) w r (omega arith) ∙ omega (arith, rest-exits es) in
+        let d : drop (beforeFirst (isOf 1 11) (w ++ r)) (w ++ r) ≡ r = ap (λ (k : ℕ). drop k (w ++ r)) b ∙ drop-append-seam w r in
         ap outside (heading-resolved e es z)
         ∙ outside-heading e (w ++ r) z
         ∙ ap (λ (l : List Event). e ∷ outside l) d
@@ -166,30 +161,30 @@ strictly a b l ne = go (at-most a b l)
 -- a heading's inner events become few more
 text-small : (inner : List Event) → length (withText inner) ≤ 3 * length inner + 2
 unfolding withText choose
-text-small inner = go (eqb (beforeFirst 0 0 inner) (length inner)) refl
+text-small inner = go (eqb (beforeFirst (isOf 0 0) inner) (length inner)) refl
   where
-    go : (b : Bool) → eqb (beforeFirst 0 0 inner) (length inner) ≡ b → length (withText inner) ≤ 3 * length inner + 2
+    go : (b : Bool) → eqb (beforeFirst (isOf 0 0) inner) (length inner) ≡ b → length (withText inner) ≤ 3 * length inner + 2
     go true e = rw e (omega arith)
     go false e =
-        let le = before-le 0 0 inner in
-        let lt : beforeFirst 0 0 inner < length inner = strictly (beforeFirst 0 0 inner) (length inner) le (eqb-false _ _ e) in
-        let xs : List Event = take (beforeFirst 0 0 inner) inner in
-        let t : List Event = textRound (nth inner (beforeFirst 0 0 inner)) (nth inner (throughLast 1 0 inner - 1)) in
-        let zs : List Event = drop (throughLast 1 0 inner) inner in
-        rw e (omega (arith, length-append (xs ++ t) zs, length-append xs t, length-take-le (beforeFirst 0 0 inner) inner le, length-drop (throughLast 1 0 inner) inner))
+        let le = before-le (isOf 0 0) inner in
+        let lt : beforeFirst (isOf 0 0) inner < length inner = strictly (beforeFirst (isOf 0 0) inner) (length inner) le (eqb-false _ _ e) in
+        let xs : List Event = take (beforeFirst (isOf 0 0) inner) inner in
+        let t : List Event = textRound (nth inner (beforeFirst (isOf 0 0) inner) .place) (nth inner (throughLast (isOf 1 0) inner - 1) .place) in
+        let zs : List Event = drop (throughLast (isOf 1 0) inner) inner in
+        rw e (omega (arith, length-append (xs ++ t) zs, length-append xs t, length-take-le (beforeFirst (isOf 0 0) inner) inner le, length-drop (throughLast (isOf 1 0) inner) inner))
 
 resolved-small : (k : ℕ) (es : List Event) → k ≤ length es → length (resolvedFrom k es) + 3 * k ≤ 3 * length es
 unfolding resolvedFrom choose innerOf
 resolved-small k [] h = omega arith
 resolved-small (suc k) (e ∷ es) h = omega (arith, resolved-small k es (omega arith))
-resolved-small zero (e ∷ es) h = go (isOf 0 11 e) (resolved-small 0 es (omega arith)) (resolved-small (beforeFirst 1 11 es) es (before-le 1 11 es))
+resolved-small zero (e ∷ es) h = go (isOf 0 11 e) (resolved-small 0 es (omega arith)) (resolved-small (beforeFirst (isOf 1 11) es) es (before-le (isOf 1 11) es))
   where
-    go : (b : Bool) → length (resolvedFrom 0 es) + 3 * 0 ≤ 3 * length es → length (resolvedFrom (beforeFirst 1 11 es) es) + 3 * beforeFirst 1 11 es ≤ 3 * length es →
-        length (choose b (e ∷ withText (innerOf es) ++ resolvedFrom (beforeFirst 1 11 es) es) (e ∷ resolvedFrom 0 es)) + 3 * 0 ≤ 3 * suc (length es)
+    go : (b : Bool) → length (resolvedFrom 0 es) + 3 * 0 ≤ 3 * length es → length (resolvedFrom (beforeFirst (isOf 1 11) es) es) + 3 * beforeFirst (isOf 1 11) es ≤ 3 * length es →
+        length (choose b (e ∷ withText (innerOf es) ++ resolvedFrom (beforeFirst (isOf 1 11) es) es) (e ∷ resolvedFrom 0 es)) + 3 * 0 ≤ 3 * suc (length es)
     go false a b = omega arith
     go true a b =
         omega
-        (arith, length-append (withText (innerOf es)) (resolvedFrom (beforeFirst 1 11 es) es), text-small (innerOf es), length-take-le (beforeFirst 1 11 es) es (before-le 1 11 es))
+        (arith, length-append (withText (innerOf es)) (resolvedFrom (beforeFirst (isOf 1 11) es) es), text-small (innerOf es), length-take-le (beforeFirst (isOf 1 11) es) es (before-le (isOf 1 11) es))
 
 few-events : (s : List ℕ) (d e : ℕ) → e ≤ 2048 → length (eventsOf s d e) ≤ 2048
 unfolding eventsOf

@@ -80,94 +80,94 @@ pub leaf-apart : (kind : ℕ) (e f : Event) → Leaf e f → (isOf kind 11 e ≡
 leaf-apart kind e f l =
     (not-of kind 11 e (λ k n. leaf-name e f l n), not-of kind 11 f (λ k n. leaf-name e f l (sym (l .same) ∙ n)))
 
--- where the first of a kind and name stands in two lists, one behind the other
-pub before-in : (kind name : ℕ) (xs ys : List Event) → beforeFirst kind name xs < length xs → beforeFirst kind name (xs ++ ys) ≡ beforeFirst kind name xs
+-- where the first that is such stands in two lists, one behind the other
+pub before-in : (is : Event → Bool) (xs ys : List Event) → beforeFirst is xs < length xs → beforeFirst is (xs ++ ys) ≡ beforeFirst is xs
 unfolding beforeFirst choose
-before-in kind name [] ys h = absurd (omega arith)
-before-in kind name (a ∷ xs) ys h = go (isOf kind name a) refl (λ l. before-in kind name xs ys l)
+before-in is [] ys h = absurd (omega arith)
+before-in is (a ∷ xs) ys h = go (is a) refl (λ l. before-in is xs ys l)
   where
-    go : (b : Bool) → isOf kind name a ≡ b → (beforeFirst kind name xs < length xs → beforeFirst kind name (xs ++ ys) ≡ beforeFirst kind name xs)
-        → choose (isOf kind name a) 0 (suc (beforeFirst kind name (xs ++ ys))) ≡ choose (isOf kind name a) 0 (suc (beforeFirst kind name xs))
+    go : (b : Bool) → is a ≡ b → (beforeFirst is xs < length xs → beforeFirst is (xs ++ ys) ≡ beforeFirst is xs)
+        → choose (is a) 0 (suc (beforeFirst is (xs ++ ys))) ≡ choose (is a) 0 (suc (beforeFirst is xs))
     go true q more = rw q
     go false q more =
-        let h′ : suc (beforeFirst kind name xs) < suc (length xs) = rw q at h in
+        let h′ : suc (beforeFirst is xs) < suc (length xs) = rw q at h in
         rw (q, more (omega arith))
 
-pub before-past : (kind name : ℕ) (xs ys : List Event) → length xs ≤ beforeFirst kind name xs → beforeFirst kind name (xs ++ ys) ≡ length xs + beforeFirst kind name ys
+pub before-past : (is : Event → Bool) (xs ys : List Event) → length xs ≤ beforeFirst is xs → beforeFirst is (xs ++ ys) ≡ length xs + beforeFirst is ys
 unfolding beforeFirst choose
-before-past kind name [] ys h = omega arith
-before-past kind name (a ∷ xs) ys h = go (isOf kind name a) refl (λ l. before-past kind name xs ys l)
+before-past is [] ys h = omega arith
+before-past is (a ∷ xs) ys h = go (is a) refl (λ l. before-past is xs ys l)
   where
-    go : (b : Bool) → isOf kind name a ≡ b → (length xs ≤ beforeFirst kind name xs → beforeFirst kind name (xs ++ ys) ≡ length xs + beforeFirst kind name ys)
-        → choose (isOf kind name a) 0 (suc (beforeFirst kind name (xs ++ ys))) ≡ suc (length xs) + beforeFirst kind name ys
+    go : (b : Bool) → is a ≡ b → (length xs ≤ beforeFirst is xs → beforeFirst is (xs ++ ys) ≡ length xs + beforeFirst is ys)
+        → choose (is a) 0 (suc (beforeFirst is (xs ++ ys))) ≡ suc (length xs) + beforeFirst is ys
     go true q more =
         let h′ : suc (length xs) ≤ 0 = rw q at h in
         absurd (omega arith)
     go false q more =
-        let h′ : suc (length xs) ≤ suc (beforeFirst kind name xs) = rw q at h in
+        let h′ : suc (length xs) ≤ suc (beforeFirst is xs) = rw q at h in
         rw q (omega (arith, more (omega arith)))
 
--- how far the last of a kind and name is, with one event more in front: as far behind it, where there is one among the others
-reversed : (kind name : ℕ) (e : Event) (es : List Event) → throughLast kind name (e ∷ es) ≡ suc (length es) - beforeFirst kind name (reverse es ++ (e ∷ []))
+-- how far the last that is such is, with one event more in front: as far behind it, where there is one among the others
+reversed : (is : Event → Bool) (e : Event) (es : List Event) → throughLast is (e ∷ es) ≡ suc (length es) - beforeFirst is (reverse es ++ (e ∷ []))
 unfolding throughLast
-reversed kind name e es = ap (λ (l : List Event). suc (length es) - beforeFirst kind name l) (reverse-cons e es)
+reversed is e es = ap (λ (l : List Event). suc (length es) - beforeFirst is l) (reverse-cons e es)
 
-pub through-later : (kind name : ℕ) (e : Event) (es : List Event) → 0 < throughLast kind name es → throughLast kind name (e ∷ es) ≡ suc (throughLast kind name es)
+pub through-later : (is : Event → Bool) (e : Event) (es : List Event) → 0 < throughLast is es → throughLast is (e ∷ es) ≡ suc (throughLast is es)
 unfolding throughLast
-through-later kind name e es h =
-    let b = before-in kind name (reverse es) (e ∷ []) (omega (arith, length-reverse es)) in
-    reversed kind name e es ∙ omega (arith, b)
+through-later is e es h =
+    let b = before-in is (reverse es) (e ∷ []) (omega (arith, length-reverse es)) in
+    reversed is e es ∙ omega (arith, b)
 
-pub through-here : (kind name : ℕ) (e : Event) (es : List Event) → isOf kind name e ≡ true → throughLast kind name es ≡ 0 → throughLast kind name (e ∷ es) ≡ 1
+pub through-here : (is : Event → Bool) (e : Event) (es : List Event) → is e ≡ true → throughLast is es ≡ 0 → throughLast is (e ∷ es) ≡ 1
 unfolding throughLast
-through-here kind name e es q h =
-    let b = before-past kind name (reverse es) (e ∷ []) (omega (arith, length-reverse es)) in
-    reversed kind name e es ∙ omega (arith, b, before-here kind name e [] q, length-reverse es)
+through-here is e es q h =
+    let b = before-past is (reverse es) (e ∷ []) (omega (arith, length-reverse es)) in
+    reversed is e es ∙ omega (arith, b, before-here is e [] q, length-reverse es)
 
--- an event of the kind and name, and there is a last
+-- an event that is such, and there is a last
 positive : (n : ℕ) → (n ≡ 0) ⊎ (0 < n)
 positive zero = inl refl
 positive (suc n) = inr (omega arith)
 
-pub through-some : (kind name : ℕ) (e : Event) (es : List Event) → isOf kind name e ≡ true → 0 < throughLast kind name (e ∷ es)
-through-some kind name e es q = go (positive (throughLast kind name es))
+pub through-some : (is : Event → Bool) (e : Event) (es : List Event) → is e ≡ true → 0 < throughLast is (e ∷ es)
+through-some is e es q = go (positive (throughLast is es))
   where
-    go : (throughLast kind name es ≡ 0) ⊎ (0 < throughLast kind name es) → 0 < throughLast kind name (e ∷ es)
-    go (inl z) = omega (arith, through-here kind name e es q z)
-    go (inr p) = omega (arith, through-later kind name e es p)
+    go : (throughLast is es ≡ 0) ⊎ (0 < throughLast is es) → 0 < throughLast is (e ∷ es)
+    go (inl z) = omega (arith, through-here is e es q z)
+    go (inr p) = omega (arith, through-later is e es p)
 
-pub through-none : (kind name : ℕ) (e : Event) (es : List Event) → isOf kind name e ≡ false → throughLast kind name es ≡ 0 → throughLast kind name (e ∷ es) ≡ 0
+pub through-none : (is : Event → Bool) (e : Event) (es : List Event) → is e ≡ false → throughLast is es ≡ 0 → throughLast is (e ∷ es) ≡ 0
 unfolding throughLast beforeFirst
-through-none kind name e es q h =
-    let b = before-past kind name (reverse es) (e ∷ []) (omega (arith, length-reverse es)) in
-    reversed kind name e es ∙ omega (arith, b, before-next kind name e [] q, length-reverse es)
+through-none is e es q h =
+    let b = before-past is (reverse es) (e ∷ []) (omega (arith, length-reverse es)) in
+    reversed is e es ∙ omega (arith, b, before-next is e [] q, length-reverse es)
 
-empty : (kind name : ℕ) → 0 < throughLast kind name [] → ⊥
+empty : (is : Event → Bool) → 0 < throughLast is [] → ⊥
 unfolding throughLast
-empty kind name h = omega arith
+empty is h = omega arith
 
--- the last of a kind and name is one
-pub last-is : (kind name : ℕ) (es : List Event) → 0 < throughLast kind name es → isOf kind name (nth es (throughLast kind name es - 1)) ≡ true
-last-is kind name [] h = absurd (empty kind name h)
-last-is kind name (e ∷ es) h = go (positive (throughLast kind name es)) (isOf kind name e) refl (λ l. last-is kind name es l)
+-- the last that is such is one
+pub last-is : (is : Event → Bool) (es : List Event) → 0 < throughLast is es → is (nth es (throughLast is es - 1)) ≡ true
+last-is is [] h = absurd (empty is h)
+last-is is (e ∷ es) h = go (positive (throughLast is es)) (is e) refl (λ l. last-is is es l)
   where
-    go : (throughLast kind name es ≡ 0) ⊎ (0 < throughLast kind name es) → (b : Bool) → isOf kind name e ≡ b →
-        (0 < throughLast kind name es → isOf kind name (nth es (throughLast kind name es - 1)) ≡ true) →
-        isOf kind name (nth (e ∷ es) (throughLast kind name (e ∷ es) - 1)) ≡ true
+    go : (throughLast is es ≡ 0) ⊎ (0 < throughLast is es) → (b : Bool) → is e ≡ b →
+        (0 < throughLast is es → is (nth es (throughLast is es - 1)) ≡ true) →
+        is (nth (e ∷ es) (throughLast is (e ∷ es) - 1)) ≡ true
     go (inl z) true q more =
-        let k : throughLast kind name (e ∷ es) - 1 ≡ 0 = omega (arith, through-here kind name e es q z) in
-        ap (λ (m : ℕ). isOf kind name (nth (e ∷ es) m)) k ∙ q
-    go (inl z) false q more = absurd (omega (arith, h, through-none kind name e es q z))
+        let k : throughLast is (e ∷ es) - 1 ≡ 0 = omega (arith, through-here is e es q z) in
+        ap (λ (m : ℕ). is (nth (e ∷ es) m)) k ∙ q
+    go (inl z) false q more = absurd (omega (arith, h, through-none is e es q z))
     go (inr p) b q more =
-        let k : throughLast kind name (e ∷ es) - 1 ≡ suc (throughLast kind name es - 1) = omega (arith, through-later kind name e es p) in
-        ap (λ (m : ℕ). isOf kind name (nth (e ∷ es) m)) k ∙ more p
+        let k : throughLast is (e ∷ es) - 1 ≡ suc (throughLast is es - 1) = omega (arith, through-later is e es p) in
+        ap (λ (m : ℕ). is (nth (e ∷ es) m)) k ∙ more p
 
-pub through-le : (kind name : ℕ) (es : List Event) → throughLast kind name es ≤ length es
+pub through-le : (is : Event → Bool) (es : List Event) → throughLast is es ≤ length es
 unfolding throughLast
-through-le kind name es = omega arith
+through-le is es = omega arith
 
 -- with a first Data's enter there is a last Data's exit, and it stands behind it
-pub data-ends : (es : List Event) → leaves es ≡ true → (beforeFirst 0 0 es ≡ length es → ⊥) → beforeFirst 0 0 es + 2 ≤ throughLast 1 0 es
+pub data-ends : (es : List Event) → leaves es ≡ true → (beforeFirst (isOf 0 0) es ≡ length es → ⊥) → beforeFirst (isOf 0 0) es + 2 ≤ throughLast (isOf 1 0) es
 unfolding leaves beforeFirst
 data-ends [] q h = absurd (h refl)
 data-ends (e ∷ []) q h = let z : _≡_ {A = ℕ} 0 1 = cc in absurd (omega arith)
@@ -176,14 +176,14 @@ data-ends (e ∷ f ∷ es) q h = go (isOf 0 0 e) refl (λ n. data-ends es (rest-
     l : Leaf e f
     l = first-leaf e f es q
 
-    go : (b : Bool) → isOf 0 0 e ≡ b → ((beforeFirst 0 0 es ≡ length es → ⊥) → beforeFirst 0 0 es + 2 ≤ throughLast 1 0 es) →
-        beforeFirst 0 0 (e ∷ f ∷ es) + 2 ≤ throughLast 1 0 (e ∷ f ∷ es)
+    go : (b : Bool) → isOf 0 0 e ≡ b → ((beforeFirst (isOf 0 0) es ≡ length es → ⊥) → beforeFirst (isOf 0 0) es + 2 ≤ throughLast (isOf 1 0) es) →
+        beforeFirst (isOf 0 0) (e ∷ f ∷ es) + 2 ≤ throughLast (isOf 1 0) (e ∷ f ∷ es)
     go true p more =
-        let here : 0 < throughLast 1 0 (f ∷ es) = through-some 1 0 f es (is-of 1 0 f (l .exits) (l .same ∙ of-is 0 0 e p .1)) in
-        omega (arith, through-later 1 0 e (f ∷ es) here, before-here 0 0 e (f ∷ es) p)
+        let here : 0 < throughLast (isOf 1 0) (f ∷ es) = through-some (isOf 1 0) f es (is-of 1 0 f (l .exits) (l .same ∙ of-is 0 0 e p .1)) in
+        omega (arith, through-later (isOf 1 0) e (f ∷ es) here, before-here (isOf 0 0) e (f ∷ es) p)
     go false p more =
-        let a = before-next 0 0 e (f ∷ es) p in
-        let b = before-next 0 0 f es (not-of 0 0 f (λ k n. omega (arith, l .exits))) in
-        let rest : beforeFirst 0 0 es + 2 ≤ throughLast 1 0 es = more (λ z. h (omega (arith, a, b))) in
-        let c = through-later 1 0 f es (omega arith) in
-        omega (arith, a, b, c, through-later 1 0 e (f ∷ es) (omega (arith, c)))
+        let a = before-next (isOf 0 0) e (f ∷ es) p in
+        let b = before-next (isOf 0 0) f es (not-of 0 0 f (λ k n. omega (arith, l .exits))) in
+        let rest : beforeFirst (isOf 0 0) es + 2 ≤ throughLast (isOf 1 0) es = more (λ z. h (omega (arith, a, b))) in
+        let c = through-later (isOf 1 0) f es (omega arith) in
+        omega (arith, a, b, c, through-later (isOf 1 0) e (f ∷ es) (omega (arith, c)))

@@ -105,48 +105,48 @@ shape-of es q = go es (startsWith 14 es) refl (and-left _ _ q) (and-right _ _ q)
     go es true s h l = headed-spaced es s h l
 
 -- what follows a heading's enter, as a test and as a predicate
-pub before-is : (kind name : ℕ) (es : List Event) → beforeFirst kind name es < length es → isOf kind name (nth es (beforeFirst kind name es)) ≡ true
+pub before-is : (is : Event → Bool) (es : List Event) → beforeFirst is es < length es → is (nth es (beforeFirst is es)) ≡ true
 unfolding beforeFirst choose
-before-is kind name [] h = absurd (omega arith)
-before-is kind name (e ∷ es) h = go (isOf kind name e) refl (λ l. before-is kind name es l)
+before-is is [] h = absurd (omega arith)
+before-is is (e ∷ es) h = go (is e) refl (λ l. before-is is es l)
   where
-    go : (b : Bool) → isOf kind name e ≡ b → (beforeFirst kind name es < length es → isOf kind name (nth es (beforeFirst kind name es)) ≡ true) →
-        isOf kind name (nth (e ∷ es) (choose (isOf kind name e) 0 (suc (beforeFirst kind name es)))) ≡ true
+    go : (b : Bool) → is e ≡ b → (beforeFirst is es < length es → is (nth es (beforeFirst is es)) ≡ true) →
+        is (nth (e ∷ es) (choose (is e) 0 (suc (beforeFirst is es)))) ≡ true
     go true q more = rw (q, q)
     go false q more =
-        let h′ : suc (beforeFirst kind name es) < suc (length es) = rw q at h in
+        let h′ : suc (beforeFirst is es) < suc (length es) = rw q at h in
         rw q (more (omega arith))
 
-follows-of : (es : List Event) → shaped (innerOf es) ≡ true → beforeFirst 1 11 es < length es → Follows es
+follows-of : (es : List Event) → shaped (innerOf es) ≡ true → beforeFirst (isOf 1 11) es < length es → Follows es
 unfolding innerOf
 follows-of es q h =
-    let o = of-is 1 11 (nth es (beforeFirst 1 11 es)) (before-is 1 11 es h) in
+    let o = of-is 1 11 (nth es (beforeFirst (isOf 1 11) es)) (before-is (isOf 1 11) es h) in
     record {
-      inner = take (beforeFirst 1 11 es) es;
-      place = nth es (beforeFirst 1 11 es) .place;
-      rest = drop (suc (beforeFirst 1 11 es)) es;
+      inner = take (beforeFirst (isOf 1 11) es) es;
+      place = nth es (beforeFirst (isOf 1 11) es) .place;
+      rest = drop (suc (beforeFirst (isOf 1 11) es)) es;
       split =
-          split-at es (beforeFirst 1 11 es) (event 0 0 0) h
-          ∙ ap (λ (x : Event). take (beforeFirst 1 11 es) es ++ (x ∷ drop (suc (beforeFirst 1 11 es)) es)) (event-is (nth es (beforeFirst 1 11 es)) 1 11 (o .0) (o .1));
-      shape = shape-of (take (beforeFirst 1 11 es) es) q;
+          split-at es (beforeFirst (isOf 1 11) es) (event 0 0 0) h
+          ∙ ap (λ (x : Event). take (beforeFirst (isOf 1 11) es) es ++ (x ∷ drop (suc (beforeFirst (isOf 1 11) es)) es)) (event-is (nth es (beforeFirst (isOf 1 11) es)) 1 11 (o .0) (o .1));
+      shape = shape-of (take (beforeFirst (isOf 1 11) es) es) q;
     }
 
 -- leaf pairs hold no exit of a heading
-pub none-before : (es : List Event) → leaves es ≡ true → beforeFirst 1 11 es ≡ length es
+pub none-before : (es : List Event) → leaves es ≡ true → beforeFirst (isOf 1 11) es ≡ length es
 unfolding beforeFirst
 none-before [] q = refl
 none-before (e ∷ []) q = absurd (odd e q)
 none-before (e ∷ f ∷ es) q =
     let apart = leaf-apart 1 e f (first-leaf e f es q) in
-    omega (arith, before-next 1 11 e (f ∷ es) (apart .0), before-next 1 11 f es (apart .1), none-before es (rest-leaves e f es q))
+    omega (arith, before-next (isOf 1 11) e (f ∷ es) (apart .0), before-next (isOf 1 11) f es (apart .1), none-before es (rest-leaves e f es q))
 
 -- so the inner events are those before the first
 pub inner-is : (inner rest : List Event) (x : Event) → leaves inner ≡ true → isOf 1 11 x ≡ true →
-    (beforeFirst 1 11 (inner ++ (x ∷ rest)) ≡ length inner) × (innerOf (inner ++ (x ∷ rest)) ≡ inner)
+    (beforeFirst (isOf 1 11) (inner ++ (x ∷ rest)) ≡ length inner) × (innerOf (inner ++ (x ∷ rest)) ≡ inner)
 unfolding innerOf
 inner-is inner rest x l q =
     let n = none-before inner l in
-    let b : beforeFirst 1 11 (inner ++ (x ∷ rest)) ≡ length inner = before-past 1 11 inner (x ∷ rest) (omega arith) ∙ omega (arith, before-here 1 11 x rest q) in
+    let b : beforeFirst (isOf 1 11) (inner ++ (x ∷ rest)) ≡ length inner = before-past (isOf 1 11) inner (x ∷ rest) (omega arith) ∙ omega (arith, before-here (isOf 1 11) x rest q) in
     (b, ap (λ (k : ℕ). take k (inner ++ (x ∷ rest))) b ∙ take-append-seam inner (x ∷ rest))
 
 shaped-leaves : (es : List Event) → shaped es ≡ true → leaves es ≡ true
@@ -181,14 +181,14 @@ at-most (suc a) (suc b) l = go (at-most a b (omega arith))
     go (inr h) = inr (ap suc h)
 
 pub exit-comes : (es : List Event) (deep d last top : ℕ) (held : List ℕ) → soundFrom deep d last (top ∷ held) es ≡ true → leaves (innerOf es) ≡ true →
-    beforeFirst 1 11 es < length es
+    beforeFirst (isOf 1 11) es < length es
 unfolding innerOf
-exit-comes es deep d last top held s q = go (at-most (beforeFirst 1 11 es) (length es) (before-le 1 11 es))
+exit-comes es deep d last top held s q = go (at-most (beforeFirst (isOf 1 11) es) (length es) (before-le (isOf 1 11) es))
   where
-    go : (beforeFirst 1 11 es < length es) ⊎ (beforeFirst 1 11 es ≡ length es) → beforeFirst 1 11 es < length es
+    go : (beforeFirst (isOf 1 11) es < length es) ⊎ (beforeFirst (isOf 1 11) es ≡ length es) → beforeFirst (isOf 1 11) es < length es
     go (inl h) = h
     go (inr h) =
-        let t : take (beforeFirst 1 11 es) es ≡ es = take-all (beforeFirst 1 11 es) es (omega arith) in
+        let t : take (beforeFirst (isOf 1 11) es) es ≡ es = take-all (beforeFirst (isOf 1 11) es) es (omega arith) in
         absurd (never-closed es deep d last top held (ap leaves (sym t) ∙ q) s)
 
 clash : (b : Bool) → b ≡ true → not b ≡ true → ⊥

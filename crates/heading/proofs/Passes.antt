@@ -62,18 +62,18 @@ module _ (e : Event) (es : List Event) (q : isOf 0 11 e ≡ true) where
   heading-refused i good h = rw (q, h)
 
   pub heading-passed : (i : ℕ) (good : Resolution) → shaped (innerOf es) ≡ true →
-      earliest i (e ∷ es) good ≡ earliest (i + 1 + beforeFirst 1 11 es) (drop (beforeFirst 1 11 es) es) good
+      earliest i (e ∷ es) good ≡ earliest (i + 1 + beforeFirst (isOf 1 11) es) (drop (beforeFirst (isOf 1 11) es) es) good
   unfolding earliest offending choose and innerOf
   heading-passed i good h =
-      let l : leaves (take (beforeFirst 1 11 es) es) ≡ true = inner-leaves (take (beforeFirst 1 11 es) es) h in
+      let l : leaves (take (beforeFirst (isOf 1 11) es) es) ≡ true = inner-leaves (take (beforeFirst (isOf 1 11) es) es) h in
       rw (q, h)
-      (ap (λ (l : List Event). earliest (i + 1) l good) (sym (take-append-drop (beforeFirst 1 11 es) es))
-      ∙ leaves-passed (take (beforeFirst 1 11 es) es) (drop (beforeFirst 1 11 es) es) (i + 1) good l
-      ∙ ap (λ (m : ℕ). earliest (i + 1 + m) (drop (beforeFirst 1 11 es) es) good) (length-take-le (beforeFirst 1 11 es) es (before-le 1 11 es)))
+      (ap (λ (l : List Event). earliest (i + 1) l good) (sym (take-append-drop (beforeFirst (isOf 1 11) es) es))
+      ∙ leaves-passed (take (beforeFirst (isOf 1 11) es) es) (drop (beforeFirst (isOf 1 11) es) es) (i + 1) good l
+      ∙ ap (λ (m : ℕ). earliest (i + 1 + m) (drop (beforeFirst (isOf 1 11) es) es) good) (length-take-le (beforeFirst (isOf 1 11) es) es (before-le (isOf 1 11) es)))
 
-  pub heading-resolved : resolvedFrom 0 (e ∷ es) ≡ e ∷ (withText (innerOf es) ++ resolvedFrom 0 (drop (beforeFirst 1 11 es) es))
+  pub heading-resolved : resolvedFrom 0 (e ∷ es) ≡ e ∷ (withText (innerOf es) ++ resolvedFrom 0 (drop (beforeFirst (isOf 1 11) es) es))
   unfolding resolvedFrom choose
-  heading-resolved = rw (q, resolved-past (beforeFirst 1 11 es) es)
+  heading-resolved = rw (q, resolved-past (beforeFirst (isOf 1 11) es) es)
 
   -- where no heading offends, this one has the right shape
   pub heading-shaped : (i : ℕ) (r : List Event) → earliest i (e ∷ es) (gives r) ≡ gives r → shaped (innerOf es) ≡ true
@@ -89,7 +89,7 @@ module _ (e : Event) (es : List Event) (q : isOf 0 11 e ≡ true) where
 
 -- a heading as it stands in a record: n inner events after its enter, which is event i of e
 module _ (s : List ℕ) (at i e n : ℕ) (l : i < e) (q : isOf 0 11 (eventAt s at) ≡ true)
-    (en : n ≡ beforeFirst 1 11 (eventsAt (e - i - 1) s (at + 8))) (ln : n ≤ e - i - 1) where
+    (en : n ≡ beforeFirst (isOf 1 11) (eventsAt (e - i - 1) s (at + 8))) (ln : n ≤ e - i - 1) where
   first : eventsAt (e - i) s at ≡ eventAt s at ∷ eventsAt (e - i - 1) s (at + 8)
   first = events-step (e - i) (e - i - 1) s at (omega arith)
 
@@ -97,7 +97,7 @@ module _ (s : List ℕ) (at i e n : ℕ) (l : i < e) (q : isOf 0 11 (eventAt s a
   unfolding innerOf
   inner = rw (← en) (events-take n (e - i - 1) s (at + 8) ln)
 
-  behind : drop (beforeFirst 1 11 (eventsAt (e - i - 1) s (at + 8))) (eventsAt (e - i - 1) s (at + 8)) ≡ eventsAt (e - (i + (1 + n))) s (at + 8 + 8 * n)
+  behind : drop (beforeFirst (isOf 1 11) (eventsAt (e - i - 1) s (at + 8))) (eventsAt (e - i - 1) s (at + 8)) ≡ eventsAt (e - (i + (1 + n))) s (at + 8 + 8 * n)
   behind = rw (← en) (events-drop n (e - i - 1) (e - (i + (1 + n))) s (at + 8) (at + 8 + 8 * n) (omega arith) refl)
 
   refused-here : (good : Resolution) → shaped (eventsAt n s (at + 8)) ≡ false → earliest i (eventsAt (e - i) s at) good ≡ offends i
@@ -107,10 +107,10 @@ module _ (s : List ℕ) (at i e n : ℕ) (l : i < e) (q : isOf 0 11 (eventAt s a
   passed-here : (good : Resolution) → shaped (eventsAt n s (at + 8)) ≡ true →
       earliest i (eventsAt (e - i) s at) good ≡ earliest (i + (1 + n)) (eventsAt (e - (i + (1 + n))) s (at + 8 + 8 * n)) good
   passed-here good h =
-      let k : i + 1 + beforeFirst 1 11 (eventsAt (e - i - 1) s (at + 8)) ≡ i + (1 + n) = omega (arith, en) in
+      let k : i + 1 + beforeFirst (isOf 1 11) (eventsAt (e - i - 1) s (at + 8)) ≡ i + (1 + n) = omega (arith, en) in
       ap (λ (es : List Event). earliest i es good) first
       ∙ heading-passed (eventAt s at) (eventsAt (e - i - 1) s (at + 8)) q i good (ap shaped inner ∙ h)
-      ∙ ap (λ (m : ℕ). earliest m (drop (beforeFirst 1 11 (eventsAt (e - i - 1) s (at + 8))) (eventsAt (e - i - 1) s (at + 8))) good) k
+      ∙ ap (λ (m : ℕ). earliest m (drop (beforeFirst (isOf 1 11) (eventsAt (e - i - 1) s (at + 8))) (eventsAt (e - i - 1) s (at + 8))) good) k
       ∙ ap (λ (es : List Event). earliest (i + (1 + n)) es good) behind
 
   resolved-here : resolvedFrom 0 (eventsAt (e - i) s at)
@@ -118,7 +118,7 @@ module _ (s : List ℕ) (at i e n : ℕ) (l : i < e) (q : isOf 0 11 (eventAt s a
   resolved-here =
       ap (λ (es : List Event). resolvedFrom 0 es) first
       ∙ heading-resolved (eventAt s at) (eventsAt (e - i - 1) s (at + 8)) q
-      ∙ ap (λ (es : List Event). eventAt s at ∷ (withText es ++ resolvedFrom 0 (drop (beforeFirst 1 11 (eventsAt (e - i - 1) s (at + 8))) (eventsAt (e - i - 1) s (at + 8))))) inner
+      ∙ ap (λ (es : List Event). eventAt s at ∷ (withText es ++ resolvedFrom 0 (drop (beforeFirst (isOf 1 11) (eventsAt (e - i - 1) s (at + 8))) (eventsAt (e - i - 1) s (at + 8))))) inner
       ∙ ap (λ (es : List Event). eventAt s at ∷ (withText (eventsAt n s (at + 8)) ++ resolvedFrom 0 es)) behind
 
 -- any other event
@@ -165,7 +165,7 @@ module _ {s : List ℕ} {from e at i size : ℕ} (v : Judging s from e at i size
         small = omega (arith, v .small);
       }
 
-  module _ (n : ℕ) (q : isOf 0 11 (eventAt s at) ≡ true) (en : n ≡ beforeFirst 1 11 (eventsAt (e - i - 1) s (at + 8))) (ln : n ≤ e - i - 1) where
+  module _ (n : ℕ) (q : isOf 0 11 (eventAt s at) ≡ true) (en : n ≡ beforeFirst (isOf 1 11) (eventsAt (e - i - 1) s (at + 8))) (ln : n ≤ e - i - 1) where
     pub judging-refused : shaped (eventsAt n s (at + 8)) ≡ false → Offends i ≡ judgedOf (headings (eventsAt e s from))
     unfolding headings
     judging-refused h =
@@ -227,7 +227,7 @@ module _ {s : List ℕ} {from e : ℕ} {out₀ : List ℕ} {to at i : ℕ} {out 
   writing-fits = go (isOf 0 11 (eventAt s at)) refl
     where
       go : (b : Bool) → isOf 0 11 (eventAt s at) ≡ b → next + 8 ≤ to + 8 * length (resolvedFrom 0 (eventsAt e s from))
-      go true q = omega (arith, v .room, ap length (resolved-here s at i e (beforeFirst 1 11 (eventsAt (e - i - 1) s (at + 8))) l q refl (omega (arith, before-le 1 11 (eventsAt (e - i - 1) s (at + 8)), length-eventsAt (e - i - 1) s (at + 8)))))
+      go true q = omega (arith, v .room, ap length (resolved-here s at i e (beforeFirst (isOf 1 11) (eventsAt (e - i - 1) s (at + 8))) l q refl (omega (arith, before-le (isOf 1 11) (eventsAt (e - i - 1) s (at + 8)), length-eventsAt (e - i - 1) s (at + 8)))))
       go false q = omega (arith, v .room, ap length (resolved-other s at i e l q))
 
   pub writing-other : {d₁ : List ℕ} → isOf 0 11 (eventAt s at) ≡ false → Wrote out next (flat (eventsAt 1 s at)) d₁ →
@@ -242,7 +242,7 @@ module _ {s : List ℕ} {from e : ℕ} {out₀ : List ℕ} {to at i : ℕ} {out 
         same = λ d w₂. one-more (resolvedFrom 0 (eventsAt (e - (i + 1)) s (at + 8))) (resolved-other s at i e l q) w w₂;
       }
 
-  module _ (n : ℕ) (q : isOf 0 11 (eventAt s at) ≡ true) (en : n ≡ beforeFirst 1 11 (eventsAt (e - i - 1) s (at + 8))) (ln : n ≤ e - i - 1) where
+  module _ (n : ℕ) (q : isOf 0 11 (eventAt s at) ≡ true) (en : n ≡ beforeFirst (isOf 1 11) (eventsAt (e - i - 1) s (at + 8))) (ln : n ≤ e - i - 1) where
     pub writing-shaped : shaped (eventsAt n s (at + 8)) ≡ true
     writing-shaped =
         let r : List Event = resolvedFrom 0 (eventsAt e s from) in

@@ -106,11 +106,11 @@ below-end us b zs rest deep d last held s =
 
 -- the text of a heading: four events where there were the first Data, the last Data and what lay between
 module _ (xs ms us zs rest : List Event) (a b : Event) (deep d last : ℕ) (held : List ℕ) where
-  round-sound : a .kind ≡ 0 → a .name ≡ 0 → b .kind ≡ 1 → b .name ≡ 0 → leaves (xs ++ (a ∷ ms)) ≡ true → xs ++ (a ∷ ms) ≡ us ++ (b ∷ zs) →
+  round-sound : a .kind ≡ 0 → b .kind ≡ 1 → leaves (xs ++ (a ∷ ms)) ≡ true → xs ++ (a ∷ ms) ≡ us ++ (b ∷ zs) →
       a .place ≤ b .place → soundFrom deep d last held (xs ++ (a ∷ ms) ++ rest) ≡ true → (r : List Event) →
       soundFrom (deep + 1) d (lastPlace last (xs ++ (a ∷ ms))) held r ≡ true →
-      soundFrom (deep + 1) d last held (xs ++ textRound a b ++ zs ++ r) ≡ true
-  round-sound ka na kb nb q e p s r t =
+      soundFrom (deep + 1) d last held (xs ++ textRound (a .place) (b .place) ++ zs ++ r) ≡ true
+  round-sound ka kb q e p s r t =
       let front : leaves xs ≡ true = leaves-front xs a ms q ka in
       let parts = leaves-through us b zs (ap leaves (sym e) ∙ q) kb in
       let s₁ : soundFrom deep d last held (xs ++ (a ∷ (ms ++ rest))) ≡ true = rw (append-assoc xs (a ∷ ms) rest) at s in
@@ -127,12 +127,11 @@ module _ (xs ms us zs rest : List Event) (a b : Event) (deep d last : ℕ) (held
       sound-front zs rest r deep d (b .place) held s₃ (rw (leaves-open zs held (parts .1), pl) t) in
       let room : length held < deep = st .room ka in
       let t₂ = sound-exit (deep + 1) d (b .place) held (exit 13 (b .place)) (zs ++ r) refl (omega arith) bp (omega arith) t₁ in
-      let t₃ = sound-exit (deep + 1) d (a .place) (13 ∷ held) b (exit 13 (b .place) ∷ (zs ++ r)) kb (omega arith) bp p t₂ in
-      let t₄ = sound-enter (deep + 1) d (a .place) (13 ∷ held) a (b ∷ exit 13 (b .place) ∷ (zs ++ r)) ka (omega arith) (st .inside) (omega arith) (omega arith)
-      (ap (λ (n : ℕ). soundFrom (deep + 1) d (a .place) (n ∷ 13 ∷ held) (b ∷ exit 13 (b .place) ∷ (zs ++ r))) (na ∙ sym nb) ∙ t₃) in
-      let t₅ = sound-enter (deep + 1) d (lastPlace last xs) held (enter 13 (a .place)) (a ∷ b ∷ exit 13 (b .place) ∷ (zs ++ r)) refl (omega arith) (st .inside) (st .rising) (omega arith) t₄ in
-      rw (append-assoc (xs ++ textRound a b) zs r, append-assoc xs (textRound a b) (zs ++ r))
-      (sound-front xs (a ∷ (ms ++ rest)) (textRound a b ++ (zs ++ r)) deep d last held s₁ (rw (leaves-open xs held front) t₅))
+      let t₃ = sound-exit (deep + 1) d (a .place) (13 ∷ held) (exit 0 (b .place)) (exit 13 (b .place) ∷ (zs ++ r)) refl (omega arith) bp p t₂ in
+      let t₄ = sound-enter (deep + 1) d (a .place) (13 ∷ held) (enter 0 (a .place)) (exit 0 (b .place) ∷ exit 13 (b .place) ∷ (zs ++ r)) refl (omega arith) (st .inside) (omega arith) (omega arith) t₃ in
+      let t₅ = sound-enter (deep + 1) d (lastPlace last xs) held (enter 13 (a .place)) (enter 0 (a .place) ∷ exit 0 (b .place) ∷ exit 13 (b .place) ∷ (zs ++ r)) refl (omega arith) (st .inside) (st .rising) (omega arith) t₄ in
+      rw (append-assoc (xs ++ textRound (a .place) (b .place)) zs r, append-assoc xs (textRound (a .place) (b .place)) (zs ++ r))
+      (sound-front xs (a ∷ (ms ++ rest)) (textRound (a .place) (b .place) ++ (zs ++ r)) deep d last held s₁ (rw (leaves-open xs held front) t₅))
 
 -- of two inner events the later lies no further in front
 between : (inner rest : List Event) (i j deep d last : ℕ) (held : List ℕ) → i < j → j < length inner → soundFrom deep d last held (inner ++ rest) ≡ true →
@@ -150,28 +149,28 @@ between (e ∷ es) rest (suc i) (suc j) deep d last held l h s =
 text-sound : (inner rest : List Event) (deep d last : ℕ) (held : List ℕ) → leaves inner ≡ true → soundFrom deep d last held (inner ++ rest) ≡ true → (r : List Event) →
     soundFrom (deep + 1) d (lastPlace last inner) held r ≡ true → soundFrom (deep + 1) d last held (withText inner ++ r) ≡ true
 unfolding withText choose
-text-sound inner rest deep d last held q s r t = go (eqb (beforeFirst 0 0 inner) (length inner)) refl
+text-sound inner rest deep d last held q s r t = go (eqb (beforeFirst (isOf 0 0) inner) (length inner)) refl
   where
-    go : (b : Bool) → eqb (beforeFirst 0 0 inner) (length inner) ≡ b → soundFrom (deep + 1) d last held (withText inner ++ r) ≡ true
+    go : (b : Bool) → eqb (beforeFirst (isOf 0 0) inner) (length inner) ≡ b → soundFrom (deep + 1) d last held (withText inner ++ r) ≡ true
     go true e = rw e (sound-front inner rest r deep d last held s (rw (leaves-open inner held q) t))
     go false e =
-        let ne : beforeFirst 0 0 inner ≡ length inner → ⊥ = eqb-false _ _ e in
+        let ne : beforeFirst (isOf 0 0) inner ≡ length inner → ⊥ = eqb-false _ _ e in
         let ends = data-ends inner q ne in
-        let le = through-le 1 0 inner in
-        let a = nth inner (beforeFirst 0 0 inner) in
-        let b = nth inner (throughLast 1 0 inner - 1) in
-        let xs : List Event = take (beforeFirst 0 0 inner) inner in
-        let ms : List Event = drop (suc (beforeFirst 0 0 inner)) inner in
-        let us : List Event = take (throughLast 1 0 inner - 1) inner in
-        let oa = of-is 0 0 a (before-is 0 0 inner (omega arith)) in
-        let ob = of-is 1 0 b (last-is 1 0 inner (omega arith)) in
-        let ea : inner ≡ xs ++ (a ∷ ms) = split-at inner (beforeFirst 0 0 inner) (event 0 0 0) (omega arith) in
-        let k : suc (throughLast 1 0 inner - 1) ≡ throughLast 1 0 inner = omega arith in
-        let eb : inner ≡ us ++ (b ∷ drop (throughLast 1 0 inner) inner) =
-        split-at inner (throughLast 1 0 inner - 1) (event 0 0 0) (omega arith) ∙ ap (λ (m : ℕ). us ++ (b ∷ drop m inner)) k in
-        let p : a .place ≤ b .place = between inner rest (beforeFirst 0 0 inner) (throughLast 1 0 inner - 1) deep d last held (omega arith) (omega arith) s in
+        let le = through-le (isOf 1 0) inner in
+        let a = nth inner (beforeFirst (isOf 0 0) inner) in
+        let b = nth inner (throughLast (isOf 1 0) inner - 1) in
+        let xs : List Event = take (beforeFirst (isOf 0 0) inner) inner in
+        let ms : List Event = drop (suc (beforeFirst (isOf 0 0) inner)) inner in
+        let us : List Event = take (throughLast (isOf 1 0) inner - 1) inner in
+        let oa = of-is 0 0 a (before-is (isOf 0 0) inner (omega arith)) in
+        let ob = of-is 1 0 b (last-is (isOf 1 0) inner (omega arith)) in
+        let ea : inner ≡ xs ++ (a ∷ ms) = split-at inner (beforeFirst (isOf 0 0) inner) (event 0 0 0) (omega arith) in
+        let k : suc (throughLast (isOf 1 0) inner - 1) ≡ throughLast (isOf 1 0) inner = omega arith in
+        let eb : inner ≡ us ++ (b ∷ drop (throughLast (isOf 1 0) inner) inner) =
+        split-at inner (throughLast (isOf 1 0) inner - 1) (event 0 0 0) (omega arith) ∙ ap (λ (m : ℕ). us ++ (b ∷ drop m inner)) k in
+        let p : a .place ≤ b .place = between inner rest (beforeFirst (isOf 0 0) inner) (throughLast (isOf 1 0) inner - 1) deep d last held (omega arith) (omega arith) s in
         rw e
-        (round-sound xs ms us (drop (throughLast 1 0 inner) inner) rest a b deep d last held (oa .0) (oa .1) (ob .0) (ob .1) (ap leaves (sym ea) ∙ q) (sym ea ∙ eb) p
+        (round-sound xs ms us (drop (throughLast (isOf 1 0) inner) inner) rest a b deep d last held (oa .0) (ob .0) (ap leaves (sym ea) ∙ q) (sym ea ∙ eb) p
         (ap (λ (l : List Event). soundFrom deep d last held (l ++ rest)) (sym ea) ∙ s) r (ap (λ (l : List Event). soundFrom (deep + 1) d (lastPlace last l) held r) (sym ea) ∙ t))
 
 at-end : (deep d last : ℕ) (held : List ℕ) → soundFrom deep d last held [] ≡ true → soundFrom (deep + 1) d last held [] ≡ true
@@ -183,9 +182,9 @@ one-front : (e : Event) (es r : List Event) (deep d last : ℕ) (held : List ℕ
 unfolding lastPlace openNames
 one-front e es r deep d last held s t = sound-front (e ∷ []) es r deep d last held s t
 
-inner-drop : (es : List Event) → innerOf es ++ drop (beforeFirst 1 11 es) es ≡ es
+inner-drop : (es : List Event) → innerOf es ++ drop (beforeFirst (isOf 1 11) es) es ≡ es
 unfolding innerOf
-inner-drop es = take-append-drop (beforeFirst 1 11 es) es
+inner-drop es = take-append-drop (beforeFirst (isOf 1 11) es) es
 
 -- the events one by one, a heading's inner events at once; at most m are left
 sounding : (m : ℕ) (es : List Event) (i : ℕ) (rs : List Event) (deep d last : ℕ) (held : List ℕ) → length es ≤ m → soundFrom deep d last held es ≡ true →
@@ -205,7 +204,7 @@ sounding (suc m) (e ∷ es) i rs deep d last held l s q =
         let t = more 0 (i + 1) (e .place) (after e (e .name) held) (omega arith) (sound-rest deep d last held e es s) (sym (other-passed e es z i (gives rs)) ∙ q) in
         ap (soundFrom (deep + 1) d last held) (other-resolved e es z) ∙ one-front e es (resolvedFrom 0 es) deep d last held s t
     go true z more =
-        let n : ℕ = beforeFirst 1 11 es in
+        let n : ℕ = beforeFirst (isOf 1 11) es in
         let sh : shaped (innerOf es) ≡ true = heading-shaped e es z i rs q in
         let lv : leaves (innerOf es) ≡ true = inner-leaves (innerOf es) sh in
         let held′ : List ℕ = after e (e .name) held in

@@ -1,4 +1,4 @@
--- The first and the last event of a kind and name: the invariants of the two loops that look for them, with their ways on and out.
+-- The first and the last event that is such: the invariants of the two loops that look for them, with their ways on and out.
 -- Assumes nothing.
 use mathlib.Core.Path.{_≡_, refl, sym, ap, _∙_}
 use mathlib.Core.Bool.{Bool, true, false}
@@ -13,95 +13,95 @@ use Rattle.record.proofs.Sections.{length-eventsAt}
 use Rattle.heading.specs.Headings.{isOf, beforeFirst, throughLast}
 use Rattle.heading.proofs.Lists.{events-step, events-none, events-last}
 
-pub before-le : (kind name : ℕ) (es : List Event) → beforeFirst kind name es ≤ length es
+pub before-le : (is : Event → Bool) (es : List Event) → beforeFirst is es ≤ length es
 unfolding beforeFirst choose
-before-le kind name [] = omega arith
-before-le kind name (e ∷ es) = go (isOf kind name e) (before-le kind name es)
+before-le is [] = omega arith
+before-le is (e ∷ es) = go (is e) (before-le is es)
   where
-    go : (b : Bool) → beforeFirst kind name es ≤ length es → choose b 0 (suc (beforeFirst kind name es)) ≤ suc (length es)
+    go : (b : Bool) → beforeFirst is es ≤ length es → choose b 0 (suc (beforeFirst is es)) ≤ suc (length es)
     go true h = omega arith
     go false h = omega arith
 
-pub before-here : (kind name : ℕ) (e : Event) (es : List Event) → isOf kind name e ≡ true → beforeFirst kind name (e ∷ es) ≡ 0
+pub before-here : (is : Event → Bool) (e : Event) (es : List Event) → is e ≡ true → beforeFirst is (e ∷ es) ≡ 0
 unfolding beforeFirst choose
-before-here kind name e es q = rw q
+before-here is e es q = rw q
 
-pub before-next : (kind name : ℕ) (e : Event) (es : List Event) → isOf kind name e ≡ false → beforeFirst kind name (e ∷ es) ≡ suc (beforeFirst kind name es)
+pub before-next : (is : Event → Bool) (e : Event) (es : List Event) → is e ≡ false → beforeFirst is (e ∷ es) ≡ suc (beforeFirst is es)
 unfolding beforeFirst choose
-before-next kind name e es q = rw q
+before-next is e es q = rw q
 
--- forward: i events are passed, none of them of the kind and name
-pub record Onward (s : List ℕ) (from n kind name at i : ℕ) : Type 0 where
+-- forward: i events are passed, none of them such
+pub record Onward (s : List ℕ) (from n : ℕ) (is : Event → Bool) (at i : ℕ) : Type 0 where
   pub place : at ≡ from + 8 * i
   pub low : i ≤ n
-  pub rest : i + beforeFirst kind name (eventsAt (n - i) s at) ≡ beforeFirst kind name (eventsAt n s from)
+  pub rest : i + beforeFirst is (eventsAt (n - i) s at) ≡ beforeFirst is (eventsAt n s from)
 
-pub onward-start : (s : List ℕ) (from n kind name : ℕ) → Onward s from n kind name from 0
-onward-start s from n kind name =
+pub onward-start : (s : List ℕ) (from n : ℕ) (is : Event → Bool) → Onward s from n is from 0
+onward-start s from n is =
     let k : n - 0 ≡ n = omega arith in
-    record { place = omega arith; low = omega arith; rest = omega (arith, ap (λ (m : ℕ). beforeFirst kind name (eventsAt m s from)) k) }
+    record { place = omega arith; low = omega arith; rest = omega (arith, ap (λ (m : ℕ). beforeFirst is (eventsAt m s from)) k) }
 
-module _ {s : List ℕ} {from n kind name at i : ℕ} (v : Onward s from n kind name at i) where
-  pub onward-found : i < n → isOf kind name (eventAt s at) ≡ true → (i ≡ beforeFirst kind name (eventsAt n s from)) × (i ≤ n)
+module _ {s : List ℕ} {from n : ℕ} {is : Event → Bool} {at i : ℕ} (v : Onward s from n is at i) where
+  pub onward-found : i < n → is (eventAt s at) ≡ true → (i ≡ beforeFirst is (eventsAt n s from)) × (i ≤ n)
   onward-found h q =
-      let e = ap (beforeFirst kind name) (events-step (n - i) (n - (i + 1)) s at (omega arith)) ∙ before-here kind name _ _ q in
+      let e = ap (beforeFirst is) (events-step (n - i) (n - (i + 1)) s at (omega arith)) ∙ before-here is _ _ q in
       (omega (arith, v .rest, e), v .low)
 
-  pub onward-turn : i < n → isOf kind name (eventAt s at) ≡ false → Onward s from n kind name (at + 8) (i + 1)
+  pub onward-turn : i < n → is (eventAt s at) ≡ false → Onward s from n is (at + 8) (i + 1)
   onward-turn h q =
-      let e = ap (beforeFirst kind name) (events-step (n - i) (n - (i + 1)) s at (omega arith)) ∙ before-next kind name _ _ q in
+      let e = ap (beforeFirst is) (events-step (n - i) (n - (i + 1)) s at (omega arith)) ∙ before-next is _ _ q in
       record { place = omega (arith, v .place); low = omega arith; rest = omega (arith, v .rest, e) }
 
-  pub onward-none : n ≤ i → (i ≡ beforeFirst kind name (eventsAt n s from)) × (i ≤ n)
+  pub onward-none : n ≤ i → (i ≡ beforeFirst is (eventsAt n s from)) × (i ≤ n)
   unfolding beforeFirst
   onward-none h =
-      let e : beforeFirst kind name (eventsAt (n - i) s at) ≡ 0 = ap (beforeFirst kind name) (events-none (n - i) s at (omega arith)) in
+      let e : beforeFirst is (eventsAt (n - i) s at) ≡ 0 = ap (beforeFirst is) (events-none (n - i) s at (omega arith)) in
       (omega (arith, v .rest, e), v .low)
 
--- backward: the events after the first `left` are passed, none of them of the kind and name
-pub through-last : (kind name : ℕ) (es : List Event) (e : Event) → throughLast kind name (es ++ (e ∷ [])) ≡ choose (isOf kind name e) (suc (length es)) (throughLast kind name es)
+-- backward: the events after the first `left` are passed, none of them such
+pub through-last : (is : Event → Bool) (es : List Event) (e : Event) → throughLast is (es ++ (e ∷ [])) ≡ choose (is e) (suc (length es)) (throughLast is es)
 unfolding throughLast beforeFirst choose
-through-last kind name es e =
-    ap (λ (l : List Event). length (es ++ (e ∷ [])) - beforeFirst kind name l) (reverse-append es (e ∷ []))
-    ∙ go (isOf kind name e)
+through-last is es e =
+    ap (λ (l : List Event). length (es ++ (e ∷ [])) - beforeFirst is l) (reverse-append es (e ∷ []))
+    ∙ go (is e)
   where
-    go : (b : Bool) → length (es ++ (e ∷ [])) - choose b 0 (suc (beforeFirst kind name (reverse es))) ≡ choose b (suc (length es)) (length es - beforeFirst kind name (reverse es))
+    go : (b : Bool) → length (es ++ (e ∷ [])) - choose b 0 (suc (beforeFirst is (reverse es))) ≡ choose b (suc (length es)) (length es - beforeFirst is (reverse es))
     go true = omega (arith, length-append es (e ∷ []))
     go false = omega (arith, length-append es (e ∷ []))
 
-pub record Backward (s : List ℕ) (from n kind name end left : ℕ) : Type 0 where
+pub record Backward (s : List ℕ) (from n : ℕ) (is : Event → Bool) (end left : ℕ) : Type 0 where
   pub place : end ≡ from + 8 * left
   pub low : left ≤ n
-  pub rest : throughLast kind name (eventsAt left s from) ≡ throughLast kind name (eventsAt n s from)
+  pub rest : throughLast is (eventsAt left s from) ≡ throughLast is (eventsAt n s from)
 
-pub backward-start : (s : List ℕ) (from n kind name : ℕ) → Backward s from n kind name (from + 8 * n) n
-backward-start s from n kind name = record { place = refl; low = omega arith; rest = refl }
+pub backward-start : (s : List ℕ) (from n : ℕ) (is : Event → Bool) → Backward s from n is (from + 8 * n) n
+backward-start s from n is = record { place = refl; low = omega arith; rest = refl }
 
-module _ {s : List ℕ} {from n kind name end left : ℕ} (v : Backward s from n kind name end left) where
-  last-one : 0 < left → throughLast kind name (eventsAt left s from) ≡ choose (isOf kind name (eventAt s (end - 8))) left (throughLast kind name (eventsAt (left - 1) s from))
+module _ {s : List ℕ} {from n : ℕ} {is : Event → Bool} {end left : ℕ} (v : Backward s from n is end left) where
+  last-one : 0 < left → throughLast is (eventsAt left s from) ≡ choose (is (eventAt s (end - 8))) left (throughLast is (eventsAt (left - 1) s from))
   last-one h =
       let e : from + 8 * (left - 1) ≡ end - 8 = omega (arith, v .place) in
       let k : suc (length (eventsAt (left - 1) s from)) ≡ left = omega (arith, length-eventsAt (left - 1) s from) in
-      ap (throughLast kind name) (events-last left (left - 1) s from (omega arith))
-      ∙ through-last kind name (eventsAt (left - 1) s from) (eventAt s (from + 8 * (left - 1)))
-      ∙ ap (λ (m : ℕ). choose (isOf kind name (eventAt s m)) (suc (length (eventsAt (left - 1) s from))) (throughLast kind name (eventsAt (left - 1) s from))) e
-      ∙ ap (λ (m : ℕ). choose (isOf kind name (eventAt s (end - 8))) m (throughLast kind name (eventsAt (left - 1) s from))) k
+      ap (throughLast is) (events-last left (left - 1) s from (omega arith))
+      ∙ through-last is (eventsAt (left - 1) s from) (eventAt s (from + 8 * (left - 1)))
+      ∙ ap (λ (m : ℕ). choose (is (eventAt s m)) (suc (length (eventsAt (left - 1) s from))) (throughLast is (eventsAt (left - 1) s from))) e
+      ∙ ap (λ (m : ℕ). choose (is (eventAt s (end - 8))) m (throughLast is (eventsAt (left - 1) s from))) k
 
-  pub backward-found : 0 < left → isOf kind name (eventAt s (end - 8)) ≡ true → (left ≡ throughLast kind name (eventsAt n s from)) × (left ≤ n)
+  pub backward-found : 0 < left → is (eventAt s (end - 8)) ≡ true → (left ≡ throughLast is (eventsAt n s from)) × (left ≤ n)
   unfolding choose
   backward-found h q =
-      let e : throughLast kind name (eventsAt left s from) ≡ left = last-one h ∙ rw q in
+      let e : throughLast is (eventsAt left s from) ≡ left = last-one h ∙ rw q in
       (sym e ∙ v .rest, v .low)
 
-  pub backward-turn : 0 < left → isOf kind name (eventAt s (end - 8)) ≡ false → Backward s from n kind name (end - 8) (left - 1)
+  pub backward-turn : 0 < left → is (eventAt s (end - 8)) ≡ false → Backward s from n is (end - 8) (left - 1)
   unfolding choose
   backward-turn h q =
-      let e : throughLast kind name (eventsAt left s from) ≡ throughLast kind name (eventsAt (left - 1) s from) = last-one h ∙ rw q in
+      let e : throughLast is (eventsAt left s from) ≡ throughLast is (eventsAt (left - 1) s from) = last-one h ∙ rw q in
       record { place = omega (arith, v .place); low = omega arith; rest = sym e ∙ v .rest }
 
-  pub backward-none : left ≤ 0 → (left ≡ throughLast kind name (eventsAt n s from)) × (left ≤ n)
+  pub backward-none : left ≤ 0 → (left ≡ throughLast is (eventsAt n s from)) × (left ≤ n)
   unfolding throughLast beforeFirst
   backward-none h =
       let z : left ≡ 0 = omega arith in
-      let e : throughLast kind name (eventsAt left s from) ≡ 0 = ap (throughLast kind name) (events-none left s from z) in
+      let e : throughLast is (eventsAt left s from) ≡ 0 = ap (throughLast is) (events-none left s from z) in
       (z ∙ sym e ∙ v .rest, v .low)

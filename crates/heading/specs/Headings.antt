@@ -16,18 +16,18 @@ use Rattle.record.specs.declared.event.Event.{Event}
 unfoldable pub isOf : ℕ → ℕ → Event → Bool
 isOf kind name e = and (eqb (e .kind) kind) (eqb (e .name) name)
 
--- how many events stand before the first of a kind and name; all, where there is none
-unfoldable pub beforeFirst : ℕ → ℕ → List Event → ℕ
-beforeFirst kind name [] = 0
-beforeFirst kind name (e ∷ es) = choose (isOf kind name e) 0 (suc (beforeFirst kind name es))
+-- how many events stand before the first that is such; all, where there is none
+unfoldable pub beforeFirst : (Event → Bool) → List Event → ℕ
+beforeFirst is [] = 0
+beforeFirst is (e ∷ es) = choose (is e) 0 (suc (beforeFirst is es))
 
--- how many stand up to the last of a kind and name, it included; none, where there is none
-unfoldable pub throughLast : ℕ → ℕ → List Event → ℕ
-throughLast kind name es = length es - beforeFirst kind name (reverse es)
+-- how many stand up to the last that is such, it included; none, where there is none
+unfoldable pub throughLast : (Event → Bool) → List Event → ℕ
+throughLast is es = length es - beforeFirst is (reverse es)
 
 -- a heading's inner events, of the events after its enter: those before its exit
 unfoldable pub innerOf : List Event → List Event
-innerOf es = take (beforeFirst 1 11 es) es
+innerOf es = take (beforeFirst (isOf 1 11) es) es
 
 -- "leaf pairs of 0, 12, 14": an enter of one of these names, and at once its exit
 unfoldable pub leaf : Event → Event → Bool
@@ -54,9 +54,9 @@ headed es = choose (startsWith 14 es) (startsWith 12 (drop 2 es)) (startsWith 12
 unfoldable pub shaped : List Event → Bool
 shaped inner = and (headed inner) (leaves inner)
 
--- "Text (13) goes round the first Data's enter and the last Data's exit"
-abbrev pub textRound : Event → Event → List Event
-textRound first last = enter 13 (first .place) ∷ first ∷ last ∷ exit 13 (last .place) ∷ []
+-- "Text (13) goes round the first Data's enter and the last Data's exit": a text from one place to another, with one Data pair in it
+abbrev pub textRound : ℕ → ℕ → List Event
+textRound from to = enter 13 from ∷ enter 0 from ∷ exit 0 to ∷ exit 13 to ∷ []
 
 -- "all events between these two go. No Data: unchanged." The text rule, of a heading's inner events.
 -- CommonMark 0.31 §4.2 has only the closing sequence go: "The optional closing sequence of #s must be preceded by spaces or tabs and may be
@@ -64,18 +64,18 @@ textRound first last = enter 13 (first .place) ∷ first ∷ last ∷ exit 13 (l
 -- there is no Data, there is none. `standardText` in specs/Standard.antt is the standard's.
 unfoldable pub withText : List Event → List Event
 withText inner =
-    choose (eqb (beforeFirst 0 0 inner) (length inner))
+    choose (eqb (beforeFirst (isOf 0 0) inner) (length inner))
     inner
-    (take (beforeFirst 0 0 inner) inner
-    ++ textRound (nth inner (beforeFirst 0 0 inner)) (nth inner (throughLast 1 0 inner - 1))
-    ++ drop (throughLast 1 0 inner) inner)
+    (take (beforeFirst (isOf 0 0) inner) inner
+    ++ textRound (nth inner (beforeFirst (isOf 0 0) inner) .place) (nth inner (throughLast (isOf 1 0) inner - 1) .place)
+    ++ drop (throughLast (isOf 1 0) inner) inner)
 
 -- the events of the result: each heading's inner events get their text, all others stay; the first k events are inner events that have got it
 unfoldable pub resolvedFrom : ℕ → List Event → List Event
 resolvedFrom k [] = []
 resolvedFrom zero (e ∷ es) =
     choose (isOf 0 11 e)
-    (e ∷ withText (innerOf es) ++ resolvedFrom (beforeFirst 1 11 es) es)
+    (e ∷ withText (innerOf es) ++ resolvedFrom (beforeFirst (isOf 1 11) es) es)
     (e ∷ resolvedFrom 0 es)
 resolvedFrom (suc k) (e ∷ es) = resolvedFrom k es
 

@@ -9,7 +9,7 @@ use Rattle.heading.specs.Headings.{isOf, beforeFirst}
 -- the first k of these events are inner ones
 unfoldable pub outsideFrom : ℕ → List Event → List Event
 outsideFrom k [] = []
-outsideFrom zero (e ∷ es) = e ∷ outsideFrom (choose (isOf 0 11 e) (beforeFirst 1 11 es) 0) es
+outsideFrom zero (e ∷ es) = e ∷ outsideFrom (choose (isOf 0 11 e) (beforeFirst (isOf 1 11) es) 0) es
 outsideFrom (suc k) (e ∷ es) = outsideFrom k es
 
 abbrev pub outside : List Event → List Event

@@ -6,14 +6,14 @@ use mathlib.Core.List.{List}
 use lib.ListN.{length}
 use Rattle.record.specs.Outcome.{Resolution, offends, gives}
 use Rattle.record.specs.declared.event.Event.{Event}
-use Rattle.heading.specs.Headings.{beforeFirst, throughLast}
+use Rattle.heading.specs.Headings.{isOf, beforeFirst, throughLast}
 use Rattle.heading.specs.declared.judge.Judged.{Judged}
 use Rattle.heading.specs.declared.judge.Judged.the-variants.{Offends, Sized}
 
 -- a heading's text: how many of its n inner events stand before it, and how many up to its end
 pub record Ends (inner : List Event) (n before through : ℕ) : Type 0 where
-  pub first : before ≡ beforeFirst 0 0 inner
-  pub last : through ≡ throughLast 1 0 inner
+  pub first : before ≡ beforeFirst (isOf 0 0) inner
+  pub last : through ≡ throughLast (isOf 1 0) inner
   pub front : before ≤ n
   pub whole : through ≤ n
 

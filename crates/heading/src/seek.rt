@@ -20,7 +20,7 @@ pub fn is_of(s: &[u8], at: usize, kind: u8, name: u8) -> bool
 // How many events stand before the first of a kind and name.
 pub fn before_first(s: &[u8], from: usize, n: usize, kind: u8, name: u8) -> usize
     requires { ⌜ from + 8 * n ≤ length (now s) ⌝ }
-    ensures { λ r. ⌜ (r ≡ beforeFirst kind name (eventsAt n (now (s .entry)) from)) × (r ≤ n) ⌝ }
+    ensures { λ r. ⌜ (r ≡ beforeFirst (isOf kind name) (eventsAt n (now (s .entry)) from)) × (r ≤ n) ⌝ }
 {
     let mut at = from;
     let mut i = 0;
@@ -37,7 +37,7 @@ pub fn before_first(s: &[u8], from: usize, n: usize, kind: u8, name: u8) -> usiz
 // How many events stand up to the last of a kind and name, it included.
 pub fn through_last(s: &[u8], from: usize, n: usize, kind: u8, name: u8) -> usize
     requires { ⌜ from + 8 * n ≤ length (now s) ⌝ }
-    ensures { λ r. ⌜ (r ≡ throughLast kind name (eventsAt n (now (s .entry)) from)) × (r ≤ n) ⌝ }
+    ensures { λ r. ⌜ (r ≡ throughLast (isOf kind name) (eventsAt n (now (s .entry)) from)) × (r ≤ n) ⌝ }
 {
     let mut end = from + 8 * n;
     let mut left = n;

@@ -48,19 +48,17 @@ pub fn text_size(s: &[u8], from: usize, n: usize) -> usize
     before + 4 + (n - text.through)
 }
 
-// Writes a text's four events, round the events of a record that stand at `first` and `last`.
-pub fn put_round(out: &mut [u8], to: usize, s: &[u8], first: usize, last: usize)
-    requires { ⌜ (to + 32 ≤ length (now out)) × (first + 8 ≤ length (now s)) × (last + 8 ≤ length (now s)) ⌝ }
-    ensures { λ _. ⌜ Wrote (now (out .entry)) to (flat (textRound (eventAt (now (s .entry)) first) (eventAt (now (s .entry)) last))) (now (out .exit)) ⌝ }
+// Writes a text's four events, from one place of the document to another.
+pub fn put_round(out: &mut [u8], to: usize, from: usize, end: usize)
+    requires { ⌜ to + 32 ≤ length (now out) ⌝ }
+    ensures { λ _. ⌜ Wrote (now (out .entry)) to (flat (textRound from end)) (now (out .exit)) ⌝ }
 {
-    let from = u32_at(s, first + 4);
-    let end = u32_at(s, last + 4);
     let inside = to + 8;
     let behind = inside + 8;
     let after = behind + 8;
     put_event(out, to, ENTER, HEADING_TEXT, from);
-    put_event(out, inside, s[first], s[first + 1], from);
-    put_event(out, behind, s[last], s[last + 1], end);
+    put_event(out, inside, ENTER, DATA, from);
+    put_event(out, behind, EXIT, DATA, end);
     put_event(out, after, EXIT, HEADING_TEXT, end);
 }
 
@@ -80,8 +78,10 @@ pub fn put_inner(out: &mut [u8], to: usize, s: &[u8], from: usize, n: usize) -> 
     let text = to + 8 * before;
     let after = text + 32;
     let behind = n - through;
+    let first = u32_at(s, from + 8 * before + 4);
+    let last = u32_at(s, end - 4);
     copy_events(out, to, s, from, before);
-    put_round(out, text, s, from + 8 * before, end - 8);
+    put_round(out, text, first, last);
     copy_events(out, after, s, end, behind);
     after + 8 * behind
 }

@@ -3,19 +3,20 @@
 -- Assumes nothing.
 use Prim.Native.Nat.{_-_}
 use mathlib.Core.Path.{sym, _∙_}
+use Rattle.heading.specs.Headings.{isOf}
 use Rattle.heading.proofs.Seeking.{Onward, onward-start, onward-found, onward-turn, onward-none}
 use borrow.Author.Needs.{needs}
 use Rattle.heading.proofs.seek.before_first.Statement.{statement}
 use Rattle.heading.proofs.seek.before_first.Tie as tie
 
 abbrev Inv-loop : tie.InvT-loop
-Inv-loop s from n kind name at₀ i₀ at i = Onward s from n kind name at i
+Inv-loop s from n kind name at₀ i₀ at i = Onward s from n (isOf kind name) at i
 
 abbrev μ-loop : tie.MeasureT-loop
 μ-loop s from n kind name at₀ i₀ at i = n - i
 
 loop-holds : tie.Need-loop-holds Inv-loop μ-loop
-loop-holds c = onward-start _ _ _ _ _
+loop-holds c = onward-start _ _ _ _
 
 is-of-requires : tie.Need-is-of-requires Inv-loop μ-loop
 is-of-requires c κs = search needs

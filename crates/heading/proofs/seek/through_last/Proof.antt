@@ -2,13 +2,14 @@
 -- number.
 -- Assumes nothing.
 use mathlib.Core.Path.{sym, _∙_}
+use Rattle.heading.specs.Headings.{isOf}
 use Rattle.heading.proofs.Seeking.{Backward, backward-start, backward-found, backward-turn, backward-none}
 use borrow.Author.Needs.{needs}
 use Rattle.heading.proofs.seek.through_last.Statement.{statement}
 use Rattle.heading.proofs.seek.through_last.Tie as tie
 
 abbrev Inv-loop : tie.InvT-loop
-Inv-loop s from n kind name end₀ left₀ end left = Backward s from n kind name end left
+Inv-loop s from n kind name end₀ left₀ end left = Backward s from n (isOf kind name) end left
 
 abbrev μ-loop : tie.MeasureT-loop
 μ-loop s from n kind name end₀ left₀ end left = left
@@ -20,7 +21,7 @@ add-end : tie.Need-add-end Inv-loop μ-loop
 add-end c = search needs
 
 loop-holds : tie.Need-loop-holds Inv-loop μ-loop
-loop-holds c = backward-start _ _ _ _ _
+loop-holds c = backward-start _ _ _ _
 
 sub-is-of : tie.Need-sub-is-of Inv-loop μ-loop
 sub-is-of c = search needs

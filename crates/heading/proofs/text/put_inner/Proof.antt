@@ -3,7 +3,7 @@
 -- Assumes nothing.
 use mathlib.Core.Path.{sym, _∙_}
 use native.Mathlib.Omega.{arith}
-use Rattle.heading.proofs.Texts.{found, unchanged, length-unchanged, written}
+use Rattle.heading.proofs.Texts.{found, unchanged, length-unchanged, placed, written}
 use borrow.Author.Needs.{needs}
 use Rattle.heading.proofs.text.put_inner.Statement.{statement}
 use Rattle.heading.proofs.text.put_inner.Tie as tie
@@ -44,35 +44,44 @@ add-after c = let f = found _ _ _ _ _ (c .before .text-of .ensures) (c .if1 .lef
 sub-behind : tie.Need-sub-behind
 sub-behind c = search needs
 
+mul-u32-at : tie.Need-mul-u32-at
+mul-u32-at c = search needs
+
+add-u32-at : tie.Need-add-u32-at
+add-u32-at c = search needs
+
+add-u32-at-2 : tie.Need-add-u32-at-2
+add-u32-at-2 c = search needs
+
+u32-at-requires : tie.Need-u32-at-requires
+u32-at-requires c κs = search needs
+
+sub-u32-at : tie.Need-sub-u32-at
+sub-u32-at c = let f = found _ _ _ _ _ (c .before .before .text-of .ensures) (c .before .if1 .left) (c .before .before .before .before .before .pre .2) in search needs
+
+u32-at-requires-2 : tie.Need-u32-at-requires-2
+u32-at-requires-2 c κs = search needs
+
 copy-events-requires-2 : tie.Need-copy-events-requires-2
-copy-events-requires-2 c κs = let f = found _ _ _ _ _ (c .before .before .text-of .ensures) (c .before .if1 .left) (c .before .before .before .before .before .pre .2) in search needs
-
-mul-put-round : tie.Need-mul-put-round
-mul-put-round c = search needs
-
-add-put-round : tie.Need-add-put-round
-add-put-round c = search needs
-
-sub-put-round : tie.Need-sub-put-round
-sub-put-round c = let f = found _ _ _ _ _ (c .before .before .before .before .before .before .text-of .ensures) (c .before .before .before .before .before .if1 .left) (c .before .before .before .before .before .before .before .before .before .pre .2) in search needs
+copy-events-requires-2 c κs = let f = found _ _ _ _ _ (c .before .before .before .before .text-of .ensures) (c .before .before .before .if1 .left) (c .before .before .before .before .before .before .before .pre .2) in search needs
 
 put-round-requires : tie.Need-put-round-requires
-put-round-requires c κs = let f = found _ _ _ _ _ (c .before .before .before .before .before .before .text-of .ensures) (c .before .before .before .before .before .if1 .left) (c .before .before .before .before .before .before .before .before .before .pre .2) in search needs
+put-round-requires c κs = let f = found _ _ _ _ _ (c .before .before .before .before .before .before .before .before .text-of .ensures) (c .before .before .before .before .before .before .before .if1 .left) (c .before .before .before .before .before .before .before .before .before .before .before .pre .2) in search needs
 
 copy-events-requires-3 : tie.Need-copy-events-requires-3
-copy-events-requires-3 c κs = let f = found _ _ _ _ _ (c .before .before .before .before .before .before .before .before .before .before .text-of .ensures) (c .before .before .before .before .before .before .before .before .before .if1 .left) (c .before .before .before .before .before .before .before .before .before .before .before .before .before .pre .2) in search needs
+copy-events-requires-3 c κs = let f = found _ _ _ _ _ (c .before .before .before .before .before .before .before .before .before .before .before .before .text-of .ensures) (c .before .before .before .before .before .before .before .before .before .before .before .if1 .left) (c .before .before .before .before .before .before .before .before .before .before .before .before .before .before .before .pre .2) in search needs
 
 mul-result-2 : tie.Need-mul-result-2
 mul-result-2 c = search needs
 
 add-result-2 : tie.Need-add-result-2
-add-result-2 c = let f = found _ _ _ _ _ (c .before .before .before .before .before .before .before .before .before .before .before .before .before .text-of .ensures) (c .before .before .before .before .before .before .before .before .before .before .before .before .if1 .left) (c .before .before .before .before .before .before .before .before .before .before .before .before .before .before .before .before .pre .2) in search needs
+add-result-2 c = let f = found _ _ _ _ _ (c .before .before .before .before .before .before .before .before .before .before .before .before .before .before .before .text-of .ensures) (c .before .before .before .before .before .before .before .before .before .before .before .before .before .before .if1 .left) (c .before .before .before .before .before .before .before .before .before .before .before .before .before .before .before .before .before .before .pre .2) in search needs
 
 same-length-2 : tie.Need-same-length-2
 same-length-2 c = search needs
 
 returns-2 : tie.Need-returns-2
-returns-2 c = let f = found _ _ _ _ _ (c .before .before .before .before .before .before .before .before .before .before .before .before .before .text-of .ensures) (c .before .before .before .before .before .before .before .before .before .before .before .before .if1 .left) (c .before .before .before .before .before .before .before .before .before .before .before .before .before .before .before .before .pre .2) in (written _ _ _ _ _ (c .before .before .before .before .before .before .before .before .before .before .before .before .before .text-of .ensures) (c .before .before .before .before .before .before .before .before .before .before .before .before .if1 .left) _ (f .some) (c .before .before .before .before .before .before .before .before .before .before .copy-events2 .ensures) (c .before .before .before .before .before .before .put-round .ensures) (c .before .before .copy-events3 .ensures), omega arith)
+returns-2 c = let f = found _ _ _ _ _ (c .before .before .before .before .before .before .before .before .before .before .before .before .before .before .before .text-of .ensures) (c .before .before .before .before .before .before .before .before .before .before .before .before .before .before .if1 .left) (c .before .before .before .before .before .before .before .before .before .before .before .before .before .before .before .before .before .before .pre .2) in (written _ _ _ _ _ (c .before .before .before .before .before .before .before .before .before .before .before .before .before .before .before .text-of .ensures) (c .before .before .before .before .before .before .before .before .before .before .before .before .before .before .if1 .left) _ (f .some) (c .before .before .before .before .before .before .before .before .before .before .copy-events2 .ensures) (placed (c .before .before .before .before .before .before .before .before .before .before .before .before .before .u32-at .ensures .0) (c .before .before .before .before .before .before .before .before .before .before .before .before .u32-at2 .ensures .0) (c .before .before .before .before .before .before .put-round .ensures)) (c .before .before .copy-events3 .ensures), omega arith)
 
 pub put-inner-spec : {M : Type 1} → statement M
 put-inner-spec =
@@ -90,10 +99,13 @@ put-inner-spec =
     add-text
     add-after
     sub-behind
+    mul-u32-at
+    add-u32-at
+    add-u32-at-2
+    u32-at-requires
+    sub-u32-at
+    u32-at-requires-2
     copy-events-requires-2
-    mul-put-round
-    add-put-round
-    sub-put-round
     put-round-requires
     copy-events-requires-3
     mul-result-2
