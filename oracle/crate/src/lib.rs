@@ -7,6 +7,7 @@
 //! - [`Prepared`]: the same with everything but the resolver itself done beforehand, for timing.
 //! - [`space_or_tab`], [`list_item`], [`continuation`], [`heading`]: one line fed to the crate's own states.
 //! - [`watch_document`], [`watch_text`]: Markdown parsed by the crate, with what its three resolvers were given and left.
+//! - [`inline_html`]: a text turned into HTML, for the examples of the standard.
 //!
 //! Events are those of a record: kind, one of the names 0 to 24, and a place. Line, column and links are the crate's own and dropped.
 //! Options are the sum that a record's calls take; every other construct of the crate that is on in its GFM setting is on.
@@ -17,6 +18,7 @@ extern crate alloc;
 extern crate self as unicode_id;
 
 include!(concat!(env!("OUT_DIR"), "/modules.rs"));
+mod html;
 mod readers;
 mod record;
 mod resolve;
@@ -29,6 +31,7 @@ pub(crate) use unicode_id_source::UnicodeID;
 pub(crate) use util::line_ending::LineEnding;
 pub(crate) use util::mdx::{ExpressionKind as MdxExpressionKind, ExpressionParse as MdxExpressionParse, Signal as MdxSignal};
 
+pub use html::inline_html;
 pub use readers::{continuation, heading, list_item, space_or_tab, Going, Item};
 pub use record::{read_section, write_record, write_section, Event, Settings};
 pub use resolvers::{resolve, with_prepared, Prepared, Resolver};
@@ -80,6 +83,13 @@ mod tests {
         assert_eq!(continuation(b"", &settings, 2, true), Going { taken: None, blank: true });
         assert_eq!(heading(b"#######", &settings), None);
         assert_eq!(heading(b"#", &settings).map(|events| events.len()), Some(4));
+    }
+
+    #[test]
+    fn texts_are_rendered() {
+        for (text, html) in [("a *b*", "a <em>b</em>"), ("# \\#", "# #"), ("*a*", "<em>a</em>"), ("- a", "- a"), ("<b>", "<b>"), ("&lt;", "&lt;")] {
+            assert_eq!(inline_html(text).as_deref(), Some(html));
+        }
     }
 
     #[test]

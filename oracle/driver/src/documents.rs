@@ -3,6 +3,7 @@
 
 use std::fs;
 use std::path::{Path, PathBuf};
+use std::str::Chars;
 
 use crate::chance::Chance;
 
@@ -19,20 +20,52 @@ fn gather(at: &Path, depth: usize, files: &mut Vec<PathBuf>) {
     }
 }
 
-/// Whether a file has the examples of CommonMark, by the name under which they are passed on.
+/// Whether a file has the examples of CommonMark, by the names under which they are passed on: with the standard's version or without it.
 fn is_examples(path: &Path) -> bool {
-    path.file_name().is_some_and(|name| name == "spec.json")
+    let name = path.file_name().and_then(|name| name.to_str()).unwrap_or_default();
+    name == "spec.json" || name.starts_with("spec-") && name.ends_with(".json")
 }
 
-/// The Markdown of each example: the strings of the fields `markdown`.
-fn examples(json: &str) -> Vec<String> {
-    json.split("\"markdown\":").skip(1).filter_map(|rest| string(rest.trim_start().strip_prefix('"')?)).collect()
+/// One of the standard's examples, as it stands.
+#[derive(Default)]
+pub struct Example {
+    pub section: String,
+    pub markdown: String,
+    pub html: String,
 }
 
-/// A string of JSON, from behind its first quote.
-fn string(json: &str) -> Option<String> {
-    let mut out = String::new();
+/// The objects of a file that have a field `markdown`.
+fn examples(json: &str) -> Vec<Example> {
+    let mut found = vec![];
+    let mut example = Example::default();
+    let (mut field, mut text) = (String::new(), String::new());
     let mut letters = json.chars();
+    while let Some(letter) = letters.next() {
+        match letter {
+            '"' => text = string(&mut letters).unwrap_or_default(),
+            ':' => field = std::mem::take(&mut text),
+            ',' | '}' => {
+                let text = std::mem::take(&mut text);
+                match std::mem::take(&mut field).as_str() {
+                    "section" => example.section = text,
+                    "markdown" => example.markdown = text,
+                    "html" => example.html = text,
+                    _ => (),
+                }
+                if letter == '}' {
+                    found.push(std::mem::take(&mut example));
+                }
+            }
+            _ => (),
+        }
+    }
+    found.retain(|example| !example.markdown.is_empty());
+    found
+}
+
+/// A string of JSON, from behind its first quote to behind its last.
+fn string(letters: &mut Chars) -> Option<String> {
+    let mut out = String::new();
     loop {
         match letters.next()? {
             '"' => return Some(out),
@@ -87,29 +120,39 @@ fn cut(text: &[u8], most: usize, pieces: &mut Vec<Vec<u8>>) {
     pieces.push(piece);
 }
 
-/// The Markdown files under some directories, in pieces that fit a record, each once.
-pub fn found(directories: &[String]) -> (usize, Vec<Vec<u8>>) {
+/// What lies under some directories.
+#[derive(Default)]
+pub struct Found {
+    pub files: usize,
+    /// The Markdown of all files, in pieces that fit a record, each once.
+    pub pieces: Vec<Vec<u8>>,
+    pub examples: Vec<Example>,
+}
+
+/// The Markdown files under some directories, and the standard's examples.
+pub fn found(directories: &[String]) -> Found {
     let mut files = vec![];
     for directory in directories {
         gather(Path::new(directory), 12, &mut files);
     }
     files.sort();
-    let mut pieces = vec![];
+    let mut found = Found { files: files.len(), ..Found::default() };
     for file in &files {
         let Ok(bytes) = fs::read(file) else { continue };
         let text = String::from_utf8_lossy(&bytes);
         if is_examples(file) {
-            pieces.extend(examples(&text).iter().map(|example| tamed(example)));
+            found.examples.append(&mut examples(&text));
             continue;
         }
         let text = tamed(&text);
         for most in [400, 2_500, 8_000] {
-            cut(&text, most, &mut pieces);
+            cut(&text, most, &mut found.pieces);
         }
     }
-    pieces.sort();
-    pieces.dedup();
-    (files.len(), pieces)
+    found.pieces.extend(found.examples.iter().map(|example| tamed(&example.markdown)));
+    found.pieces.sort();
+    found.pieces.dedup();
+    found
 }
 
 #[rustfmt::skip]

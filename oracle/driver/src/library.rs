@@ -107,3 +107,13 @@ pub fn answer(question: &Question, output: usize, work: usize, lent: &mut Lent) 
     }
     Ok(Answer { numbers, section: lent.output[..length].to_vec() })
 }
+
+/// What the library makes of a line for its own resolver, if it reads a heading there: the line with the section that it writes, as a record.
+pub fn heading_record(line: &[u8], options: u32, lent: &mut Lent) -> Result<Option<Question>, &'static str> {
+    let read = answer(&Question { call: Call::Heading, input: line.to_vec(), options, arguments: [0; 3] }, OUTPUT, WORK, lent)?;
+    if read.section.is_empty() {
+        return Ok(None);
+    }
+    let input = [&(line.len() as u32).to_le_bytes(), line, &read.section].concat();
+    Ok(Some(Question { call: Call::Headings, input, options, arguments: [0; 3] }))
+}

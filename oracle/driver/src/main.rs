@@ -1,7 +1,9 @@
-//! Holds the static library against the crate markdown 1.0.0, and both against document 01 in plain Rust.
+//! Holds the static library against the crate markdown 1.0.0, both against document 01 in plain Rust, and the library's headings against the
+//! standard's examples.
 //!
-//! `oracle/run` builds and runs it. Arguments: `--markdown DIR` (as often as wanted) adds Markdown files, `--scale N` divides the counts by N for a
-//! short run, `--differences FILE` names the list of known ones, `--store FILE` writes the stored list of the crate's answers and does nothing else. Status 1 if anything differs that is not listed.
+//! `oracle/run` builds and runs it. Arguments: `--markdown DIR` (as often as wanted) adds Markdown files and the standard's examples, `--scale N`
+//! divides the counts by N for a short run, `--differences FILE` names the list of known ones, `--store FILE` writes the stored list of the crate's
+//! answers and does nothing else. Status 1 if anything differs that is not listed.
 
 mod answer;
 mod chance;
@@ -14,6 +16,7 @@ mod library;
 mod lines;
 mod paper;
 mod records;
+mod standard;
 mod store;
 mod tally;
 
@@ -25,6 +28,7 @@ use std::time::{Duration, Instant};
 use answer::{Call, Question};
 use chance::Chance;
 use compare::{Bench, Markdown, BACK, BEHIND, CROSSED, FALLING, PANIC, UNPAIRED};
+use documents::Found;
 use lines::Strings;
 use tally::{Source, Tally};
 
@@ -208,8 +212,8 @@ fn random(run: &mut Run) {
     }
 }
 
-fn captured(run: &mut Run, directories: &[String]) {
-    let (files, pieces) = documents::found(directories);
+fn captured(run: &mut Run, found: &Found) {
+    let Found { files, pieces, .. } = found;
     // So few that a short run has the time for all, as the examples of CommonMark alone are, are not thinned out.
     let count = if pieces.len() < 1_000 { pieces.len() } else { pieces.len() / run.scale };
     run.stage(&format!("Markdown found ({files} files, {} pieces)", pieces.len()), count, |bench, i| {
@@ -291,11 +295,12 @@ fn main() {
     let mut run = Run { tally: Tally::default(), start: Instant::now(), scale };
     exhaustive(&mut run);
     random(&mut run);
-    captured(&mut run, &directories);
+    let found = documents::found(&directories);
+    captured(&mut run, &found);
     damaged(&mut run);
     println!();
     run.tally.print();
-    let mut unlisted = departures::run();
+    let mut unlisted = departures::run() + standard::run(&found.examples);
     for (kind, difference) in &run.tally.differences {
         let listed = LISTED.iter().find(|(_, cause)| kind.contains(cause)).filter(|(number, _)| rows.contains(&format!("| {number} |")));
         let note = match listed {
