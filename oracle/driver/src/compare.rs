@@ -183,7 +183,7 @@ impl Bench {
         }
     }
 
-    pub fn settings(&self, options: u32) -> &Settings {
+    fn settings(&self, options: u32) -> &Settings {
         &self.settings[options as usize & 63]
     }
 
@@ -290,6 +290,16 @@ impl Bench {
     /// Put a question with lengths of one's own.
     pub fn ask_lengths(&mut self, question: &Question, source: Source, output: usize, work: usize) {
         self.put(question, source, output, work, None, None);
+    }
+
+    /// Put a line to the heading reader, and what the library reads there to its resolver.
+    pub fn read_and_resolve(&mut self, line: Vec<u8>, options: u32, source: Source) {
+        let record = library::heading_record(&line, options, &mut self.lent);
+        self.ask(&Question { call: Call::Heading, input: line, options, arguments: [0; 3] }, source);
+        // What it may have done to the buffers instead is told by the first of the two.
+        if let Ok(Some(question)) = record {
+            self.ask(&question, source);
+        }
     }
 
     /// Everything the crate's resolvers were seen to do with a document, or with text alone.

@@ -107,3 +107,17 @@ pub fn line(call: Call, chance: &mut Chance) -> Question {
     };
     Question { call, input: line, options, arguments }
 }
+
+/// What the random headings are made of: spaces and tabs, `#` runs, words, one of them a form feed, and backslashes.
+const PIECES: [&[u8]; 16] = [b" ", b" ", b" ", b"  ", b"\t", b" \t", b"#", b"#", b"##", b"####", b"a", b"bc", b".", b"\x0c", b"\\", b"\\#"];
+
+/// A heading of many pieces, in any order and side by side.
+pub fn heading(chance: &mut Chance) -> Vec<u8> {
+    let mut line = b" ".repeat(chance.below(4));
+    line.resize(line.len() + 1 + chance.below(6), b'#');
+    line.push(*chance.pick(b" \t"));
+    for _ in 0..chance.below_or(16, 50, 400) {
+        line.extend_from_slice(chance.pick::<&[u8]>(&PIECES));
+    }
+    line
+}

@@ -159,13 +159,9 @@ fn exhaustive(run: &mut Run) {
             put(bench, Call::Heading, &line, options, [0; 3]);
         }
     });
-    run.strings("headings, read and resolved", &Strings::new(b"# a.", 9), |bench, line| {
-        put(bench, Call::Heading, &line, 59, [0; 3]);
-        if let Some(events) = crate_side::heading(&line, bench.settings(59)) {
-            let input = crate_side::write_record(&line, &events);
-            bench.ask(&Question { call: Call::Headings, input, options: 59, arguments: [0; 3] }, Source::Exhaustive);
-        }
-    });
+    for (name, alphabet) in [("headings of `# a.` to 9, read and resolved", b"# a."), ("headings of `# \\ta` to 9, read and resolved", b"# \ta")] {
+        run.strings(name, &Strings::new(alphabet, 9), |bench, line| bench.read_and_resolve(line, 59, Source::Exhaustive));
+    }
     for (name, alphabet, longest) in [("documents of `-1. a\\n>` to 7", &b"-1. a\n>"[..], 7), ("documents of `*-# \\n` to 8", b"*-# \n", 8)] {
         run.strings(name, &Strings::new(alphabet, longest), |bench, document| {
             bench.watch(Markdown { bytes: &document, text_alone: false, more: false }, 59, Source::Exhaustive);
@@ -203,6 +199,10 @@ fn random(run: &mut Run) {
         let chance = &mut Chance::new(4_000_000_000 + i as u64);
         let question = if chance.once_in(500) { records::lists_at_limits(chance) } else { records::lists(chance) };
         bench.ask(&question, Source::Random);
+    });
+    let many = run.some(400_000);
+    run.stage("random headings, read and resolved", many, |bench, i| {
+        bench.read_and_resolve(lines::heading(&mut Chance::new(9_000_000_000 + i as u64)), 59, Source::Random);
     });
     let many = run.some(1_200_000);
     for call in READERS {
