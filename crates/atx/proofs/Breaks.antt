@@ -17,7 +17,7 @@ use Rattle.record.proofs.Bools.{clash}
 use Rattle.record.proofs.Chosen.{chosen}
 use Rattle.scan.specs.Run.{spaceOrTab, filled, hash, leading, first, blanks}
 use Rattle.scan.proofs.Leading.{run-some, in-run, run-stops}
-use Rattle.scan.proofs.ByteKinds.{hash-filled, filled-otherwise, blank-filled}
+use Rattle.scan.proofs.ByteKinds.{hash-filled, filled-otherwise, blank-filled, unfilled-no-hash}
 use Rattle.atx.specs.Heading.{piece, pieceOf, pieces, split, eventsFrom, headingEvents}
 use Rattle.atx.specs.Laws.{afterBreak, HashRun, Entered, HashRuns}
 use Rattle.atx.specs.declared.Piece.{Piece}
@@ -42,14 +42,6 @@ no-enter name place from e = let q : _≡_ {A = ℕ} 1 0 = ap (λ (x : Event). x
 
 nothing-there : (from : ℕ) → record { kind = 0; name = 0; place = 0 } ≡ enter 12 from → ⊥
 nothing-there from e = let q : _≡_ {A = ℕ} 0 12 = ap (λ (x : Event). x .name) e in omega arith
-
--- a byte that ends Data is no `#`
-unfilled-no-hash : (b : ℕ) → filled b ≡ false → hash b ≡ false
-unfilled-no-hash b e = go (hash b) refl
-  where
-    go : (z : _) → hash b ≡ z → hash b ≡ false
-    go true q = absurd (clash (filled-otherwise b (hash-filled b q)) e)
-    go false q = q
 
 -- two places
 from : (at i : ℕ) → at ≤ i → (i ≡ at) ⊎ (at < i)

@@ -125,11 +125,20 @@ indent-all : (options : ℕ) (l : List ℕ) → spaceOrTab (getD l (indentation 
 unfolding indentation
 indent-all options l e = indent-chosen (optionOn options 32) l e
 
-hash-first : (l : List ℕ) → hash (first l) ≡ true → pieceOf l ≡ piece 12 (leading hash l)
+-- before a `#` too
+pub indent-blanks : (options : ℕ) (l : List ℕ) → hash (first (drop (indentation options l) l)) ≡ true → blanks l ≡ indentation options l
+indent-blanks options l f =
+    let z : indentation options l + 0 ≡ indentation options l = omega arith in
+    let at : first (drop (indentation options l) l) ≡ getD l (indentation options l) 0 =
+    getD-drop (indentation options l) l 0 0 ∙ ap (λ (k : ℕ). getD l k 0) z
+    in
+    indent-all options l (ap spaceOrTab (sym at) ∙ hash-filled _ f)
+
+pub hash-first : (l : List ℕ) → hash (first l) ≡ true → pieceOf l ≡ piece 12 (leading hash l)
 unfolding pieceOf choose
 hash-first l e = rw (hash-filled _ e, e)
 
-blank-first : (l : List ℕ) → spaceOrTab (first l) ≡ true → pieceOf l ≡ piece 14 (blanks l)
+pub blank-first : (l : List ℕ) → spaceOrTab (first l) ≡ true → pieceOf l ≡ piece 14 (blanks l)
 unfolding pieceOf choose
 blank-first l e = rw e
 
@@ -137,7 +146,7 @@ blank-there : (l : List ℕ) (i : ℕ) → blanks l ≡ suc i → spaceOrTab (fi
 unfolding blanks
 blank-there l i e = first-of spaceOrTab l (omega arith)
 
-split-first : (l : List ℕ) (p : Piece) → 0 < length l → pieceOf l ≡ p → split l ≡ p ∷ split (drop (p .size) l)
+pub split-first : (l : List ℕ) (p : Piece) → 0 < length l → pieceOf l ≡ p → split l ≡ p ∷ split (drop (p .size) l)
 split-first l p h q = split-cons l h ∙ ap (λ (x : Piece). x ∷ split (drop (x .size) l)) q
 
 pub heading-shaped : (l : List ℕ) (options : ℕ) → isHeading l options ≡ true → HeadingShape l options
@@ -148,9 +157,7 @@ heading-shaped l options t =
     let some : 1 ≤ leading hash m = leb-true _ _ (and-left _ _ o) in
     let six : leading hash m ≤ 6 = leb-true _ _ (and-left _ _ (and-right _ _ o)) in
     let f : hash (first m) ≡ true = first-of hash m some in
-    let z : indentation options l + 0 ≡ indentation options l = omega arith in
-    let at : first m ≡ getD l (indentation options l) 0 = getD-drop (indentation options l) l 0 0 ∙ ap (λ (k : ℕ). getD l k 0) z in
-    let all : blanks l ≡ indentation options l = indent-all options l (ap spaceOrTab (sym at) ∙ hash-filled (first m) f) in
+    let all : blanks l ≡ indentation options l = indent-blanks options l f in
     let there : split m ≡ piece 12 (leading hash m) ∷ split (drop (leading hash m) m) =
     split-first m (piece 12 (leading hash m)) (omega (arith, leading-short hash m)) (hash-first m f)
     in

@@ -3,3 +3,7 @@ pub mod Pieces
 pub mod Headings
 pub mod Covering
 pub mod ExactlyHeaded
+pub mod Stripped
+pub mod Seams
+pub mod Enclosed
+pub mod Parting

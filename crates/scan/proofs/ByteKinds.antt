@@ -1,10 +1,11 @@
 -- The kinds of bytes, case by case.
 -- Assumes nothing.
-use mathlib.Core.Path.{_≡_, ap}
-use mathlib.Core.Bool.{true, false, not}
+use mathlib.Core.Path.{_≡_, refl, ap}
+use mathlib.Core.Bool.{Bool, true, false, not}
 use Prim.Native.Nat.{ℕ, _≤_, _<_}
 use borrow.Author.Tests.{eq-eqb, ne-eqb, le-leb, lt-leb, eqb-true}
 use Rattle.record.specs.Choice.{and}
+use Rattle.record.proofs.Bools.{clash}
 use Rattle.scan.specs.Run.{or, spaceOrTab, filled, digit, hash}
 use Rattle.scan.specs.Line.{noFeed}
 
@@ -48,3 +49,11 @@ module _ (b : ℕ) where
   pub filled-otherwise : spaceOrTab b ≡ false → filled b ≡ true
   unfolding filled
   filled-otherwise e = ap not e
+
+-- a byte that ends Data is no `#`
+pub unfilled-no-hash : (b : ℕ) → filled b ≡ false → hash b ≡ false
+unfilled-no-hash b e = go (hash b) refl
+  where
+    go : (z : Bool) → hash b ≡ z → hash b ≡ false
+    go true q = absurd (clash (filled-otherwise b (hash-filled b q)) e)
+    go false q = q
