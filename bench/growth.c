@@ -139,9 +139,14 @@ static void one_heading(size_t n) {
     while (count + 5 <= n) pair(SPACE, " "), pair(DATA, "a");
     event(1, HEADING);
 }
-static void heading_without_text(size_t n) {
+static void heading_of_hashes(size_t n) {
     event(0, HEADING), pair(SEQUENCE, "##");
     while (count + 5 <= n) pair(SPACE, " "), pair(SEQUENCE, "#");
+    event(1, HEADING);
+}
+static void heading_without_text(size_t n) {
+    event(0, HEADING), pair(SEQUENCE, "##");
+    while (count + 3 <= n) pair(SPACE, " ");
     event(1, HEADING);
 }
 
@@ -183,7 +188,10 @@ static const struct family lists[] = {{"one list", one_list},
                                       {"each in a container", in_containers},
                                       {"marks alternate", marks_alternate},
                                       {"16 blank lines between", far_apart}};
-static const struct family headings[] = {{"many headings", many_headings}, {"one heading", one_heading}, {"no text", heading_without_text}};
+static const struct family headings[] = {{"many headings", many_headings},
+                                         {"one heading", one_heading},
+                                         {"one of `#` runs", heading_of_hashes},
+                                         {"no text", heading_without_text}};
 static const size_t runs[] = {16, 64, 256, 1024}, sizes[] = {64, 256, 512, 1024, 2048};
 static const struct table tables[] = {{"attention", "a run", lark_resolve_attention, attention, LENGTH(attention), runs, LENGTH(runs)},
                                       {"attention, runs that open and close", "a candidate", lark_resolve_attention, all_tried, LENGTH(all_tried), runs,

@@ -5,7 +5,7 @@
  *
  *     lark_read               is this a good record?
  *     lark_resolve_attention  `*`, `_` and `~` runs become emphasis, strong and strikethrough
- *     lark_resolve_headings   the words of each heading get a text round them
+ *     lark_resolve_headings   what each heading reads gets a text round it
  *     lark_resolve_lists      neighbouring list items get a list round them
  *     lark_space_or_tab       how many spaces and tabs does a line begin with?
  *     lark_list_item          does a list item start on this line?
@@ -95,9 +95,9 @@
 extern "C" {
 #endif
 
-#define LARK_VERSION "0.2.0"
+#define LARK_VERSION "0.3.0"
 #define LARK_VERSION_MAJOR 0
-#define LARK_VERSION_MINOR 2
+#define LARK_VERSION_MINOR 3
 #define LARK_VERSION_PATCH 0
 
 /* Limits. */
@@ -325,10 +325,14 @@ struct lark_reading lark_read(const uint8_t *record, size_t record_length, uint3
 struct lark_resolved lark_resolve_attention(const uint8_t *record, size_t record_length, uint32_t options, uint8_t *out, size_t out_length,
                                             uint8_t *work, size_t work_length) LARK_NOEXCEPT;
 
-/* In each heading (name 11) a text (13) goes from the first Data to the last; one Data pair is left in it. A heading without Data stays.
+/* In each heading (name 11) a text (13) goes from the first Data or `#` run (12) after the opening run to the last one; one Data pair is left in it.
+ * A `#` run that is the last thing other than space or tab (14) is the closing run and stays out: `# a # #` reads `a #`. Where nothing is left to
+ * read, as in `# #`, the heading stays as it is.
  *
- *     `# a b`  +11@0 +12@0 -12@1 +14@1 -14@2 +0@2 -0@3 +14@3 -14@4 +0@4 -0@5 -11@5
- *     becomes  +11@0 +12@0 -12@1 +14@1 -14@2 +13@2 +0@2 -0@5 -13@5 -11@5
+ *     `# a b #`  +11@0 +12@0 -12@1 +14@1 -14@2 +0@2 -0@3 +14@3 -14@4 +0@4 -0@5 +14@5 -14@6 +12@6 -12@7 -11@7
+ *     becomes    +11@0 +12@0 -12@1 +14@1 -14@2 +13@2 +0@2 -0@5 -13@5 +14@5 -14@6 +12@6 -12@7 -11@7
+ *
+ * Of a line that lark_heading read, the text is what CommonMark 0.31 has parsed as the heading's inline content.
  *
  * Reads the record. Writes a section of all events to the output, and zeros over all of the work memory. All other events stay. Options are
  * looked at for number 2 only.

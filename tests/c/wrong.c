@@ -46,6 +46,17 @@ static inline size_t most_open(const uint8_t *record) {
     return most;
 }
 
+/* Whether an event of a section enters or leaves a heading's text. */
+static inline int is_text(const uint8_t *section, size_t i, size_t kind) {
+    struct lark_event event = lark_event_at(section, i);
+    return event.kind == kind && event.name == LARK_NAME_HEADING_ATX_TEXT;
+}
+
+/* An event of a section some places further on. */
+static inline void move(uint8_t *section, size_t i, int by) {
+    lark_put_number(section + 4 + 8 * i + 4, lark_event_at(section, i).place + (size_t)by);
+}
+
 struct lark_reading __wrap_lark_read(ON_RECORD, uint8_t *work, size_t work_length) {
     struct lark_reading r;
 #if WRONG == 1 /* record: a byte past the record is read */
@@ -114,13 +125,24 @@ struct lark_resolved __wrap_lark_resolve_attention(RESOLVER) {
 
 struct lark_resolved __wrap_lark_resolve_headings(RESOLVER) {
     struct lark_resolved r;
+    size_t i = 0;
 #if WRONG == 25 /* headings: option 32 alone is refused */
     if (options == 32) options = 64;
 #endif
     r = __real_lark_resolve_headings(record, record_length, options, out, out_length, work, work_length);
 #if WRONG == 26 /* headings: the place of number 6 is counted in eight bits */
     if (r.number == 6) r.place &= 255;
+#elif WRONG == 56 /* headings: a text begins behind a run of `#` */
+    for (i = 0; i < r.events; i++)
+        if (is_text(out, i, LARK_ENTER) && record[4 + lark_event_at(out, i).place] == '#') move(out, i, 1), move(out, i + 1, 1);
+#elif WRONG == 57 /* headings: a text does not end with a run of `#` */
+    for (i = 0; i < r.events; i++)
+        if (is_text(out, i, LARK_EXIT) && !memcmp(record + 2 + lark_event_at(out, i).place, " #", 2)) move(out, i - 1, -2), move(out, i, -2);
+#elif WRONG == 58 /* headings: a text of one run of `#` holds that and no Data */
+    for (i = 0; i < r.events; i++)
+        if (is_text(out, i, LARK_ENTER) && record[4 + lark_event_at(out, i).place] == '#') out[4 + 8 * (i + 1) + 1] = out[4 + 8 * (i + 2) + 1] = 12;
 #endif
+    (void)i;
     return r;
 }
 

@@ -90,7 +90,7 @@ pub fn resolve_attention<'a>(record: &[u8], options: Options, out: &'a mut [u8],
 }
 
 /// Puts the text of each heading of a record into a pair of its own, and writes the events' section to `out`, as
-/// [`resolve_attention`] does.
+/// [`resolve_attention`] does. The opening run of `#` and the closing one stay out: `# a # #` reads `a #`.
 ///
 /// # Errors
 ///

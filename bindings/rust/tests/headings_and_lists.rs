@@ -18,7 +18,7 @@ fn case(resolver: Resolver, document: &str, before: &str, after: &str) {
 }
 
 #[test]
-fn text_goes_round_data() {
+fn text_goes_round_words_and_hashes() {
     case(
         resolve_headings,
         "# a#",
@@ -29,12 +29,28 @@ fn text_goes_round_data() {
         resolve_headings,
         "# #a",
         "+11@0 +12@0 -12@1 +14@1 -14@2 +12@2 -12@3 +0@3 -0@4 -11@4",
-        "+11@0 +12@0 -12@1 +14@1 -14@2 +12@2 -12@3 +13@3 +0@3 -0@4 -13@4 -11@4",
+        "+11@0 +12@0 -12@1 +14@1 -14@2 +13@2 +0@2 -0@4 -13@4 -11@4",
+    );
+    case(
+        resolve_headings,
+        "# ## #",
+        "+11@0 +12@0 -12@1 +14@1 -14@2 +12@2 -12@4 +14@4 -14@5 +12@5 -12@6 -11@6",
+        "+11@0 +12@0 -12@1 +14@1 -14@2 +13@2 +0@2 -0@4 -13@4 +14@4 -14@5 +12@5 -12@6 -11@6",
     );
 }
 
 #[test]
-fn what_stands_between_data_goes() {
+fn only_the_closing_run_stays_out() {
+    case(
+        resolve_headings,
+        "# a # #",
+        "+11@0 +12@0 -12@1 +14@1 -14@2 +0@2 -0@3 +14@3 -14@4 +12@4 -12@5 +14@5 -14@6 +12@6 -12@7 -11@7",
+        "+11@0 +12@0 -12@1 +14@1 -14@2 +13@2 +0@2 -0@5 -13@5 +14@5 -14@6 +12@6 -12@7 -11@7",
+    );
+}
+
+#[test]
+fn what_lies_in_the_text_goes() {
     case(
         resolve_headings,
         "# a b #",
@@ -44,7 +60,7 @@ fn what_stands_between_data_goes() {
 }
 
 #[test]
-fn heading_without_data_is_unchanged() {
+fn heading_without_text_is_unchanged() {
     case(
         resolve_headings,
         " # #",

@@ -2,6 +2,7 @@
 // asked in the order in which the resolver asks them.
 
 use crate::refuse::because;
+use heading::seek::Sought;
 use heading::seek::before_first;
 use heading::shape::is_headed;
 use list::item::known_mark;
@@ -145,7 +146,7 @@ fn explain_heading(section: &[u8], events: usize, k: usize)
         return;
     }
     let inside = 12 + 8 * k;
-    let n = before_first(section, inside, events - k - 1, EXIT, HEADING);
+    let n = before_first(section, inside, events - k - 1, Sought::HeadingExit);
     if !is_headed(section, inside, n) {
         because(b"the heading does not begin with its # run");
         return;

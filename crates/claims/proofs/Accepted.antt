@@ -13,6 +13,7 @@ use Rattle.output.proofs.SoundOutput.{output-sound}
 use Rattle.output.proofs.OthersStay.{others-kept}
 use Rattle.heading.proofs.Resound.{resolved-sound}
 use Rattle.heading.proofs.Kept.{outside-kept}
+use Rattle.heading.proofs.ResultAsSaid.{result-as-said}
 use Rattle.list.proofs.Added.{listing}
 use Rattle.list.proofs.Nesting.{nested}
 use Rattle.list.proofs.Gathering.{result-gathered}
@@ -43,6 +44,7 @@ accepted-headings s options out work r out′ work′ p z =
       accepted = a;
       nests = resolved-sound (allEvents s) (a .events) 64 (documentCount s) good (a .made-so);
       kept = outside-kept (allEvents s) (a .events) (a .made-so);
+      texts = result-as-said .said (allEvents s) (a .events) 64 (documentCount s) good (a .made-so);
     }
 
 pub accepted-lists : AcceptedLists

@@ -3,6 +3,7 @@ pub mod Records
 pub mod Lines
 pub mod Accepted
 pub mod ReadsBack
+pub mod Titles
 pub mod ChainsAsLists
 pub mod Positions
 pub mod OnTheWay

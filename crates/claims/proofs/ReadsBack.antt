@@ -29,12 +29,12 @@ use Rattle.record.proofs.Rewritten.{front-rewritten, good-holdable}
 use Rattle.record.proofs.Depth.{sound-shallow, sound-deeper}
 use Rattle.scan.specs.Line.{endOf, lineOf}
 use Rattle.scan.specs.Rows.{row-3, row-4}
-use Rattle.atx.specs.Rows.{reading, row-7 as heading-row-7}
+use Rattle.atx.specs.Rows.{WritingRow, reading, row-7 as heading-row-7}
 use Rattle.atx.specs.Heading.{isHeading, headingEvents, headedOf}
 use Rattle.atx.specs.declared.Headed.{Headed}
 use Rattle.atx.specs.declared.Headed.the-variants.{Heading, NotHeading, Refused}
 use Rattle.atx.proofs.Covering.{heading-lawful}
-use Rattle.ledgerlark.specs.Answers.{larkReading, larkHeaded}
+use Rattle.ledgerlark.specs.Answers.{larkReading, larkHeaded, HeadedAs}
 use Rattle.ledgerlark.specs.declared.resolve.LarkResolved.{LarkResolved}
 use Rattle.ledgerlark.specs.declared.line.LarkHeaded.{LarkHeaded}
 use Rattle.claims.specs.Records.{docOf, Accepts}
@@ -172,15 +172,24 @@ line-short : (s : List ℕ) → length (lineOf s) ≤ length s
 unfolding lineOf
 line-short s = front-short (endOf s) s
 
+-- what the heading reader finds where it answers 1
+module _ (s : List ℕ) (options : ℕ) (out : List ℕ) (r : LarkHeaded) (out′ : List ℕ) (p : HeadedAs s options out r out′) (z : r .found ≡ 1) where
+  unrefused : (n q : ℕ) → WritingRow s options (length out) n q → ⊥
+  unrefused =
+      heading-claim s options .exactly out r out′ p .none-holds
+      (ap (λ (x : LarkHeaded). x .number) (p .answer) ∙ found-zero (headedOf s options (length out) .answer) (sym (ap (λ (x : LarkHeaded). x .found) (p .answer)) ∙ z))
+
+  pub heading-found : isHeading (lineOf s) options ≡ true
+  heading-found =
+      found-heading (isHeading (lineOf s) options) (length (headingEvents (lineOf s)))
+      (sym (ap (λ (x : LarkHeaded). x .found) (heading-claim s options .finds out r out′ p unrefused .0)) ∙ z)
+
 pub heading-reads-back : HeadingReadsBack
 unfolding choose
 heading-reads-back s options out r out′ p z =
-    let number : r .number ≡ 0 =
-    ap (λ (x : LarkHeaded). x .number) (p .answer) ∙ found-zero (headedOf s options (length out) .answer) (sym (ap (λ (x : LarkHeaded). x .found) (p .answer)) ∙ z) in
-    let none = heading-claim s options .exactly out r out′ p .none-holds number in
+    let none = unrefused s options out r out′ p z in
     let found = heading-claim s options .finds out r out′ p none in
-    let is : isHeading (lineOf s) options ≡ true =
-    found-heading (isHeading (lineOf s) options) (length (headingEvents (lineOf s))) (sym (ap (λ (x : LarkHeaded). x .found) (found .0)) ∙ z) in
+    let is = heading-found s options out r out′ p z in
     let short : length s ≤ 16384 = at-most (length s) 16384 (λ h. none 3 16384 (reading (row-3 h refl refl))) in
     let few : length (headingEvents (lineOf s)) ≤ 8000 =
     at-most (length (headingEvents (lineOf s))) 8000 (λ h. none 7 0 (heading-row-7 is h refl refl)) in

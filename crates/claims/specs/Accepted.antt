@@ -15,6 +15,7 @@ use Rattle.output.specs.Others.{others, Among}
 use Rattle.attention.specs.Attention.{attention}
 use Rattle.heading.specs.Headings.{headings}
 use Rattle.heading.specs.Outside.{outside}
+use Rattle.heading.specs.Text.{WithTexts}
 use Rattle.list.specs.Lists.{lists}
 use Rattle.list.specs.Listing.{Listing}
 use Rattle.list.specs.Gathered.{Gathered, OneListWhereLinked}
@@ -34,11 +35,13 @@ AcceptedAttention =
     (profile : Profile) (s : List ℕ) (options : ℕ) (out work : List ℕ) (r : LarkResolved) (out′ work′ : List ℕ) →
     AttentionAs profile s options out work r out′ work′ → r .number ≡ 0 → AttentionNests profile s options out r out′
 
--- headings: the result is sound, at most one event deeper than a record may be, and its events outside headings are those of the record
+-- headings: the result is sound, at most one event deeper than a record may be, and its events outside headings are those of the record; in each heading
+-- stands what document 01's words say of its inner events, part by part
 pub record HeadingsNest (s out : List ℕ) (r : LarkResolved) (out′ : List ℕ) : Type 0 where
   pub accepted : Accepts (headings (allEvents s)) 0 0 out r out′
   pub nests : sound 65 (documentCount s) (accepted .events) ≡ true
   pub kept : outside (accepted .events) ≡ outside (allEvents s)
+  pub texts : WithTexts (allEvents s) (accepted .events)
 
 abbrev pub AcceptedHeadings : Type 0
 AcceptedHeadings =

@@ -29,7 +29,7 @@ use Rattle.scan.specs.Line.{noFeed, endOf, lineOf, checkedLine, reading}
 use Rattle.lines.specs.Item.{breakMark, isMark, markOrBlank, marksOnly, thematicBreak, bulletMark, orderedMark, startsWithOne, mayStart, orderedOf, markerOf, padding, filledStart, startAfter, startFrom, startAt, startIn, startOf, numbersOf}
 use Rattle.atx.specs.Heading.{brokenOff, opening, isHeading, pieceOf, pieces, eventsFrom, headingEvents}
 use Rattle.atx.specs.Heading.{split as splitHeading}
-use Rattle.heading.specs.Headings.{isOf, beforeFirst, throughLast, innerOf, leaf, leaves, startsWith, headed, shaped as shapedHeading, withText, resolvedFrom, offending, earliest, headings}
+use Rattle.heading.specs.Headings.{isOf, beforeFirst, throughLast, innerOf, leaf, leaves, startsWith, headed, shaped as shapedHeading, throughOpening, isDataOrRun, beforeText, toLast, beforeClosing, withoutClosing, textEvents, throughText, withText, resolvedFrom, offending, earliest, headings}
 
 -- what is asked of a text: the groups of its runs, the size of the list item that starts on it, or the text of the heading that it is
 pub data Question : Type 0 where
@@ -94,5 +94,17 @@ table =
     ∷ []
 
 pub twelve-cases : map (λ (c : Case). reply (c .asked) (c .text)) table ≡ map (λ (c : Case). c .answer) table
-unfolding table reply groupsAndData headingTexts attention offender offenderFrom shaped runBetween leftAtOnce allAre allowed bytes split splitFrom stretchOf nameOf choose and after classOf standardClass amended whitespace punctuation optionOn byteAt byteBefore entersRun runsFrom runsOf isMarker classBeside leftFlanking rightFlanking besideMarker flanksLeft flanksRight canOpen canClose threes tildes ruleOver opener closer sameContainer candidate takes back look forth amount alter matched rounds total plain standing outcome groupName closings openings closed opened remains closingEvents openingEvents leftoverEvents runEvents replaced output startOf startIn startAt startFrom startAfter filledStart padding markerOf orderedOf mayStart startsWithOne orderedMark bulletMark thematicBreak marksOnly markOrBlank isMark breakMark blank blanks blanksUpTo indentation every count leading digit hash filled spaceOrTab or checkedLine reading lineOf endOf noFeed firstReturn brokenOff opening isHeading pieceOf pieces splitHeading eventsFrom headingEvents isOf beforeFirst throughLast innerOf leaf leaves startsWith headed shapedHeading withText resolvedFrom offending earliest headings
+unfolding table reply groupsAndData headingTexts attention offender offenderFrom shaped runBetween leftAtOnce allAre allowed bytes split splitFrom stretchOf nameOf choose and after classOf standardClass amended whitespace punctuation optionOn byteAt byteBefore entersRun runsFrom runsOf isMarker classBeside leftFlanking rightFlanking besideMarker flanksLeft flanksRight canOpen canClose threes tildes ruleOver opener closer sameContainer candidate takes back look forth amount alter matched rounds total plain standing outcome groupName closings openings closed opened remains closingEvents openingEvents leftoverEvents runEvents replaced output startOf startIn startAt startFrom startAfter filledStart padding markerOf orderedOf mayStart startsWithOne orderedMark bulletMark thematicBreak marksOnly markOrBlank isMark breakMark blank blanks blanksUpTo indentation every count leading digit hash filled spaceOrTab or checkedLine reading lineOf endOf noFeed firstReturn brokenOff opening isHeading pieceOf pieces splitHeading eventsFrom headingEvents isOf beforeFirst throughLast innerOf leaf leaves startsWith headed shapedHeading throughOpening isDataOrRun beforeText toLast beforeClosing withoutClosing textEvents throughText withText resolvedFrom offending earliest headings
 twelve-cases = refl
+
+-- "So `# #` is empty, `# ## #` reads `##`, `# a # #` reads `a #`"; and `# #a` reads `#a`: from the bytes of a line to the resolver's events
+pub four-headings :
+    (headings (headingEvents (bytes "# #")) ≡ gives (enter 11 0 ∷ enter 12 0 ∷ exit 12 1 ∷ enter 14 1 ∷ exit 14 2 ∷ enter 12 2 ∷ exit 12 3 ∷ exit 11 3 ∷ []))
+    × (headings (headingEvents (bytes "# ## #"))
+    ≡ gives (enter 11 0 ∷ enter 12 0 ∷ exit 12 1 ∷ enter 14 1 ∷ exit 14 2 ∷ enter 13 2 ∷ enter 0 2 ∷ exit 0 4 ∷ exit 13 4 ∷ enter 14 4 ∷ exit 14 5 ∷ enter 12 5 ∷ exit 12 6 ∷ exit 11 6 ∷ []))
+    × (headings (headingEvents (bytes "# a # #"))
+    ≡ gives (enter 11 0 ∷ enter 12 0 ∷ exit 12 1 ∷ enter 14 1 ∷ exit 14 2 ∷ enter 13 2 ∷ enter 0 2 ∷ exit 0 5 ∷ exit 13 5 ∷ enter 14 5 ∷ exit 14 6 ∷ enter 12 6 ∷ exit 12 7 ∷ exit 11 7 ∷ []))
+    × (headings (headingEvents (bytes "# #a"))
+    ≡ gives (enter 11 0 ∷ enter 12 0 ∷ exit 12 1 ∷ enter 14 1 ∷ exit 14 2 ∷ enter 13 2 ∷ enter 0 2 ∷ exit 0 4 ∷ exit 13 4 ∷ exit 11 4 ∷ []))
+unfolding bytes choose and hash filled spaceOrTab or leading blanks pieceOf pieces splitHeading eventsFrom headingEvents isOf beforeFirst throughLast innerOf leaf leaves startsWith headed shapedHeading throughOpening isDataOrRun beforeText toLast beforeClosing withoutClosing textEvents throughText withText resolvedFrom offending earliest headings
+four-headings = (refl, refl, refl, refl)

@@ -9,7 +9,7 @@ use mathlib.Core.List.{List, [], _∷_, _++_}
 use Prim.Native.Nat.{ℕ, zero, suc, _+_, _*_, _-_, _≤_, _<_}
 use native.Mathlib.Omega.{arith}
 use lib.ListN.{length, take, drop, length-append, length-drop}
-use lib.Seq.{split-at, drop-append-seam, drop-cons, length-take-le}
+use lib.Seq.{drop-append-seam, drop-cons, length-take-le}
 use lib.Dec.{eqb, ltb}
 use borrow.Author.Tests.{eqb-false, le-ltb}
 use Rattle.record.specs.Choice.{choose, and}
@@ -21,14 +21,16 @@ use Rattle.record.specs.declared.event.Event.{Event}
 use Rattle.record.specs.declared.check.Reading.the-variants.{Good}
 use Rattle.record.proofs.Good.{admission}
 use Rattle.record.proofs.Sections.{length-eventsAt}
-use Rattle.heading.specs.Headings.{isOf, beforeFirst, throughLast, innerOf, leaves, shaped, textRound, withText, resolvedFrom, earliest, headings}
+use Rattle.heading.specs.Headings.{isOf, beforeFirst, throughLast, innerOf, leaves, shaped, isDataOrRun, beforeText, toLast, beforeClosing, withoutClosing, textEvents, throughText, textRound, withText, resolvedFrom, earliest, headings}
+use Rattle.heading.specs.Text.{Texted, text, closed, empty}
 use Rattle.heading.specs.Outside.{outsideFrom, outside}
-use Rattle.heading.proofs.Seeking.{before-le, before-here, before-next}
-use Rattle.heading.proofs.Leaves.{of-is, not-of, before-past, data-ends, last-is, through-le}
+use Rattle.heading.proofs.Seeking.{before-le, before-here}
+use Rattle.heading.proofs.Leaves.{of-is, not-of, before-past}
 use Rattle.heading.proofs.Passes.{inner-leaves, other-passed, other-resolved, heading-passed, heading-resolved, heading-shaped}
 use Rattle.heading.proofs.Settling.{either}
-use Rattle.heading.proofs.Offence.{before-is, none-before, at-most}
-use Rattle.heading.proofs.Resound.{leaves-front, leaves-through}
+use Rattle.heading.proofs.Offence.{before-is, none-before, at-most, leaves-of}
+use Rattle.heading.proofs.Texted.{before-pairs, behind-pairs}
+use Rattle.heading.proofs.TextAsSaid.{texted}
 
 -- inner events are passed over
 outside-past : (k : ℕ) (es : List Event) → outsideFrom k es ≡ outsideFrom 0 (drop k es)
@@ -50,33 +52,17 @@ none-round : (p q : ℕ) → beforeFirst (isOf 1 11) (textRound p q) ≡ 4
 unfolding beforeFirst isOf choose and
 none-round p q = refl
 
-none-text : (inner : List Event) → leaves inner ≡ true → beforeFirst (isOf 1 11) (withText inner) ≡ length (withText inner)
-unfolding withText choose
-none-text inner q = go (eqb (beforeFirst (isOf 0 0) inner) (length inner)) refl
-  where
-    go : (b : Bool) → eqb (beforeFirst (isOf 0 0) inner) (length inner) ≡ b → beforeFirst (isOf 1 11) (withText inner) ≡ length (withText inner)
-    go true e = rw e (none-before inner q)
-    go false e =
-        let ne : beforeFirst (isOf 0 0) inner ≡ length inner → ⊥ = eqb-false _ _ e in
-        let ends = data-ends inner q ne in
-        let le = through-le (isOf 1 0) inner in
-        let a : Event = nth inner (beforeFirst (isOf 0 0) inner) in
-        let b : Event = nth inner (throughLast (isOf 1 0) inner - 1) in
-        let xs : List Event = take (beforeFirst (isOf 0 0) inner) inner in
-        let us : List Event = take (throughLast (isOf 1 0) inner - 1) inner in
-        let zs : List Event = drop (throughLast (isOf 1 0) inner) inner in
-        let oa = of-is 0 0 a (before-is (isOf 0 0) inner (omega arith)) in
-        let ob = of-is 1 0 b (last-is (isOf 1 0) inner (omega arith)) in
-        let ea : inner ≡ xs ++ (a ∷ drop (suc (beforeFirst (isOf 0 0) inner)) inner) = split-at inner (beforeFirst (isOf 0 0) inner) (event 0 0 0) (omega arith) in
-        let k : suc (throughLast (isOf 1 0) inner - 1) ≡ throughLast (isOf 1 0) inner = omega arith in
-        let eb : inner ≡ us ++ (b ∷ zs) = split-at inner (throughLast (isOf 1 0) inner - 1) (event 0 0 0) (omega arith) ∙ ap (λ (m : ℕ). us ++ (b ∷ drop m inner)) k in
-        let front = none-before xs (leaves-front xs a (drop (suc (beforeFirst (isOf 0 0) inner)) inner) (ap leaves (sym ea) ∙ q) (oa .0)) in
-        let back = none-before zs (leaves-through us b zs (ap leaves (sym eb) ∙ q) (ob .0) .1) in
-        let mid = none-round (a .place) (b .place) in
-        let l₁ = length-append xs (textRound (a .place) (b .place)) in
-        let n₁ = before-past (isOf 1 11) xs (textRound (a .place) (b .place)) (omega (arith, front)) in
-        let n₂ = before-past (isOf 1 11) (xs ++ textRound (a .place) (b .place)) zs (omega (arith, n₁, mid, l₁)) in
-        rw e (omega (arith, n₂, back, length-append (xs ++ textRound (a .place) (b .place)) zs))
+-- two lists without one have none
+none-both : (xs ys : List Event) → beforeFirst (isOf 1 11) xs ≡ length xs → beforeFirst (isOf 1 11) ys ≡ length ys →
+    beforeFirst (isOf 1 11) (xs ++ ys) ≡ length (xs ++ ys)
+none-both xs ys p q = omega (arith, before-past (isOf 1 11) xs ys (omega arith), length-append xs ys)
+
+none-text : {inner result : List Event} → Texted inner result → leaves inner ≡ true → beforeFirst (isOf 1 11) result ≡ length result
+none-text (text xs es zs name from q last to b w e z) l =
+    none-both xs (textRound from to ++ zs) (none-before xs (leaves-of (before-pairs b)))
+    (none-both (textRound from to) zs (none-round from to) (none-before zs (leaves-of (behind-pairs z))))
+none-text (closed xs zs p q b z) l = none-before (xs ++ (enter 12 p ∷ exit 12 q ∷ zs)) l
+none-text (empty xs b) l = none-before xs l
 
 nothing : (es : List Event) → length es ≡ 0 → es ≡ []
 nothing [] h = refl
@@ -121,7 +107,7 @@ keeping (suc m) (e ∷ es) i rs l q = go (isOf 0 11 e) refl (λ k j. keeping m (
         let sh : shaped (innerOf es) ≡ true = heading-shaped e es z i rs q in
         let w : List Event = withText (innerOf es) in
         let r : List Event = resolvedFrom 0 (drop n es) in
-        let nt : beforeFirst (isOf 1 11) w ≡ length w = none-text (innerOf es) (inner-leaves (innerOf es) sh) in
+        let nt : beforeFirst (isOf 1 11) w ≡ length w = none-text (texted (innerOf es) sh) (inner-leaves (innerOf es) sh) in
         let b : beforeFirst (isOf 1 11) (w ++ r) ≡ length w = before-past (isOf 1 11) w r (omega arith) ∙ omega (arith, rest-exits es) in
         let d : drop (beforeFirst (isOf 1 11) (w ++ r)) (w ++ r) ≡ r = ap (λ (k : ℕ). drop k (w ++ r)) b ∙ drop-append-seam w r in
         ap outside (heading-resolved e es z)
@@ -151,29 +137,35 @@ outside-kept es rs q =
     let g = gives-is es rs q in
     ap outside (g .0) ∙ keeping (length es) es 0 rs (omega arith) (g .1)
 
-strictly : (a b : ℕ) → a ≤ b → (a ≡ b → ⊥) → a < b
-strictly a b l ne = go (at-most a b l)
-  where
-    go : (a < b) ⊎ (a ≡ b) → a < b
-    go (inl h) = h
-    go (inr h) = absurd (ne h)
+-- a text lies within the heading
+up-to : {A : Type 0} (n : ℕ) (l : List A) → length (take n l) ≤ length l
+up-to zero l = omega arith
+up-to (suc n) [] = omega arith
+up-to (suc n) (x ∷ l) = omega (arith, up-to n l)
+
+text-within : (inner : List Event) → length (textEvents inner) ≤ length inner - beforeText inner
+unfolding textEvents toLast withoutClosing
+text-within inner =
+    let es : List Event = drop (beforeText inner) inner in
+    let fs : List Event = toLast es in
+    let gs : List Event = withoutClosing fs in
+    omega (arith, up-to (throughLast isDataOrRun es) es, up-to (beforeClosing fs) fs, up-to (throughLast isDataOrRun gs) gs, length-drop (beforeText inner) inner)
 
 -- a heading's inner events become few more
 text-small : (inner : List Event) → length (withText inner) ≤ 3 * length inner + 2
-unfolding withText choose
-text-small inner = go (eqb (beforeFirst (isOf 0 0) inner) (length inner)) refl
+unfolding withText throughText choose
+text-small inner = go (eqb (beforeText inner) (throughText inner)) refl
   where
-    go : (b : Bool) → eqb (beforeFirst (isOf 0 0) inner) (length inner) ≡ b → length (withText inner) ≤ 3 * length inner + 2
+    go : (b : Bool) → eqb (beforeText inner) (throughText inner) ≡ b → length (withText inner) ≤ 3 * length inner + 2
     go true e = rw e (omega arith)
     go false e =
-        let le = before-le (isOf 0 0) inner in
-        let lt : beforeFirst (isOf 0 0) inner < length inner = strictly (beforeFirst (isOf 0 0) inner) (length inner) le (eqb-false _ _ e) in
-        let xs : List Event = take (beforeFirst (isOf 0 0) inner) inner in
-        let t : List Event = textRound (nth inner (beforeFirst (isOf 0 0) inner) .place) (nth inner (throughLast (isOf 1 0) inner - 1) .place) in
-        let zs : List Event = drop (throughLast (isOf 1 0) inner) inner in
-        rw e (omega (arith, length-append (xs ++ t) zs, length-append xs t, length-take-le (beforeFirst (isOf 0 0) inner) inner le, length-drop (throughLast (isOf 1 0) inner) inner))
+        let ne : beforeText inner ≡ throughText inner → ⊥ = eqb-false _ _ e in
+        let round : List Event = textRound (nth inner (beforeText inner) .place) (nth inner (throughText inner - 1) .place) in
+        let zs : List Event = drop (throughText inner) inner in
+        rw e
+        (omega (arith, length-append (take (beforeText inner) inner) (round ++ zs), up-to (beforeText inner) inner, length-drop (throughText inner) inner, text-within inner))
 
-resolved-small : (k : ℕ) (es : List Event) → k ≤ length es → length (resolvedFrom k es) + 3 * k ≤ 3 * length es
+pub resolved-small : (k : ℕ) (es : List Event) → k ≤ length es → length (resolvedFrom k es) + 3 * k ≤ 3 * length es
 unfolding resolvedFrom choose innerOf
 resolved-small k [] h = omega arith
 resolved-small (suc k) (e ∷ es) h = omega (arith, resolved-small k es (omega arith))

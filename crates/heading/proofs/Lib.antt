@@ -2,11 +2,13 @@ pub mod Lists
 pub mod Seeking
 pub mod Shapes
 pub mod Leaves
-pub mod AsStandard
+pub mod Texted
+pub mod TextAsSaid
 pub mod Texts
 pub mod Passes
 pub mod Settling
 pub mod Offence
 pub mod Resound
 pub mod Kept
+pub mod ResultAsSaid
 pub mod Exactly

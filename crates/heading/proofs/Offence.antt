@@ -20,13 +20,13 @@ use Rattle.record.specs.declared.event.Event.{Event}
 use Rattle.record.proofs.Bools.{and-left, and-right, and-both}
 use Rattle.record.proofs.Soundness.{sound-rest, after-enter, after-exit}
 use Rattle.heading.specs.Headings.{isOf, beforeFirst, innerOf, leaf, leaves, startsWith, headed, shaped, resolvedFrom, offending, earliest, headings}
-use Rattle.heading.specs.Shape.{Pairs, none, pair, Shape, bare, spaced, Follows, Broken, Earliest}
+use Rattle.heading.specs.Shape.{LeafName, Pairs, none, pair, Shape, bare, spaced, Follows, Broken, Earliest}
 use Rattle.heading.proofs.Seeking.{before-le, before-here, before-next}
 use Rattle.heading.proofs.Leaves.{is-of, of-is, first-leaf, rest-leaves, leaf-apart, before-past}
 use Rattle.heading.proofs.Settling.{either}
 
 -- an event is its three numbers
-event-is : (e : Event) (k n : ℕ) → e .kind ≡ k → e .name ≡ n → e ≡ event k n (e .place)
+pub event-is : (e : Event) (k n : ℕ) → e .kind ≡ k → e .name ≡ n → e ≡ event k n (e .place)
 event-is e k n p q = rw (← p, ← q)
 
 -- the shape as a test and as a predicate
@@ -43,18 +43,18 @@ pairs-of (e ∷ f ∷ es) q =
     (subst (λ (x : Event). Pairs (enter (e .name) (e .place) ∷ x ∷ es)) (sym (event-is f 1 (e .name) (l .exits) (l .same)))
     (pair (l .named) (pairs-of es (rest-leaves e f es q))))
 
-leaf-of : (name p q : ℕ) → (name ≡ 0) ⊎ (name ≡ 12) ⊎ (name ≡ 14) → leaf (enter name p) (exit name q) ≡ true
+leaf-of : (name p q : ℕ) → LeafName name → leaf (enter name p) (exit name q) ≡ true
 unfolding leaf isOf choose and
 leaf-of name p q (inl z) = rw z
 leaf-of name p q (inr (inl z)) = rw z
 leaf-of name p q (inr (inr z)) = rw z
 
-leaves-of : {es : List Event} → Pairs es → leaves es ≡ true
+pub leaves-of : {es : List Event} → Pairs es → leaves es ≡ true
 unfolding leaves
 leaves-of none = refl
 leaves-of (pair {name} {p} {q} {es} z l) = and-both _ _ (leaf-of name p q z) (leaves-of l)
 
-shaped-of : {es : List Event} → Shape es → shaped es ≡ true
+pub shaped-of : {es : List Event} → Shape es → shaped es ≡ true
 unfolding shaped headed startsWith leaves leaf isOf choose and
 shaped-of (bare l) = leaves-of l
 shaped-of (spaced l) = leaves-of l
@@ -96,7 +96,7 @@ headed-spaced (e ∷ f ∷ es) s h l =
     ∙ ap (λ (r : List Event). enter 14 (e .place) ∷ exit 14 (f .place) ∷ r) (t .3)))
     (spaced (t .4))
 
-shape-of : (es : List Event) → shaped es ≡ true → Shape es
+pub shape-of : (es : List Event) → shaped es ≡ true → Shape es
 unfolding shaped
 shape-of es q = go es (startsWith 14 es) refl (and-left _ _ q) (and-right _ _ q)
   where

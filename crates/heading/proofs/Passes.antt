@@ -172,7 +172,7 @@ module _ {s : List ℕ} {from e at i size : ℕ} (v : Judging s from e at i size
         ap judgedOf
         (sym (refused-here s at i e n l q en ln (gives (resolvedFrom 0 (eventsAt e s from))) h) ∙ v .same (gives (resolvedFrom 0 (eventsAt e s from))))
 
-    pub judging-heading : (t : ℕ) → shaped (eventsAt n s (at + 8)) ≡ true → t ≡ length (withText (eventsAt n s (at + 8))) → t ≤ 2 * n + 3 →
+    pub judging-heading : (t : ℕ) → shaped (eventsAt n s (at + 8)) ≡ true → t ≡ length (withText (eventsAt n s (at + 8))) → t ≤ n + 3 →
         Judging s from e (at + 8 + 8 * n) (i + (1 + n)) (size + (1 + t))
     judging-heading t h et lt =
         let r = ap length (resolved-here s at i e n l q en ln) in
@@ -248,9 +248,6 @@ module _ {s : List ℕ} {from e : ℕ} {out₀ : List ℕ} {to at i : ℕ} {out 
         let r : List Event = resolvedFrom 0 (eventsAt e s from) in
         ap shaped (sym (inner s at i e n l q en ln))
         ∙ heading-shaped (eventAt s at) (eventsAt (e - i - 1) s (at + 8)) q i r (ap (λ (es : List Event). earliest i es (gives r)) (sym (first s at i e n l q en ln)) ∙ v .fine)
-
-    pub writing-leaves : leaves (eventsAt n s (at + 8)) ≡ true
-    writing-leaves = inner-leaves (eventsAt n s (at + 8)) writing-shaped
 
     sizes : length (resolvedFrom 0 (eventsAt (e - i) s at))
         ≡ 1 + length (withText (eventsAt n s (at + 8))) + length (resolvedFrom 0 (eventsAt (e - (i + (1 + n))) s (at + 8 + 8 * n)))

@@ -6,31 +6,39 @@ use mathlib.Core.Logic.{_⊎_, inl, inr}
 use mathlib.Core.List.{List, [], _∷_, _++_, append-assoc}
 use Prim.Native.Nat.{ℕ, zero, suc, _+_, _-_, _≤_, _<_}
 use native.Mathlib.Omega.{arith}
-use lib.ListN.{length, take, drop, length-append, length-drop, take-append-drop, List·getD-append}
-use lib.Seq.{split-at}
-use lib.Dec.{eqb}
-use borrow.Author.Tests.{eqb-false}
-use Rattle.record.specs.Choice.{choose}
-use Rattle.record.specs.Event.{event, enter, exit}
-use Rattle.record.specs.Stack.{nth, after}
+use lib.ListN.{length, drop, length-drop, take-append-drop}
+use Rattle.record.specs.Event.{enter, exit}
+use Rattle.record.specs.Stack.{after}
 use Rattle.record.specs.Sound.{soundFrom, sound}
 use Rattle.record.specs.Outcome.{offends, gives}
 use Rattle.record.specs.declared.event.Event.{Event}
 use Rattle.record.proofs.Bools.{and-left, and-right, and-both}
 use Rattle.record.proofs.Depth.{fits-deeper}
 use Rattle.record.proofs.Soundness.{stands, sound-rest, sound-enter, sound-exit, after-enter, after-exit}
-use Rattle.heading.specs.Headings.{isOf, beforeFirst, throughLast, innerOf, leaves, shaped, textRound, withText, resolvedFrom, earliest, headings}
-use Rattle.heading.proofs.Leaves.{of-is, first-leaf, rest-leaves, data-ends, last-is, through-le}
+use Rattle.heading.specs.Headings.{isOf, beforeFirst, innerOf, leaves, shaped, textRound, withText, resolvedFrom, earliest, headings}
+use Rattle.heading.specs.Text.{Texted, text, closed, empty}
+use Rattle.heading.proofs.Leaves.{first-leaf, rest-leaves}
 use Rattle.heading.proofs.Passes.{inner-leaves, other-passed, other-resolved, heading-passed, heading-resolved, heading-shaped}
 use Rattle.heading.proofs.Settling.{either}
-use Rattle.heading.proofs.Offence.{odd, before-is}
+use Rattle.heading.proofs.Offence.{odd, leaves-of}
+use Rattle.heading.proofs.Texted.{ended, before-pairs, ending-pairs, behind-pairs}
+use Rattle.heading.proofs.TextAsSaid.{texted}
+
+-- of a list of events that is not empty: its first one's kind, and the others
+abbrev kindOf : List Event → ℕ
+kindOf [] = 0
+kindOf (e ∷ es) = e .kind
+
+abbrev tailOf : List Event → List Event
+tailOf [] = []
+tailOf (e ∷ es) = es
 
 -- the place of the last event, and the names that are open after it
-unfoldable lastPlace : ℕ → List Event → ℕ
+unfoldable pub lastPlace : ℕ → List Event → ℕ
 lastPlace last [] = last
 lastPlace last (e ∷ es) = lastPlace (e .place) es
 
-unfoldable openNames : List ℕ → List Event → List ℕ
+unfoldable pub openNames : List ℕ → List Event → List ℕ
 openNames held [] = held
 openNames held (e ∷ es) = openNames (after e (e .name) held) es
 
@@ -52,29 +60,6 @@ leaves-open (e ∷ f ∷ es) held q =
     let l = first-leaf e f es q in
     rw (after-enter e (e .name) held (l .enters), after-exit f (f .name) (e .name ∷ held) (l .exits)) (leaves-open es held (rest-leaves e f es q))
 
-no-leaves : leaves [] ≡ true
-unfolding leaves
-no-leaves = refl
-
--- the first pair of one list before another
-both-leaves : (x y : Event) (es fs : List Event) → leaves (x ∷ y ∷ es) ≡ true → leaves fs ≡ true → leaves (x ∷ y ∷ fs) ≡ true
-unfolding leaves
-both-leaves x y es fs q r = and-both _ _ (and-left _ _ q) r
-
--- a list of leaf pairs cut before an enter, or behind an exit, is two of them
-pub leaves-front : (xs : List Event) (a : Event) (ys : List Event) → leaves (xs ++ (a ∷ ys)) ≡ true → a .kind ≡ 0 → leaves xs ≡ true
-leaves-front [] a ys q k = no-leaves
-leaves-front (x ∷ []) a ys q k = absurd (omega (arith, first-leaf x a ys q .exits))
-leaves-front (x ∷ y ∷ xs) a ys q k = both-leaves x y (xs ++ (a ∷ ys)) xs q (leaves-front xs a ys (rest-leaves x y (xs ++ (a ∷ ys)) q) k)
-
-pub leaves-through : (xs : List Event) (b : Event) (ys : List Event) → leaves (xs ++ (b ∷ ys)) ≡ true → b .kind ≡ 1 → (leaves (xs ++ (b ∷ [])) ≡ true) × (leaves ys ≡ true)
-leaves-through [] b [] q k = absurd (odd b q)
-leaves-through [] b (y ∷ ys) q k = absurd (omega (arith, first-leaf b y ys q .enters))
-leaves-through (x ∷ []) b ys q k = (both-leaves x b ys [] q no-leaves, rest-leaves x b ys q)
-leaves-through (x ∷ y ∷ xs) b ys q k =
-    let r = leaves-through xs b ys (rest-leaves x y (xs ++ (b ∷ ys)) q) k in
-    (both-leaves x y (xs ++ (b ∷ ys)) (xs ++ (b ∷ [])) q (r .0), r .1)
-
 -- the front of a sound list, and then what is sound where it ends, one event deeper
 sound-front : (xs ys zs : List Event) (deep d last : ℕ) (held : List ℕ) → soundFrom deep d last held (xs ++ ys) ≡ true →
     soundFrom (deep + 1) d (lastPlace last xs) (openNames held xs) zs ≡ true → soundFrom (deep + 1) d last held (xs ++ zs) ≡ true
@@ -85,93 +70,81 @@ sound-front (x ∷ xs) ys zs deep d last held s t =
     (and-both _ _ (fits-deeper deep (deep + 1) x held (omega arith) (and-left _ _ (and-right _ _ s)))
     (sound-front xs ys zs deep d (x .place) (after x (x .name) held) (and-right _ _ (and-right _ _ s)) t))
 
-sound-behind : (xs ys : List Event) (deep d last : ℕ) (held : List ℕ) → soundFrom deep d last held (xs ++ ys) ≡ true →
+pub sound-behind : (xs ys : List Event) (deep d last : ℕ) (held : List ℕ) → soundFrom deep d last held (xs ++ ys) ≡ true →
     soundFrom deep d (lastPlace last xs) (openNames held xs) ys ≡ true
 unfolding lastPlace openNames
 sound-behind [] ys deep d last held s = s
 sound-behind (x ∷ xs) ys deep d last held s = sound-behind xs ys deep d (x .place) (after x (x .name) held) (sound-rest deep d last held x (xs ++ ys) s)
 
 -- places rise
-rising : (es : List Event) (i deep d last : ℕ) (held : List ℕ) → soundFrom deep d last held es ≡ true → i < length es → last ≤ nth es i .place
-rising [] i deep d last held s h = absurd (omega arith)
-rising (e ∷ es) zero deep d last held s h = stands deep d last held e es s .rising
-rising (e ∷ es) (suc i) deep d last held s h =
-    omega (arith, stands deep d last held e es s .rising, rising es i deep d (e .place) (after e (e .name) held) (sound-rest deep d last held e es s) (omega arith))
+rising : (es : List Event) (e : Event) (rest : List Event) (deep d last : ℕ) (held : List ℕ) → soundFrom deep d last held (es ++ (e ∷ rest)) ≡ true → last ≤ e .place
+rising [] e rest deep d last held s = stands deep d last held e rest s .rising
+rising (x ∷ es) e rest deep d last held s =
+    omega (arith, stands deep d last held x (es ++ (e ∷ rest)) s .rising, rising es e rest deep d (x .place) (after x (x .name) held) (sound-rest deep d last held x (es ++ (e ∷ rest)) s))
 
--- an event of a sound list lies within the document
-below-end : (us : List Event) (b : Event) (zs rest : List Event) (deep d last : ℕ) (held : List ℕ) → soundFrom deep d last held ((us ++ (b ∷ zs)) ++ rest) ≡ true → b .place ≤ d
-below-end us b zs rest deep d last held s =
-    let s₁ : soundFrom deep d last held (us ++ (b ∷ (zs ++ rest))) ≡ true = rw (append-assoc us (b ∷ zs) rest) at s in
-    stands deep d (lastPlace last us) (openNames held us) b (zs ++ rest) (sound-behind us (b ∷ (zs ++ rest)) deep d last held s₁) .inside
+-- a text: four events where there were leaf pairs, of which the first is entered at `from` and the last left at `to`
+module _ (xs ws us zs rest : List Event) (name from q last to deep d begin : ℕ) (es : List Event) (held : List ℕ) where
+  round-sound : ws ≡ enter name from ∷ exit name q ∷ es → ws ≡ us ++ (exit last to ∷ []) → leaves xs ≡ true → leaves ws ≡ true → leaves zs ≡ true →
+      soundFrom deep d begin held ((xs ++ (ws ++ zs)) ++ rest) ≡ true → (r : List Event) → soundFrom (deep + 1) d (lastPlace begin (xs ++ (ws ++ zs))) held r ≡ true →
+      soundFrom (deep + 1) d begin held ((xs ++ (textRound from to ++ zs)) ++ r) ≡ true
+  round-sound first end lx lw lz s r t =
+      let s₁ : soundFrom deep d begin held (xs ++ (ws ++ (zs ++ rest))) ≡ true =
+      ap (soundFrom deep d begin held) (sym (append-assoc xs (ws ++ zs) rest ∙ ap (λ (l : List Event). xs ++ l) (append-assoc ws zs rest))) ∙ s
+      in
+      let s₂ : soundFrom deep d (lastPlace begin xs) held (ws ++ (zs ++ rest)) ≡ true =
+      rw (leaves-open xs held lx) at (sound-behind xs (ws ++ (zs ++ rest)) deep d begin held s₁)
+      in
+      let s₃ : soundFrom deep d (lastPlace begin xs) held (enter name from ∷ ((exit name q ∷ es) ++ (zs ++ rest))) ≡ true = rw first at s₂ in
+      let st = stands deep d (lastPlace begin xs) held (enter name from) ((exit name q ∷ es) ++ (zs ++ rest)) s₃ in
+      let ends : lastPlace (lastPlace begin xs) ws ≡ to = ap (lastPlace (lastPlace begin xs)) end ∙ place-snoc us (exit last to) (lastPlace begin xs) in
+      let s₄ : soundFrom deep d to held (zs ++ rest) ≡ true =
+      rw (ends, leaves-open ws held lw) at (sound-behind ws (zs ++ rest) deep d (lastPlace begin xs) held s₂)
+      in
+      let s₅ : soundFrom deep d (lastPlace begin xs) held (us ++ (exit last to ∷ (zs ++ rest))) ≡ true =
+      rw (append-assoc us (exit last to ∷ []) (zs ++ rest)) at (ap (λ (l : List Event). soundFrom deep d (lastPlace begin xs) held (l ++ (zs ++ rest))) (sym end) ∙ s₂)
+      in
+      let inside : to ≤ d =
+      stands deep d (lastPlace (lastPlace begin xs) us) (openNames held us) (exit last to) (zs ++ rest)
+      (sound-behind us (exit last to ∷ (zs ++ rest)) deep d (lastPlace begin xs) held s₅) .inside
+      in
+      let after-first = sound-rest deep d (lastPlace begin xs) held (enter name from) ((exit name q ∷ es) ++ (zs ++ rest)) s₃ in
+      let order : from ≤ to = text-rises first end after-first in
+      let place : lastPlace begin (xs ++ (ws ++ zs)) ≡ lastPlace to zs =
+      place-append xs (ws ++ zs) begin ∙ place-append ws zs (lastPlace begin xs) ∙ ap (λ (m : ℕ). lastPlace m zs) ends
+      in
+      let t₁ : soundFrom (deep + 1) d to held (zs ++ r) ≡ true = sound-front zs rest r deep d to held s₄ (rw (leaves-open zs held lz, ← place) t) in
+      let room : length held < deep = st .room refl in
+      let t₂ = sound-exit (deep + 1) d to held (exit 13 to) (zs ++ r) refl (omega arith) inside (omega arith) t₁ in
+      let t₃ = sound-exit (deep + 1) d from (13 ∷ held) (exit 0 to) (exit 13 to ∷ (zs ++ r)) refl (omega arith) inside order t₂ in
+      let t₄ = sound-enter (deep + 1) d from (13 ∷ held) (enter 0 from) (exit 0 to ∷ exit 13 to ∷ (zs ++ r)) refl (omega arith) (st .inside) (omega arith) (omega arith) t₃ in
+      let t₅ = sound-enter (deep + 1) d (lastPlace begin xs) held (enter 13 from) (enter 0 from ∷ exit 0 to ∷ exit 13 to ∷ (zs ++ r)) refl (omega arith) (st .inside) (st .rising) (omega arith) t₄ in
+      rw (append-assoc xs (textRound from to ++ zs) r)
+      (sound-front xs (ws ++ (zs ++ rest)) (textRound from to ++ (zs ++ r)) deep d begin held s₁ (rw (leaves-open xs held lx) t₅))
+    where
+      text-rises : ws ≡ enter name from ∷ exit name q ∷ es → ws ≡ us ++ (exit last to ∷ []) →
+          soundFrom deep d from (after (enter name from) name held) ((exit name q ∷ es) ++ (zs ++ rest)) ≡ true → from ≤ to
+      text-rises f e a = go us (sym f ∙ e)
+        where
+          go : (vs : List Event) → enter name from ∷ exit name q ∷ es ≡ vs ++ (exit last to ∷ []) → from ≤ to
+          go [] k = let z : _≡_ {A = ℕ} 0 1 = ap kindOf k in absurd (omega arith)
+          go (v ∷ vs) k =
+              let tail : exit name q ∷ es ≡ vs ++ (exit last to ∷ []) = ap tailOf k in
+              rising vs (exit last to) (zs ++ rest) deep d from (after (enter name from) name held)
+              (ap (soundFrom deep d from (after (enter name from) name held)) (sym (ap (λ (l : List Event). l ++ (zs ++ rest)) tail ∙ append-assoc vs (exit last to ∷ []) (zs ++ rest))) ∙ a)
 
--- the text of a heading: four events where there were the first Data, the last Data and what lay between
-module _ (xs ms us zs rest : List Event) (a b : Event) (deep d last : ℕ) (held : List ℕ) where
-  round-sound : a .kind ≡ 0 → b .kind ≡ 1 → leaves (xs ++ (a ∷ ms)) ≡ true → xs ++ (a ∷ ms) ≡ us ++ (b ∷ zs) →
-      a .place ≤ b .place → soundFrom deep d last held (xs ++ (a ∷ ms) ++ rest) ≡ true → (r : List Event) →
-      soundFrom (deep + 1) d (lastPlace last (xs ++ (a ∷ ms))) held r ≡ true →
-      soundFrom (deep + 1) d last held (xs ++ textRound (a .place) (b .place) ++ zs ++ r) ≡ true
-  round-sound ka kb q e p s r t =
-      let front : leaves xs ≡ true = leaves-front xs a ms q ka in
-      let parts = leaves-through us b zs (ap leaves (sym e) ∙ q) kb in
-      let s₁ : soundFrom deep d last held (xs ++ (a ∷ (ms ++ rest))) ≡ true = rw (append-assoc xs (a ∷ ms) rest) at s in
-      let s₂ : soundFrom deep d (lastPlace last xs) held (a ∷ (ms ++ rest)) ≡ true = rw (leaves-open xs held front) at (sound-behind xs (a ∷ (ms ++ rest)) deep d last held s₁) in
-      let st = stands deep d (lastPlace last xs) held a (ms ++ rest) s₂ in
-      let es : us ++ (b ∷ []) ++ (zs ++ rest) ≡ xs ++ (a ∷ ms) ++ rest = sym (append-assoc (us ++ (b ∷ [])) zs rest) ∙ ap (λ (l : List Event). l ++ rest) (append-assoc us (b ∷ []) zs ∙ sym e) in
-      let s₃ : soundFrom deep d (b .place) held (zs ++ rest) ≡ true =
-      rw (place-snoc us b last, leaves-open (us ++ (b ∷ [])) held (parts .0)) at
-      (sound-behind (us ++ (b ∷ [])) (zs ++ rest) deep d last held (ap (λ (l : List Event). soundFrom deep d last held l) es ∙ s)) in
-      let bp : b .place ≤ d = omega (arith, below-end us b zs rest deep d last held (ap (λ (l : List Event). soundFrom deep d last held (l ++ rest)) (sym e) ∙ s)) in
-      let pl : lastPlace (b .place) zs ≡ lastPlace last (xs ++ (a ∷ ms)) =
-      ap (λ (m : ℕ). lastPlace m zs) (sym (place-snoc us b last)) ∙ sym (place-append (us ++ (b ∷ [])) zs last) ∙ ap (lastPlace last) (append-assoc us (b ∷ []) zs ∙ sym e) in
-      let t₁ : soundFrom (deep + 1) d (b .place) held (zs ++ r) ≡ true =
-      sound-front zs rest r deep d (b .place) held s₃ (rw (leaves-open zs held (parts .1), pl) t) in
-      let room : length held < deep = st .room ka in
-      let t₂ = sound-exit (deep + 1) d (b .place) held (exit 13 (b .place)) (zs ++ r) refl (omega arith) bp (omega arith) t₁ in
-      let t₃ = sound-exit (deep + 1) d (a .place) (13 ∷ held) (exit 0 (b .place)) (exit 13 (b .place) ∷ (zs ++ r)) refl (omega arith) bp p t₂ in
-      let t₄ = sound-enter (deep + 1) d (a .place) (13 ∷ held) (enter 0 (a .place)) (exit 0 (b .place) ∷ exit 13 (b .place) ∷ (zs ++ r)) refl (omega arith) (st .inside) (omega arith) (omega arith) t₃ in
-      let t₅ = sound-enter (deep + 1) d (lastPlace last xs) held (enter 13 (a .place)) (enter 0 (a .place) ∷ exit 0 (b .place) ∷ exit 13 (b .place) ∷ (zs ++ r)) refl (omega arith) (st .inside) (st .rising) (omega arith) t₄ in
-      rw (append-assoc (xs ++ textRound (a .place) (b .place)) zs r, append-assoc xs (textRound (a .place) (b .place)) (zs ++ r))
-      (sound-front xs (a ∷ (ms ++ rest)) (textRound (a .place) (b .place) ++ (zs ++ r)) deep d last held s₁ (rw (leaves-open xs held front) t₅))
-
--- of two inner events the later lies no further in front
-between : (inner rest : List Event) (i j deep d last : ℕ) (held : List ℕ) → i < j → j < length inner → soundFrom deep d last held (inner ++ rest) ≡ true →
-    nth inner i .place ≤ nth inner j .place
-between [] rest i j deep d last held l h s = absurd (omega arith)
-between (e ∷ es) rest zero zero deep d last held l h s = absurd (omega arith)
-between (e ∷ es) rest zero (suc j) deep d last held l h s =
-    let r = rising (es ++ rest) j deep d (e .place) (after e (e .name) held) (sound-rest deep d last held e (es ++ rest) s) (omega (arith, length-append es rest)) in
-    rw (List·getD-append es rest (event 0 0 0) j (omega arith)) at r
-between (e ∷ es) rest (suc i) zero deep d last held l h s = absurd (omega arith)
-between (e ∷ es) rest (suc i) (suc j) deep d last held l h s =
-    between es rest i j deep d (e .place) (after e (e .name) held) (omega arith) (omega arith) (sound-rest deep d last held e (es ++ rest) s)
-
--- a heading's inner events, with their text
-text-sound : (inner rest : List Event) (deep d last : ℕ) (held : List ℕ) → leaves inner ≡ true → soundFrom deep d last held (inner ++ rest) ≡ true → (r : List Event) →
-    soundFrom (deep + 1) d (lastPlace last inner) held r ≡ true → soundFrom (deep + 1) d last held (withText inner ++ r) ≡ true
-unfolding withText choose
-text-sound inner rest deep d last held q s r t = go (eqb (beforeFirst (isOf 0 0) inner) (length inner)) refl
-  where
-    go : (b : Bool) → eqb (beforeFirst (isOf 0 0) inner) (length inner) ≡ b → soundFrom (deep + 1) d last held (withText inner ++ r) ≡ true
-    go true e = rw e (sound-front inner rest r deep d last held s (rw (leaves-open inner held q) t))
-    go false e =
-        let ne : beforeFirst (isOf 0 0) inner ≡ length inner → ⊥ = eqb-false _ _ e in
-        let ends = data-ends inner q ne in
-        let le = through-le (isOf 1 0) inner in
-        let a = nth inner (beforeFirst (isOf 0 0) inner) in
-        let b = nth inner (throughLast (isOf 1 0) inner - 1) in
-        let xs : List Event = take (beforeFirst (isOf 0 0) inner) inner in
-        let ms : List Event = drop (suc (beforeFirst (isOf 0 0) inner)) inner in
-        let us : List Event = take (throughLast (isOf 1 0) inner - 1) inner in
-        let oa = of-is 0 0 a (before-is (isOf 0 0) inner (omega arith)) in
-        let ob = of-is 1 0 b (last-is (isOf 1 0) inner (omega arith)) in
-        let ea : inner ≡ xs ++ (a ∷ ms) = split-at inner (beforeFirst (isOf 0 0) inner) (event 0 0 0) (omega arith) in
-        let k : suc (throughLast (isOf 1 0) inner - 1) ≡ throughLast (isOf 1 0) inner = omega arith in
-        let eb : inner ≡ us ++ (b ∷ drop (throughLast (isOf 1 0) inner) inner) =
-        split-at inner (throughLast (isOf 1 0) inner - 1) (event 0 0 0) (omega arith) ∙ ap (λ (m : ℕ). us ++ (b ∷ drop m inner)) k in
-        let p : a .place ≤ b .place = between inner rest (beforeFirst (isOf 0 0) inner) (throughLast (isOf 1 0) inner - 1) deep d last held (omega arith) (omega arith) s in
-        rw e
-        (round-sound xs ms us (drop (throughLast (isOf 1 0) inner) inner) rest a b deep d last held (oa .0) (ob .0) (ap leaves (sym ea) ∙ q) (sym ea ∙ eb) p
-        (ap (λ (l : List Event). soundFrom deep d last held (l ++ rest)) (sym ea) ∙ s) r (ap (λ (l : List Event). soundFrom (deep + 1) d (lastPlace last l) held r) (sym ea) ∙ t))
+-- a heading's inner events, and what they become
+text-sound : (inner result rest : List Event) (deep d last : ℕ) (held : List ℕ) → Texted inner result → leaves inner ≡ true →
+    soundFrom deep d last held (inner ++ rest) ≡ true → (r : List Event) → soundFrom (deep + 1) d (lastPlace last inner) held r ≡ true →
+    soundFrom (deep + 1) d last held (result ++ r) ≡ true
+text-sound inner result rest deep d last held (text xs es zs name from q end to b w e z) l s r t =
+    let ws : List Event = enter name from ∷ exit name q ∷ es in
+    let k = ended e in
+    round-sound xs ws (k .rest ++ (enter end (k .from) ∷ [])) zs rest name from q end to deep d last es held refl
+    (k .whole ∙ sym (append-assoc (k .rest) (enter end (k .from) ∷ []) (exit end to ∷ [])))
+    (leaves-of (before-pairs b)) (leaves-of (ending-pairs e)) (leaves-of (behind-pairs z)) s r t
+text-sound inner result rest deep d last held (closed xs zs p q b z) l s r t =
+    sound-front inner rest r deep d last held s (rw (leaves-open inner held l) t)
+text-sound inner result rest deep d last held (empty xs b) l s r t = sound-front inner rest r deep d last held s (rw (leaves-open inner held l) t)
 
 at-end : (deep d last : ℕ) (held : List ℕ) → soundFrom deep d last held [] ≡ true → soundFrom (deep + 1) d last held [] ≡ true
 unfolding soundFrom
@@ -213,7 +186,7 @@ sounding (suc m) (e ∷ es) i rs deep d last held l s q =
         let s₂ : soundFrom deep d (lastPlace (e .place) (innerOf es)) held′ (drop n es) ≡ true =
         rw (leaves-open (innerOf es) held′ lv) at (sound-behind (innerOf es) (drop n es) deep d (e .place) held′ s₁) in
         let t = more n (i + 1 + n) (lastPlace (e .place) (innerOf es)) held′ (omega (arith, length-drop n es)) s₂ (sym (heading-passed e es z i (gives rs) sh) ∙ q) in
-        let t₁ = text-sound (innerOf es) (drop n es) deep d (e .place) held′ lv s₁ (resolvedFrom 0 (drop n es)) t in
+        let t₁ = text-sound (innerOf es) (withText (innerOf es)) (drop n es) deep d (e .place) held′ (texted (innerOf es) sh) lv s₁ (resolvedFrom 0 (drop n es)) t in
         ap (soundFrom (deep + 1) d last held) (heading-resolved e es z)
         ∙ one-front e es (withText (innerOf es) ++ resolvedFrom 0 (drop n es)) deep d last held s t₁
 

@@ -10,7 +10,7 @@ use Rattle.record.specs.Choice.{choose}
 use Rattle.record.specs.Event.{eventAt, eventsAt}
 use Rattle.record.specs.declared.event.Event.{Event}
 use Rattle.record.proofs.Sections.{length-eventsAt}
-use Rattle.heading.specs.Headings.{isOf, beforeFirst, throughLast}
+use Rattle.heading.specs.Headings.{beforeFirst, throughLast}
 use Rattle.heading.proofs.Lists.{events-step, events-none, events-last}
 
 pub before-le : (is : Event → Bool) (es : List Event) → beforeFirst is es ≤ length es

@@ -1,4 +1,4 @@
--- What the heading resolver makes of a list of events: document 01's section "Heading and list resolvers", its two sentences on headings.
+-- What the heading resolver makes of a list of events: document 01's section "Heading and list resolvers", its sentences on headings.
 -- The shape rule makes a heading flat, so that its inner events are those up to the next exit of a heading.
 -- Assumes nothing.
 use Prim.Native.Nat.{ℕ, zero, suc, _+_, _-_}
@@ -54,21 +54,53 @@ headed es = choose (startsWith 14 es) (startsWith 12 (drop 2 es)) (startsWith 12
 unfoldable pub shaped : List Event → Bool
 shaped inner = and (headed inner) (leaves inner)
 
--- "Text (13) goes round the first Data's enter and the last Data's exit": a text from one place to another, with one Data pair in it
+-- The text rule, of a heading's inner events. CommonMark 0.31 §4.2: "a string of characters, parsed as inline content, between an opening sequence of
+-- 1–6 unescaped `#` characters and an optional closing sequence of any number of unescaped `#` characters"; "The raw contents of the heading are
+-- stripped of leading and trailing space or tabs". The rule goes by names in their order, in records that no line makes too (`by-names` in
+-- specs/Cases.antt); that it is the standard's on those of a line is proved in `claims`. specs/Text.antt says it a second time, as what such events look like.
+
+-- "after the opening run": how many events stand up to its end, with the 14 that may be in front of it
+unfoldable pub throughOpening : List Event → ℕ
+throughOpening inner = choose (startsWith 14 inner) 4 2
+
+-- "Data or `#` run"
+unfoldable pub isDataOrRun : Event → Bool
+isDataOrRun e = choose (eqb (e .name) 0) true (eqb (e .name) 12)
+
+-- "Text (13) goes from the first Data or `#` run after the opening run": how many events stand before it
+unfoldable pub beforeText : List Event → ℕ
+beforeText inner = throughOpening inner + beforeFirst isDataOrRun (drop (throughOpening inner) inner)
+
+-- "to the last Data or `#` run": some events up to that
+unfoldable pub toLast : List Event → List Event
+toLast es = take (throughLast isDataOrRun es) es
+
+-- "but a `#` run that is the last thing other than space or tab is the closing run and stays out": how many of some events stand before it, where
+-- nothing stands behind it
+unfoldable pub beforeClosing : List Event → ℕ
+beforeClosing es = choose (startsWith 12 (reverse es)) (length es - 2) (length es)
+
+unfoldable pub withoutClosing : List Event → List Event
+withoutClosing es = take (beforeClosing es) es
+
+-- the events of the text, and how many stand up to its end
+unfoldable pub textEvents : List Event → List Event
+textEvents inner = toLast (withoutClosing (toLast (drop (beforeText inner) inner)))
+
+unfoldable pub throughText : List Event → ℕ
+throughText inner = beforeText inner + length (textEvents inner)
+
+-- "One Data pair is left inside the text."
 abbrev pub textRound : ℕ → ℕ → List Event
 textRound from to = enter 13 from ∷ enter 0 from ∷ exit 0 to ∷ exit 13 to ∷ []
 
--- "all events between these two go. No Data: unchanged." The text rule, of a heading's inner events.
--- CommonMark 0.31 §4.2 has only the closing sequence go: "The optional closing sequence of #s must be preceded by spaces or tabs and may be
--- followed by spaces or tabs only." Amendments D10 and D11: a `#` run before the first Data or after the last one is no part of the text; D17: where
--- there is no Data, there is none. `standardText` in specs/Standard.antt is the standard's.
+-- the text in place of its events. "No text left: unchanged."
 unfoldable pub withText : List Event → List Event
 withText inner =
-    choose (eqb (beforeFirst (isOf 0 0) inner) (length inner))
+    choose (eqb (beforeText inner) (throughText inner))
     inner
-    (take (beforeFirst (isOf 0 0) inner) inner
-    ++ textRound (nth inner (beforeFirst (isOf 0 0) inner) .place) (nth inner (throughLast (isOf 1 0) inner - 1) .place)
-    ++ drop (throughLast (isOf 1 0) inner) inner)
+    (take (beforeText inner) inner
+    ++ (textRound (nth inner (beforeText inner) .place) (nth inner (throughText inner - 1) .place) ++ drop (throughText inner) inner))
 
 -- the events of the result: each heading's inner events get their text, all others stay; the first k events are inner events that have got it
 unfoldable pub resolvedFrom : ℕ → List Event → List Event

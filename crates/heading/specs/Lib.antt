@@ -1,5 +1,5 @@
 pub mod Headings
-pub mod Standard
+pub mod Text
 pub mod Steps
 pub mod Promise
 pub mod Cases

@@ -11,9 +11,12 @@ use Rattle.record.specs.Stack.{nth}
 use Rattle.record.specs.declared.event.Event.{Event}
 
 -- "leaf pairs of 0, 12, 14"
+abbrev pub LeafName : ℕ → Type 0
+LeafName name = (name ≡ 0) ⊎ (name ≡ 12) ⊎ (name ≡ 14)
+
 pub data Pairs : List Event → Type 0 where
   none : Pairs []
-  pair : {name p q : ℕ} {es : List Event} → (name ≡ 0) ⊎ (name ≡ 12) ⊎ (name ≡ 14) → Pairs es → Pairs (enter name p ∷ exit name q ∷ es)
+  pair : {name p q : ℕ} {es : List Event} → LeafName name → Pairs es → Pairs (enter name p ∷ exit name q ∷ es)
 
 -- "beginning with at most one 14 and then a 12"
 pub data Shape : List Event → Type 0 where

@@ -1,11 +1,11 @@
 // The first pass: is every heading of the right shape, and how many events will the result have?
 
+use crate::seek::Sought;
 use crate::seek::before_first;
 use crate::seek::is_of;
 use crate::shape::is_shaped;
-use crate::text::text_size;
+use crate::text::inner_size;
 use record::limits::ENTER;
-use record::limits::EXIT;
 use record::limits::HEADING;
 ghost use mathlib.Core.Path.{_≡_};
 ghost use Prim.Native.Nat.{_+_, _*_, _≤_};
@@ -36,11 +36,11 @@ pub fn judge(s: &[u8], from: usize, e: usize) -> Judged
             continue;
         }
         let inside = at + 8;
-        let n = before_first(s, inside, e - i - 1, EXIT, HEADING);
+        let n = before_first(s, inside, e - i - 1, Sought::HeadingExit);
         if !is_shaped(s, inside, n) {
             return Judged::Offends(i);
         }
-        size += 1 + text_size(s, inside, n);
+        size += 1 + inner_size(s, inside, n);
         at = inside + 8 * n;
         i += 1 + n;
     }

@@ -1,5 +1,7 @@
-// The text rule: Text (13) goes round the first Data's enter and the last Data's exit, and all events between these two go.
+// The text rule: Text (13) goes from the first Data or `#` run after the opening run to the last, and a `#` run that closes the heading stays out. All
+// that lies in the text goes, but for one Data pair.
 
+use crate::seek::Sought;
 use crate::seek::before_first;
 use crate::seek::through_last;
 use record::bytes::u32_at;
@@ -8,44 +10,78 @@ use record::event::put_event;
 use record::limits::DATA;
 use record::limits::ENTER;
 use record::limits::EXIT;
+use record::limits::HEADING_SEQUENCE;
 use record::limits::HEADING_TEXT;
+use record::limits::SPACE_OR_TAB;
 ghost use mathlib.Core.Path.{_≡_};
 ghost use Prim.Native.Nat.{_+_, _*_, _≤_};
 ghost use mathlib.Core.Bool.{true};
 ghost use lib.ListN.{length};
 ghost use Rattle.record.specs.Bytes.{Wrote};
-ghost use Rattle.record.specs.Event.{flat, eventAt, eventsAt};
-ghost use Rattle.heading.specs.Headings.{leaves, textRound, withText};
+ghost use Rattle.record.specs.Event.{flat, eventsAt};
+ghost use Rattle.heading.specs.Headings.{shaped, throughOpening, beforeClosing, textRound, withText};
 ghost use Rattle.heading.specs.Steps.{Ends};
 
-// Where a text lies among a heading's inner events: how many stand before it, and how many up to its end. Where there is none, all stand
-// before it.
+// Where a text lies among a heading's inner events: how many stand before it, and how many up to its end. Where there is none, these are the same.
 pub struct Text {
     pub before: usize,
     pub through: usize,
 }
 
-// The text of a heading's n inner events: from the first Data's enter to the last Data's exit.
-pub fn text_of(s: &[u8], from: usize, n: usize) -> Text
+// How many of a heading's n inner events stand up to the end of its opening run.
+pub fn through_opening(s: &[u8], from: usize, n: usize) -> usize
+    requires { ⌜ (from + 8 * n ≤ length (now s)) × (shaped (eventsAt n (now s) from) ≡ true) ⌝ }
+    ensures { λ r. ⌜ (r ≡ throughOpening (eventsAt n (now (s .entry)) from)) × (r ≤ n) ⌝ }
+{
+    if s[from + 1] == SPACE_OR_TAB {
+        return 4;
+    }
+    2
+}
+
+// How many of n events stand before a `#` run that is the last of them.
+pub fn before_closing(s: &[u8], from: usize, n: usize) -> usize
     requires { ⌜ from + 8 * n ≤ length (now s) ⌝ }
+    ensures { λ r. ⌜ (r ≡ beforeClosing (eventsAt n (now (s .entry)) from)) × (r ≤ n) ⌝ }
+{
+    if n == 0 {
+        return 0;
+    }
+    if s[from + 8 * n - 7] != HEADING_SEQUENCE {
+        return n;
+    }
+    if n < 2 {
+        return 0;
+    }
+    n - 2
+}
+
+// The text of a heading's n inner events.
+pub fn text_of(s: &[u8], from: usize, n: usize) -> Text
+    requires { ⌜ (from + 8 * n ≤ length (now s)) × (shaped (eventsAt n (now s) from) ≡ true) ⌝ }
     ensures { λ r. ⌜ Ends (eventsAt n (now (s .entry)) from) n (r .before) (r .through) ⌝ }
 {
-    let before = before_first(s, from, n, ENTER, DATA);
-    let through = through_last(s, from, n, EXIT, DATA);
+    let opened = through_opening(s, from, n);
+    let before = opened + before_first(s, from + 8 * opened, n - opened, Sought::DataOrRun);
+    let start = from + 8 * before;
+    let last = through_last(s, start, n - before, Sought::DataOrRun);
+    let unclosed = before_closing(s, start, last);
+    let through = before + through_last(s, start, unclosed, Sought::DataOrRun);
     Text { before, through }
 }
 
 // How many events a heading's n inner events become.
-pub fn text_size(s: &[u8], from: usize, n: usize) -> usize
-    requires { ⌜ (n ≤ 2048) × (from + 8 * n ≤ length (now s)) ⌝ }
-    ensures { λ r. ⌜ (r ≡ length (withText (eventsAt n (now (s .entry)) from))) × (r ≤ 2 * n + 3) ⌝ }
+pub fn inner_size(s: &[u8], from: usize, n: usize) -> usize
+    requires { ⌜ (n ≤ 2048) × (from + 8 * n ≤ length (now s)) × (shaped (eventsAt n (now s) from) ≡ true) ⌝ }
+    ensures { λ r. ⌜ (r ≡ length (withText (eventsAt n (now (s .entry)) from))) × (r ≤ n + 3) ⌝ }
 {
     let text = text_of(s, from, n);
     let before = text.before;
-    if before == n {
+    let through = text.through;
+    if before == through {
         return n;
     }
-    before + 4 + (n - text.through)
+    before + 4 + (n - through)
 }
 
 // Writes a text's four events, from one place of the document to another.
@@ -64,13 +100,13 @@ pub fn put_round(out: &mut [u8], to: usize, from: usize, end: usize)
 
 // Writes what a heading's n inner events become, and gives the place after it.
 pub fn put_inner(out: &mut [u8], to: usize, s: &[u8], from: usize, n: usize) -> usize
-    requires { ⌜ (to + 8 * length (withText (eventsAt n (now s) from)) ≤ length (now out)) × (from + 8 * n ≤ length (now s)) × (leaves (eventsAt n (now s) from) ≡ true) ⌝ }
+    requires { ⌜ (to + 8 * length (withText (eventsAt n (now s) from)) ≤ length (now out)) × (from + 8 * n ≤ length (now s)) × (shaped (eventsAt n (now s) from) ≡ true) ⌝ }
     ensures { λ r. ⌜ Wrote (now (out .entry)) to (flat (withText (eventsAt n (now (s .entry)) from))) (now (out .exit)) × (r ≡ to + 8 * length (withText (eventsAt n (now (s .entry)) from))) ⌝ }
 {
     let found = text_of(s, from, n);
     let before = found.before;
     let through = found.through;
-    if before == n {
+    if before == through {
         copy_events(out, to, s, from, n);
         return to + 8 * n;
     }

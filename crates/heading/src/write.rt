@@ -1,11 +1,11 @@
 // The second pass: the events of the result, one after the other.
 
+use crate::seek::Sought;
 use crate::seek::before_first;
 use crate::seek::is_of;
 use crate::text::put_inner;
 use record::event::copy_events;
 use record::limits::ENTER;
-use record::limits::EXIT;
 use record::limits::HEADING;
 ghost use mathlib.Core.Path.{_≡_};
 ghost use Prim.Native.Nat.{_+_, _*_, _≤_};
@@ -33,7 +33,7 @@ pub fn put_resolved(out: &mut [u8], to: usize, s: &[u8], from: usize, e: usize)
             i += 1;
             continue;
         }
-        let n = before_first(s, inside, left, EXIT, HEADING);
+        let n = before_first(s, inside, left, Sought::HeadingExit);
         next = put_inner(out, next, s, inside, n);
         at = inside + 8 * n;
         i += 1 + n;

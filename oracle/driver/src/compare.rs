@@ -1,9 +1,10 @@
-//! One question put to all: the library, document 01, and the crate where it has an answer.
+//! One question put to all: the library, document 01, the crate where it has an answer that counts, and the standard on the content of a heading.
 
 use std::fmt;
 use std::panic::{catch_unwind, AssertUnwindSafe};
 
 use crate::answer::{show_answer, Answer, Call, Question};
+use crate::content;
 use crate::domain;
 use crate::library::{self, Lent, OUTPUT, WORK};
 use crate::paper;
@@ -42,6 +43,8 @@ pub struct Bench {
 enum Word {
     Says(Answer),
     Outside(&'static str),
+    /// Its rule is not the library's here, so that its answer does not count.
+    Departs(&'static str),
     Panics,
 }
 
@@ -169,6 +172,26 @@ fn depth_of(events: &[Event]) -> usize {
     most
 }
 
+/// The line that a heading was read from: its bytes, if these events are what the reader makes of them.
+fn line_read<'a>(document: &'a [u8], heading: &[Event]) -> Option<&'a [u8]> {
+    let (from, to) = (heading.first()?.place, heading.last()?.place);
+    let line = &document[from as usize..to as usize];
+    // The option for headings alone: indentation is free then.
+    let question = Question { call: Call::Heading, input: line.to_vec(), options: 8, arguments: [0; 3] };
+    let moved: Vec<Event> = heading.iter().map(|event| Event { place: event.place - from, ..*event }).collect();
+    let mut section = vec![];
+    crate_side::write_section(&moved, &mut section);
+    (paper::answer(&question, OUTPUT, WORK).section == section).then_some(line)
+}
+
+/// The events of a heading's text, from the first of that name to the last.
+fn text_in(heading: &[Event]) -> &[Event] {
+    let named = |event: &Event| event.name == 13;
+    let first = heading.iter().position(named).unwrap_or(heading.len());
+    let end = heading.iter().rposition(named).map_or(heading.len(), |last| last + 1);
+    &heading[first..end]
+}
+
 fn takes_record(call: Call) -> bool {
     matches!(call, Call::Read | Call::Attention | Call::Headings | Call::Lists)
 }
@@ -187,13 +210,20 @@ impl Bench {
         &self.settings[options as usize & 63]
     }
 
-    /// What the crate says to a question that document 01 answers like this.
-    fn ask_crate(&self, question: &Question, paper: &Answer) -> Word {
+    /// What the crate says to a question that document 01 answers like this. `known` is its answer where it was seen at work.
+    fn ask_crate(&self, question: &Question, paper: &Answer, known: Option<Answer>) -> Word {
         let settings = self.settings(question.options);
         if takes_record(question.call) {
             let (document, before) = parts_of(&question.input);
             if let Some(reason) = domain::document_outside(document) {
                 return Word::Outside(reason);
+            }
+            if let Some(reason) = domain::departs(question.call, &before) {
+                return Word::Departs(reason);
+            }
+            if let Some(mut answer) = known {
+                answer.numbers[4] = paper.numbers[4];
+                return Word::Says(answer);
             }
             let run = || crate_side::resolve(resolver_of(question.call), document, &before, settings);
             return catch_unwind(AssertUnwindSafe(run))
@@ -242,13 +272,10 @@ impl Bench {
         if question.call == Call::Read {
             return;
         }
-        let word = known.map_or_else(
-            || self.ask_crate(question, &paper),
-            |mut answer| {
-                answer.numbers[4] = paper.numbers[4];
-                Word::Says(answer)
-            },
-        );
+        if question.call == Call::Headings {
+            self.hold_contents(question, source, &ours, document);
+        }
+        let word = self.ask_crate(question, &paper, known);
         if let Word::Says(_) = word {
             *self.tally.answered.entry(question.call).or_default() += 1;
         }
@@ -262,7 +289,29 @@ impl Bench {
                 *self.tally.skipped.entry((question.call, reason)).or_default() += 1;
                 *self.tally.compared.entry((question.call, source)).or_default() -= 1;
             }
+            Word::Departs(reason) => *self.tally.skipped.entry((question.call, reason)).or_default() += 1,
             Word::Panics => *self.tally.panics.entry((question.call, source)).or_default() += 1,
+        }
+    }
+
+    /// Hold what the library makes of a record's headings against the standard: a text with one Data pair in it goes round the content of the
+    /// line, or there is neither.
+    fn hold_contents(&mut self, question: &Question, source: Source, ours: &Answer, document: Option<Markdown>) {
+        let (bytes, before) = parts_of(&question.input);
+        let after = if ours.numbers[0] == 0 { crate_side::read_section(&ours.section) } else { vec![] };
+        let mut resolved = domain::headings_in(&after);
+        for heading in domain::headings_in(&before) {
+            let text = resolved.next().map(text_in);
+            let Some(line) = line_read(bytes, heading) else { continue };
+            let content = content::content_of(line);
+            let round = [(false, 13, content.start), (false, 0, content.start), (true, 0, content.end), (true, 13, content.end)];
+            let round = round.map(|(exit, name, at)| Event { exit, name, place: heading[0].place + at as u32 });
+            self.tally.contents += 1;
+            self.tally.contents_with_runs += u64::from(domain::departs(Call::Headings, heading).is_some());
+            if text != Some(if content.is_empty() { &[] } else { &round }) {
+                let it = format!("standard: the content of \"{}\" is \"{}\"", line.escape_ascii(), line[content].escape_ascii());
+                return self.differ("not as the standard's content", question, source, &show_answer(question.call, ours), &it, document);
+            }
         }
     }
 
@@ -274,8 +323,9 @@ impl Bench {
     fn ask_known(&mut self, question: &Question, source: Source, known: Option<Answer>, document: Option<Markdown>) {
         let turn = turn_of(question);
         let length = match &known {
-            Some(answer) => answer.section.len(),
-            None => paper::answer(question, OUTPUT, WORK).section.len(),
+            // The library's section is as long as the crate's, but for headings.
+            Some(answer) if question.call != Call::Headings => answer.section.len(),
+            _ => paper::answer(question, OUTPUT, WORK).section.len(),
         };
         let exact = length.min(OUTPUT);
         let (output, work) = match turn % 32 {

@@ -1,5 +1,5 @@
 //! Holds the static library against the crate markdown 1.0.0, both against document 01 in plain Rust, and the library's headings against the
-//! standard's examples.
+//! standard: the content of their lines, and its examples.
 //!
 //! `oracle/run` builds and runs it. Arguments: `--markdown DIR` (as often as wanted) adds Markdown files and the standard's examples, `--scale N`
 //! divides the counts by N for a short run, `--differences FILE` names the list of known ones, `--store FILE` writes the stored list of the crate's
@@ -8,6 +8,7 @@
 mod answer;
 mod chance;
 mod compare;
+mod content;
 mod damage;
 mod departures;
 mod documents;

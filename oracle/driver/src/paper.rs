@@ -1,7 +1,7 @@
 //! Document 01 in plain Rust: every call as its paragraphs say it, with lists and searches and no thought of speed.
 //!
-//! It is code of its own, apart from both sides that are compared; whoever wrote it had read the crate's source. It says which refusal a record gets, which the crate cannot
-//! say, and how many candidates are tried, which the crate does not count.
+//! It is code of its own, apart from both sides that are compared; whoever wrote it had read the crate's source. It says which refusal a record gets,
+//! which the crate cannot say, and how many candidates are tried, which the crate does not count.
 
 use crate::answer::{Answer, Call, Question};
 
@@ -296,6 +296,19 @@ fn heading_holds(events: &[Event], i: usize) -> bool {
     true
 }
 
+/// Where the text of the heading that enters at `i` goes: from the first Data or `#` run after the opening run to the last Data or `#` run, but a
+/// `#` run that is the last thing other than space or tab is the closing run and stays out. The numbers of an enter and an exit, or none.
+fn text_of(events: &[Event], i: usize) -> Option<(usize, usize)> {
+    let pairs: Vec<usize> = (i + 1..exit_of(events, i)).step_by(2).collect();
+    let things: Vec<usize> = pairs.into_iter().filter(|pair| events[*pair].name != 14).collect();
+    let behind = &things[1..];
+    let text = match behind.split_last() {
+        Some((last, before)) if events[*last].name == 12 => before,
+        _ => behind,
+    };
+    Some((*text.first()?, *text.last()? + 1))
+}
+
 fn headings(good: &Good) -> Result<Vec<Event>, Refused> {
     let events = &good.events;
     let is_heading = |i: usize| events[i].name == 11 && !events[i].exit;
@@ -310,21 +323,21 @@ fn headings(good: &Good) -> Result<Vec<Event>, Refused> {
             i += 1;
             continue;
         }
-        let inside = i..exit_of(events, i) + 1;
-        let first = inside.clone().find(|j| events[*j].name == 0 && !events[*j].exit);
-        let last = inside.clone().rev().find(|j| events[*j].name == 0 && events[*j].exit);
-        i = inside.end;
-        match (first, last) {
-            (Some(first), Some(last)) => {
-                out.extend_from_slice(&events[inside.start..first]);
-                put(&mut out, false, 13, events[first].place);
-                out.push(events[first]);
-                out.push(events[last]);
-                put(&mut out, true, 13, events[last].place);
-                out.extend_from_slice(&events[last + 1..inside.end]);
+        let end = exit_of(events, i) + 1;
+        match text_of(events, i) {
+            Some((first, last)) => {
+                let (from, to) = (events[first].place, events[last].place);
+                out.extend_from_slice(&events[i..first]);
+                // One Data pair is left inside the text.
+                put(&mut out, false, 13, from);
+                put(&mut out, false, 0, from);
+                put(&mut out, true, 0, to);
+                put(&mut out, true, 13, to);
+                out.extend_from_slice(&events[last + 1..end]);
             }
-            _ => out.extend_from_slice(&events[inside]),
+            None => out.extend_from_slice(&events[i..end]),
         }
+        i = end;
     }
     Ok(out)
 }

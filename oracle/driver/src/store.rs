@@ -1,8 +1,8 @@
 //! The stored list: a few thousand questions with the crate's answers, for the program that replays them against this library.
 //!
-//! Every answer is the crate's. Document 01 in plain Rust only says which questions are left out: those that are refused. An entry is numbers of
-//! four bytes, little endian: the call, the options, three arguments, the input's length and its bytes, five numbers of the answer, the section's
-//! length and its bytes.
+//! Every answer is the crate's. Questions are left out that are refused, which document 01 in plain Rust says, that lie outside the domain, or on
+//! which the library departs from the crate. An entry is numbers of four bytes, little endian: the call, the options, three arguments, the input's
+//! length and its bytes, five numbers of the answer, the section's length and its bytes.
 
 use std::collections::BTreeSet;
 use std::panic::{catch_unwind, AssertUnwindSafe};
@@ -219,7 +219,7 @@ fn readers(put: &mut Vec<Question>) {
     }
 }
 
-/// The crate's answer, if the question lies in the domain and is not refused.
+/// The crate's answer, if the question lies in the domain, is not refused, and is the crate's to decide.
 fn crate_answer(question: &Question, settings: &[Settings]) -> Option<Answer> {
     if paper::answer(question, OUTPUT, WORK).numbers[0] != 0 {
         return None;
@@ -228,7 +228,7 @@ fn crate_answer(question: &Question, settings: &[Settings]) -> Option<Answer> {
     match question.call {
         Call::Attention | Call::Headings | Call::Lists => {
             let (document, before) = parts_of(&question.input);
-            if domain::document_outside(document).is_some() {
+            if domain::document_outside(document).or_else(|| domain::departs(question.call, &before)).is_some() {
                 return None;
             }
             let after = crate_side::resolve(resolver_of(question.call), document, &before, settings);

@@ -1,6 +1,7 @@
 //! What was compared, what was not and why, and the smallest input of each kind of difference.
 
 use crate::answer::Call;
+use crate::domain::RUN_AT_END;
 use std::collections::BTreeMap;
 
 /// Where an input comes from.
@@ -35,6 +36,9 @@ pub struct Tally {
     /// Refusals, which only document 01 can say.
     pub refused: BTreeMap<(Call, usize), u64>,
     pub skipped: BTreeMap<(Call, &'static str), u64>,
+    /// How many headings were held against the standard's content, and how many of them the crate does not decide.
+    pub contents: u64,
+    pub contents_with_runs: u64,
     pub panics: BTreeMap<(Call, Source), u64>,
     pub differences: BTreeMap<String, Difference>,
 }
@@ -62,6 +66,8 @@ impl Tally {
         for (key, count) in other.skipped {
             *self.skipped.entry(key).or_default() += count;
         }
+        self.contents += other.contents;
+        self.contents_with_runs += other.contents_with_runs;
         for (key, count) in other.panics {
             *self.panics.entry(key).or_default() += count;
         }
@@ -90,7 +96,10 @@ impl Tally {
             let cells: Vec<String> = (1..=8).map(|number| self.refused.get(&(call, number)).copied().unwrap_or(0).to_string()).collect();
             println!("| {} | {} |", call.name(), cells.join(" | "));
         }
-        println!("\nNot compared with the crate, by reason.\n");
+        let (contents, with_runs) = (self.contents, self.contents_with_runs);
+        println!("\nHeadings held against the standard's content: {contents}, of them with {RUN_AT_END} {with_runs}.");
+        println!("\nNot compared with the crate, by reason. Those with {RUN_AT_END} are counted above: they are compared with document 01,");
+        println!("and with the content where a line reads so.\n");
         println!("| call | reason | inputs |\n|---|---|---|");
         for ((call, reason), count) in &self.skipped {
             println!("| {} | {} | {} |", call.name(), reason, count);

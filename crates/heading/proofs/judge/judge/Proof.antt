@@ -54,8 +54,10 @@ is-shaped-requires c κs = search needs
 returns : tie.Need-returns Inv-loop μ-loop
 returns c = judging-refused (c .before .before .before .before .before .before .loop .inv) (c .before .before .before .before .before .loop-test .taken) _ (sym (c .before .before .before .before .is-of .ensures) ∙ not-false (c .before .before .before .before .is-of .result) (c .before .before .before .if1 .left)) (c .before .before .before-first .ensures .0) (c .before .before .before-first .ensures .1) (sym (c .before .is-shaped .ensures) ∙ not-true (c .before .is-shaped .result) (c .if2 .taken))
 
-text-size-requires : tie.Need-text-size-requires Inv-loop μ-loop
-text-size-requires c κs = search needs
+inner-size-requires : tie.Need-inner-size-requires Inv-loop μ-loop
+inner-size-requires c κs =
+    let q = sym (c .before .is-shaped .ensures) ∙ not-false (c .before .is-shaped .result) (c .if2 .left) in
+    search needs
 
 add-size-2 : tie.Need-add-size-2 Inv-loop μ-loop
 add-size-2 c = search needs
@@ -79,7 +81,7 @@ loop-less-2 : tie.Need-loop-less-2 Inv-loop μ-loop
 loop-less-2 c = search needs
 
 loop-again-2 : tie.Need-loop-again-2 Inv-loop μ-loop
-loop-again-2 c = judging-heading (c .before .before .before .before .before .before .before .loop .inv) (c .before .before .before .before .before .before .loop-test .taken) _ (sym (c .before .before .before .before .before .is-of .ensures) ∙ not-false (c .before .before .before .before .before .is-of .result) (c .before .before .before .before .if1 .left)) (c .before .before .before .before-first .ensures .0) (c .before .before .before .before-first .ensures .1) _ (sym (c .before .before .is-shaped .ensures) ∙ not-false (c .before .before .is-shaped .result) (c .before .if2 .left)) (c .text-size .ensures .0) (c .text-size .ensures .1)
+loop-again-2 c = judging-heading (c .before .before .before .before .before .before .before .loop .inv) (c .before .before .before .before .before .before .loop-test .taken) _ (sym (c .before .before .before .before .before .is-of .ensures) ∙ not-false (c .before .before .before .before .before .is-of .result) (c .before .before .before .before .if1 .left)) (c .before .before .before .before-first .ensures .0) (c .before .before .before .before-first .ensures .1) _ (sym (c .before .before .is-shaped .ensures) ∙ not-false (c .before .before .is-shaped .result) (c .before .if2 .left)) (c .inner-size .ensures .0) (c .inner-size .ensures .1)
 
 returns-2 : tie.Need-returns-2 Inv-loop μ-loop
 returns-2 c = judging-done (c .before .loop .inv) (c .loop-test .left)
@@ -103,7 +105,7 @@ judge-spec =
     before-first-requires
     is-shaped-requires
     returns
-    text-size-requires
+    inner-size-requires
     add-size-2
     add-size-3
     mul-at

@@ -3,26 +3,26 @@
 -- Assumes nothing.
 use Prim.Native.Nat.{_-_}
 use mathlib.Core.Path.{sym, _∙_}
-use Rattle.heading.specs.Headings.{isOf}
+use Rattle.heading.specs.Steps.{soughtBy}
 use Rattle.heading.proofs.Seeking.{Onward, onward-start, onward-found, onward-turn, onward-none}
 use borrow.Author.Needs.{needs}
 use Rattle.heading.proofs.seek.before_first.Statement.{statement}
 use Rattle.heading.proofs.seek.before_first.Tie as tie
 
 abbrev Inv-loop : tie.InvT-loop
-Inv-loop s from n kind name at₀ i₀ at i = Onward s from n (isOf kind name) at i
+Inv-loop s from n what at₀ i₀ at i = Onward s from n (soughtBy what) at i
 
 abbrev μ-loop : tie.MeasureT-loop
-μ-loop s from n kind name at₀ i₀ at i = n - i
+μ-loop s from n what at₀ i₀ at i = n - i
 
 loop-holds : tie.Need-loop-holds Inv-loop μ-loop
 loop-holds c = onward-start _ _ _ _
 
-is-of-requires : tie.Need-is-of-requires Inv-loop μ-loop
-is-of-requires c κs = search needs
+is-sought-requires : tie.Need-is-sought-requires Inv-loop μ-loop
+is-sought-requires c κs = search needs
 
 returns : tie.Need-returns Inv-loop μ-loop
-returns c = onward-found (c .before .before .before .loop .inv) (c .before .before .loop-test .taken) (sym (c .before .is-of .ensures) ∙ c .if1 .taken)
+returns c = onward-found (c .before .before .before .loop .inv) (c .before .before .loop-test .taken) (sym (c .before .is-sought .ensures) ∙ c .if1 .taken)
 
 add-at : tie.Need-add-at Inv-loop μ-loop
 add-at c = search needs
@@ -34,7 +34,7 @@ loop-less : tie.Need-loop-less Inv-loop μ-loop
 loop-less c = search needs
 
 loop-again : tie.Need-loop-again Inv-loop μ-loop
-loop-again c = onward-turn (c .before .before .before .loop .inv) (c .before .before .loop-test .taken) (sym (c .before .is-of .ensures) ∙ c .if1 .left)
+loop-again c = onward-turn (c .before .before .before .loop .inv) (c .before .before .loop-test .taken) (sym (c .before .is-sought .ensures) ∙ c .if1 .left)
 
 returns-2 : tie.Need-returns-2 Inv-loop μ-loop
 returns-2 c = onward-none (c .before .loop .inv) (c .loop-test .left)
@@ -46,7 +46,7 @@ before-first-spec =
     Inv-loop
     μ-loop
     loop-holds
-    is-of-requires
+    is-sought-requires
     returns
     add-at
     add-i

@@ -2,17 +2,17 @@
 -- number.
 -- Assumes nothing.
 use mathlib.Core.Path.{sym, _∙_}
-use Rattle.heading.specs.Headings.{isOf}
+use Rattle.heading.specs.Steps.{soughtBy}
 use Rattle.heading.proofs.Seeking.{Backward, backward-start, backward-found, backward-turn, backward-none}
 use borrow.Author.Needs.{needs}
 use Rattle.heading.proofs.seek.through_last.Statement.{statement}
 use Rattle.heading.proofs.seek.through_last.Tie as tie
 
 abbrev Inv-loop : tie.InvT-loop
-Inv-loop s from n kind name end₀ left₀ end left = Backward s from n (isOf kind name) end left
+Inv-loop s from n what end₀ left₀ end left = Backward s from n (soughtBy what) end left
 
 abbrev μ-loop : tie.MeasureT-loop
-μ-loop s from n kind name end₀ left₀ end left = left
+μ-loop s from n what end₀ left₀ end left = left
 
 mul-end : tie.Need-mul-end Inv-loop μ-loop
 mul-end c = search needs
@@ -23,14 +23,14 @@ add-end c = search needs
 loop-holds : tie.Need-loop-holds Inv-loop μ-loop
 loop-holds c = backward-start _ _ _ _
 
-sub-is-of : tie.Need-sub-is-of Inv-loop μ-loop
-sub-is-of c = search needs
+sub-is-sought : tie.Need-sub-is-sought Inv-loop μ-loop
+sub-is-sought c = search needs
 
-is-of-requires : tie.Need-is-of-requires Inv-loop μ-loop
-is-of-requires c κs = search needs
+is-sought-requires : tie.Need-is-sought-requires Inv-loop μ-loop
+is-sought-requires c κs = search needs
 
 returns : tie.Need-returns Inv-loop μ-loop
-returns c = backward-found (c .before .before .before .loop .inv) (c .before .before .loop-test .taken) (sym (c .before .is-of .ensures) ∙ c .if1 .taken)
+returns c = backward-found (c .before .before .before .loop .inv) (c .before .before .loop-test .taken) (sym (c .before .is-sought .ensures) ∙ c .if1 .taken)
 
 sub-end : tie.Need-sub-end Inv-loop μ-loop
 sub-end c = search needs
@@ -42,7 +42,7 @@ loop-less : tie.Need-loop-less Inv-loop μ-loop
 loop-less c = search needs
 
 loop-again : tie.Need-loop-again Inv-loop μ-loop
-loop-again c = backward-turn (c .before .before .before .loop .inv) (c .before .before .loop-test .taken) (sym (c .before .is-of .ensures) ∙ c .if1 .left)
+loop-again c = backward-turn (c .before .before .before .loop .inv) (c .before .before .loop-test .taken) (sym (c .before .is-sought .ensures) ∙ c .if1 .left)
 
 returns-2 : tie.Need-returns-2 Inv-loop μ-loop
 returns-2 c = backward-none (c .before .loop .inv) (c .loop-test .left)
@@ -56,8 +56,8 @@ through-last-spec =
     mul-end
     add-end
     loop-holds
-    sub-is-of
-    is-of-requires
+    sub-is-sought
+    is-sought-requires
     returns
     sub-end
     sub-left

@@ -1,23 +1,67 @@
--- `heading::text::text_of` meets its contract: each end is what the search for it promises.
+-- `heading::text::text_of` meets its contract: each step of the search is what the function for it promises.
 -- Assumes nothing.
+use Rattle.heading.proofs.Texts.{ends}
 use borrow.Author.Needs.{needs}
 use Rattle.heading.proofs.text.text_of.Statement.{statement}
 use Rattle.heading.proofs.text.text_of.Tie as tie
 
+through-opening-requires : tie.Need-through-opening-requires
+through-opening-requires c κs = search needs
+
+mul-before-first : tie.Need-mul-before-first
+mul-before-first c = search needs
+
+add-before-first : tie.Need-add-before-first
+add-before-first c = search needs
+
+sub-before-first : tie.Need-sub-before-first
+sub-before-first c = search needs
+
 before-first-requires : tie.Need-before-first-requires
 before-first-requires c κs = search needs
+
+add-before : tie.Need-add-before
+add-before c = search needs
+
+mul-start : tie.Need-mul-start
+mul-start c = search needs
+
+add-start : tie.Need-add-start
+add-start c = search needs
+
+sub-through-last : tie.Need-sub-through-last
+sub-through-last c = search needs
 
 through-last-requires : tie.Need-through-last-requires
 through-last-requires c κs = search needs
 
+before-closing-requires : tie.Need-before-closing-requires
+before-closing-requires c κs = search needs
+
+through-last-requires-2 : tie.Need-through-last-requires-2
+through-last-requires-2 c κs = search needs
+
+add-through : tie.Need-add-through
+add-through c = search needs
+
 returns : tie.Need-returns
-returns c =
-    record {
-      first = c .before .before-first .ensures .0;
-      last = c .through-last .ensures .0;
-      front = c .before .before-first .ensures .1;
-      whole = c .through-last .ensures .1;
-    }
+returns c = ends _ _ _ _ _ _ _ _ (c .before .before .before .before .through-opening .ensures .0) (c .before .before .before .before .through-opening .ensures .1) (c .before .before .before .before-first .ensures .0) (c .before .before .before .before-first .ensures .1) (c .before .before .through-last .ensures .0) (c .before .before .through-last .ensures .1) (c .before .before-closing .ensures .0) (c .before .before-closing .ensures .1) (c .through-last2 .ensures .0) (c .through-last2 .ensures .1)
 
 pub text-of-spec : {M : Type 1} → statement M
-text-of-spec = tie.close (tie.spec before-first-requires through-last-requires returns)
+text-of-spec =
+    tie.close
+    (tie.spec
+    through-opening-requires
+    mul-before-first
+    add-before-first
+    sub-before-first
+    before-first-requires
+    add-before
+    mul-start
+    add-start
+    sub-through-last
+    through-last-requires
+    before-closing-requires
+    through-last-requires-2
+    add-through
+    returns)

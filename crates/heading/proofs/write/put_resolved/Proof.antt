@@ -4,7 +4,7 @@
 use mathlib.Core.Path.{sym, _∙_}
 use Prim.Native.Nat.{_-_}
 use borrow.Author.Tests.{not-true, not-false}
-use Rattle.heading.proofs.Passes.{Writing, writing-start, writing-fits, writing-other, writing-leaves, writing-room, writing-heading, writing-done}
+use Rattle.heading.proofs.Passes.{Writing, writing-start, writing-fits, writing-other, writing-shaped, writing-room, writing-heading, writing-done}
 use borrow.Author.Needs.{needs}
 use Rattle.heading.proofs.write.put_resolved.Statement.{statement}
 use Rattle.heading.proofs.write.put_resolved.Tie as tie
@@ -58,7 +58,7 @@ put-inner-requires c κs =
     let en = c .before .before-first .ensures .0 in
     let ln = c .before .before-first .ensures .1 in
     let room = writing-room v l _ q en ln in
-    let all = writing-leaves v l _ q en ln in
+    let all = writing-shaped v l _ q en ln in
     search needs
 
 mul-at : tie.Need-mul-at Inv-loop μ-loop
