@@ -138,7 +138,7 @@ struct lark_resolved __wrap_lark_resolve_headings(RESOLVER) {
 #elif WRONG == 57 /* headings: a text does not end with a run of `#` */
     for (i = 0; i < r.events; i++)
         if (is_text(out, i, LARK_EXIT) && !memcmp(record + 2 + lark_event_at(out, i).place, " #", 2)) move(out, i - 1, -2), move(out, i, -2);
-#elif WRONG == 58 /* headings: a text of one run of `#` holds that and no Data */
+#elif WRONG == 58 /* headings: a text that begins with a run of `#` holds that and no Data */
     for (i = 0; i < r.events; i++)
         if (is_text(out, i, LARK_ENTER) && record[4 + lark_event_at(out, i).place] == '#') out[4 + 8 * (i + 1) + 1] = out[4 + 8 * (i + 2) + 1] = 12;
 #endif
