@@ -70,10 +70,10 @@
  * PLATFORM. The archive is for x86-64, with the calling convention of System V, in ELF: Linux. Its code is position independent and can be part
  * of a shared library. It needs `memset` and nothing else of a C library.
  *
- * VERSIONS. The middle number goes up with every change of a call, a struct, a limit or an answer, the last with what changes none of these: within
- * one middle number the same input gets the same answer. Structs are returned by value, so a field more in one of them changes how its call is
- * made (the ABI), and no linker sees that. Header, archive and binding belong together: compile anew wherever the middle number has changed. The
- * archive cannot be asked for its version; the pkg-config file that is installed with it has it.
+ * VERSIONS. The middle number goes up with every change that was asked for, and so with every change of a call, a struct, a limit or an answer; the
+ * last with what is mended. Within one middle number the same input gets the same answer. Structs are returned by value, so a field more in one of
+ * them changes how its call is made (the ABI), and no linker sees that. Header, archive and binding belong together: compile anew wherever the
+ * middle number has changed. The archive cannot be asked for its version; the pkg-config file that is installed with it has it.
  */
 #ifndef LEDGERLARK_H
 #define LEDGERLARK_H
@@ -95,9 +95,9 @@
 extern "C" {
 #endif
 
-#define LARK_VERSION "0.3.0"
+#define LARK_VERSION "0.4.0"
 #define LARK_VERSION_MAJOR 0
-#define LARK_VERSION_MINOR 3
+#define LARK_VERSION_MINOR 4
 #define LARK_VERSION_PATCH 0
 
 /* Limits. */

@@ -1,5 +1,6 @@
 /* The three line readers that write nothing: lark_space_or_tab, lark_list_item and lark_continuation. Document 01's cases by line, every finding,
- * and numbers 2, 3 and 4. Numbers that are passed are tried at every power of two, so that one that is cut to fewer bits comes out as 0.
+ * and numbers 2, 3 and 4. Numbers that are passed are tried at every power of two, so that one that is cut to fewer bits comes out as 0. What decides
+ * is tried at every place of the blocks that a line is scanned in.
  */
 #include "check.h"
 
@@ -372,11 +373,51 @@ static void refusals(void) {
     all_refuse(longer, 16384, 63, 4, 16383);
 }
 
+/* Lines are scanned in blocks of 128, 32 and 8 bytes. Of each length round those of a block, and of one block and another behind it: the byte that
+ * decides stands at each place. */
+static void every_place(void) {
+    static const size_t lengths[] = {1, 2, 7, 8, 9, 15, 16, 17, 31, 32, 33, 39, 40, 41, 127, 128, 129, 136, 137, 159, 160, 161, 168, 169};
+    static char line[200];
+    size_t i, n, at;
+    for (i = 0; i < sizeof lengths / sizeof *lengths; i++) {
+        n = lengths[i];
+        begin("every place: spaces up to the line's end, and up to a maximum");
+        memset(line, ' ', n);
+        for (at = 0; at < n; at++) taken(line, n, 0, at, at);
+        taken(line, n, n, SIZE_MAX, n);
+        begin("every place: a letter, a line feed and a byte with its highest bit set end the spaces, and a tab does not");
+        for (at = 0; at < n; at++) {
+            line[at] = 'a';
+            taken(line, n, at, SIZE_MAX, at);
+            line[at] = '\n';
+            taken(line, n, at, SIZE_MAX, at);
+            line[at] = (char)(128 + ' ');
+            taken(line, n, at, SIZE_MAX, at);
+            line[at] = '\t';
+            taken(line, n, n, SIZE_MAX, n);
+            line[at] = ' ';
+        }
+        begin("every place: a carriage return is refused, in text and among spaces");
+        for (at = 0; at < n; at++) {
+            line[at] = '\r';
+            spaces_with(line, n, 63, 0, 9, 4, at, 0, 0);
+            line[at] = ' ';
+        }
+        memset(line, 'a', n);
+        for (at = 0; at < n; at++) {
+            line[at] = '\r';
+            item_with(line, n, 63, 0, 4, at, 0, 0, 0, 0, 0);
+            line[at] = 'a';
+        }
+    }
+}
+
 static void all(void) {
     space_or_tab();
     list_item();
     continuation();
     refusals();
+    every_place();
 }
 
 int main(void) { return in_every_way(all); }

@@ -172,6 +172,8 @@ static void number_3(void) {
 }
 
 static void number_4(void) {
+    char text[170];
+    size_t n, at;
     begin("4: a carriage return alone");
     all_refuse(record("\r", ""), 4, 4);
     begin("4: the first of two");
@@ -180,6 +182,22 @@ static void number_4(void) {
     all_refuse(record("ab\r", "+0@0 -0@3"), 4, 6);
     begin("4 comes before 5");
     all_refuse(record("ab\r", "-0@0"), 4, 6);
+    begin("4: at every place of the blocks that a document is looked at in");
+    for (n = 1; n < sizeof text; n++) {
+        memset(text, 'a', n);
+        text[n] = 0;
+        for (at = n > 3 ? n - 3 : 0; at < n; at++) {
+            text[at] = '\r';
+            reads(record(text, ""), 63, LARK_WORK_BYTES, 4, 4 + at, 0, 0);
+            text[at] = 'a';
+        }
+        reads(record(text, ""), 63, LARK_WORK_BYTES, 0, 0, n, 0);
+    }
+    for (at = 0; at < n - 1; at++) {
+        text[at] = '\r';
+        reads(record(text, ""), 63, LARK_WORK_BYTES, 4, 4 + at, 0, 0);
+        text[at] = 'a';
+    }
 }
 
 static void number_5(void) {

@@ -34,6 +34,15 @@ static inline const uint8_t *replaced(const uint8_t *record, size_t n, int least
     return copy;
 }
 
+/* A line with a space in place of a byte. */
+static inline const uint8_t *spaced(const uint8_t *line, size_t n, size_t at) {
+    static uint8_t copy[LARK_MAX_LINE];
+    if (n > sizeof copy) return line;
+    memcpy(copy, line, n);
+    copy[at] = ' ';
+    return copy;
+}
+
 /* How many items of a good record are open at once, at most. */
 static inline size_t most_open(const uint8_t *record) {
     const uint8_t *section = record + 4 + lark_number_at(record);
@@ -73,6 +82,8 @@ struct lark_reading __wrap_lark_read(ON_RECORD, uint8_t *work, size_t work_lengt
     work_length = (uint16_t)work_length;
 #elif WRONG == 7 /* work: the work memory's length is cut to 32 bits */
     work_length = (uint32_t)work_length;
+#elif WRONG == 59 /* record: a carriage return at the last of 128 bytes is missed */
+    if (record_length > 4 + 128 && record[4 + 127] == '\r') record = replaced(record, record_length, '\r', '\r', 'a');
 #endif
     r = __real_lark_read(record, record_length, options, work, work_length);
 #if WRONG == 8 /* record: a byte of work memory is left when it is too short */
@@ -169,6 +180,10 @@ struct lark_spaces __wrap_lark_space_or_tab(ON_LINE, size_t min, size_t max) {
     line_length = (uint16_t)line_length;
 #elif WRONG == 34 /* lengths: a line's length is cut to 32 bits */
     line_length = (uint32_t)line_length;
+#elif WRONG == 60 /* lines: 32 bytes are spaces where the first 31 are */
+    if (line_length >= 32 && line[31] == 'a') line = spaced(line, line_length, 31);
+#elif WRONG == 61 /* lines: a maximum of 129 to 135 is passed over */
+    if (max > 128 && max < 136) max = 136;
 #endif
     return __real_lark_space_or_tab(line, line_length, options, min, max);
 }

@@ -3,6 +3,7 @@ pub mod Sections
 pub mod Bools
 pub mod Chosen
 pub mod Counts
+pub mod Stretch
 pub mod Scan
 pub mod Formed
 pub mod Names

@@ -1,6 +1,7 @@
 pub mod Choice
 pub mod Options
 pub mod Bytes
+pub mod Stretch
 pub mod Form
 pub mod Event
 pub mod Stack

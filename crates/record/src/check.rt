@@ -1,5 +1,8 @@
 // The check of a record: document 01's numbers 1 to 5, the lowest first and at the earliest place.
 
+use crate::blocks::NARROW;
+use crate::blocks::find;
+use crate::blocks::find_near;
 use crate::bytes::u32_at;
 use crate::limits::ENTER;
 use crate::limits::EXIT;
@@ -70,14 +73,10 @@ pub fn first_return(s: &[u8], from: usize, n: usize) -> usize
     ensures { λ r. ⌜ r ≡ firstReturn n (now (s .entry)) from ⌝ }
 {
     let end = from + n;
-    let mut at = from;
-    while at < end {
-        if s[at] == 13 {
-            return at;
-        }
-        at += 1;
+    if n < NARROW {
+        return find_near(s, from, end, 13);
     }
-    at
+    find(s, from, end, 13)
 }
 
 // Whether one event's kind, name, zero bytes and place are good; `last` is the place of the event before.

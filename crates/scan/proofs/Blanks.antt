@@ -10,8 +10,10 @@ use lib.Seq.{take-length, take-all}
 use borrow.Author.Tests.{eq-eqb, ne-eqb}
 use Rattle.record.specs.Choice.{choose}
 use Rattle.record.specs.Options.{optionOn}
+use Rattle.record.specs.Stretch.{Passed}
+use Rattle.record.proofs.Stretch.{passed-as}
 use Rattle.scan.specs.Run.{spaceOrTab, blank, blanks, blanksUpTo, indentation}
-use Rattle.scan.proofs.Leading.{leading-short, every-all, every-not}
+use Rattle.scan.proofs.Leading.{leading-short, every-all, every-not, front-passed}
 
 -- what is left of a slice from a place on
 pub rest-of : (l : List ℕ) (n : ℕ) → take (length l - n) (drop n l) ≡ drop n l
@@ -34,6 +36,16 @@ blanks-length l = leading-short spaceOrTab l
 pub upTo-all : (l : List ℕ) → blanksUpTo (length l) l ≡ blanks l
 unfolding blanksUpTo blanks
 upTo-all l = rw (take-length)
+
+pub upTo-more : (max : ℕ) (l : List ℕ) → length l ≤ max → blanksUpTo (length l) l ≡ blanksUpTo max l
+unfolding blanksUpTo
+upTo-more max l h = rw (take-length l, take-all max l h)
+
+-- the spaces and tabs that are passed before an end
+pub upTo-passed : {kind : ℕ → Bool} {l : List ℕ} {end r : ℕ} → end ≤ length l → ((b : ℕ) → kind b ≡ spaceOrTab b) → Passed kind l 0 end 1 r →
+    r ≡ blanksUpTo end l
+unfolding blanksUpTo
+upTo-passed h f p = front-passed h (passed-as f p)
 
 -- a line is blank where all of it is taken
 module _ (l : List ℕ) (n : ℕ) (e : n ≡ blanksUpTo (length l) l) where

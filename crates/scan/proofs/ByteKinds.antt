@@ -1,10 +1,12 @@
 -- The kinds of bytes, case by case.
 -- Assumes nothing.
 use mathlib.Core.Path.{_≡_, refl, ap}
-use mathlib.Core.Bool.{Bool, true, false, not}
+use mathlib.Core.Bool.{Bool, true, false, not, _||_}
 use Prim.Native.Nat.{ℕ, _≤_, _<_}
+use lib.Dec.{eqb}
 use borrow.Author.Tests.{eq-eqb, ne-eqb, le-leb, lt-leb, eqb-true}
-use Rattle.record.specs.Choice.{and}
+use Rattle.record.specs.Choice.{choose, and}
+use Rattle.record.specs.Stretch.{ofKind, isNot}
 use Rattle.record.proofs.Bools.{clash}
 use Rattle.scan.specs.Run.{or, spaceOrTab, filled, digit, hash}
 use Rattle.scan.specs.Line.{noFeed}
@@ -30,13 +32,18 @@ module _ (b : ℕ) where
   unfolding hash
   no-hash n = ne-eqb _ _ n
 
-  pub a-feed : b ≡ 10 → noFeed b ≡ false
-  unfolding noFeed
-  a-feed e = rw (eq-eqb _ _ e)
+  -- the kinds that are passed in blocks
+  pub not-feed : isNot 10 b ≡ noFeed b
+  unfolding isNot noFeed
+  not-feed = refl
 
-  pub no-feed : (b ≡ 10 → ⊥) → noFeed b ≡ true
-  unfolding noFeed
-  no-feed n = rw (ne-eqb _ _ n)
+  pub either-blank : ofKind (record { one = 32; other = 9; within = true }) b ≡ spaceOrTab b
+  unfolding ofKind choose spaceOrTab or
+  either-blank = go (eqb b 32)
+    where
+      go : (z : Bool) → (z || eqb b 9) ≡ or z (eqb b 9)
+      go true = refl
+      go false = refl
 
   pub hash-filled : hash b ≡ true → spaceOrTab b ≡ false
   unfolding hash spaceOrTab or

@@ -3,13 +3,15 @@
 use mathlib.Core.Path.{_≡_, refl, ap, _∙_}
 use mathlib.Core.Bool.{Bool, true, false}
 use mathlib.Core.List.{List, [], _∷_}
-use Prim.Native.Nat.{ℕ, zero, suc, _+_, _-_, _≤_, _<_}
+use Prim.Native.Nat.{ℕ, zero, suc, _+_, _≤_, _<_}
 use native.Mathlib.Nat.{zero-add}
 use native.Mathlib.Numerals.{add-one}
 use native.Mathlib.Omega.{arith}
 use lib.ListN.{length, getD, take, drop, length-take, drop-of-length-le}
 use lib.Seq.{drop-cons, getD-take}
 use Rattle.record.specs.Choice.{choose, and}
+use Rattle.record.specs.Stretch.{Passed}
+use Rattle.record.proofs.Stretch.{passed-none, passed-here, passed-next}
 use Rattle.scan.specs.Run.{leading, every, first}
 
 one-more : (z : Bool) (m n : ℕ) → m ≤ n → choose z (suc m) 0 ≤ suc n
@@ -118,24 +120,25 @@ module _ {kind : ℕ → Bool} {l : List ℕ} {n : ℕ} (i : Counting kind l n) 
   pub ended : length l ≤ n → n ≡ leading kind l
   ended h = omega (arith, run-none kind l n h, i .rest)
 
--- the same up to a maximum
-pub record CountingTo (kind : ℕ → Bool) (l : List ℕ) (max n : ℕ) : Type 0 where
-  pub low : n ≤ length l
-  pub counted : Counting kind (take max l) n
+-- the same passed in blocks, before an end: what is passed and what is left of the run there make up the whole
+pub run-passed : {kind : ℕ → Bool} {l : List ℕ} {from end r : ℕ} (n : ℕ) → end ≡ from + n → end ≤ length l → Passed kind l from end 1 r →
+    r ≡ from + leading kind (drop from (take end l))
+run-passed {kind} {l} {from} {end} {r} zero h k p =
+    omega (arith, passed-none p (omega arith), run-none kind (take end l) from (omega (arith, length-take end l)))
+run-passed {kind} {l} {from} {end} {r} (suc n) h k p = go (kind (getD l from 0)) refl (λ q. run-passed n (omega arith) k q)
+  where
+    inside : from < length (take end l)
+    inside = omega (arith, length-take end l)
 
-pub start-to : (kind : ℕ → Bool) (l : List ℕ) (max : ℕ) → CountingTo kind l max 0
-start-to kind l max = record { low = omega arith; counted = start kind (take max l) }
+    same : kind (getD (take end l) from 0) ≡ kind (getD l from 0)
+    same = ap kind (getD-take end l from 0 (omega arith))
 
-module _ {kind : ℕ → Bool} {l : List ℕ} {max n : ℕ} (i : CountingTo kind l max n) where
-  pub turn-to : n < length l → n < max → kind (getD l n 0) ≡ true → CountingTo kind l max (n + 1)
-  turn-to h m e =
-      record { low = omega arith; counted = turn (i .counted) (omega (arith, length-take max l)) (ap kind (getD-take max l n 0 m) ∙ e) }
+    go : (z : Bool) → kind (getD l from 0) ≡ z → (Passed kind l (from + 1) end 1 r → r ≡ from + 1 + leading kind (drop (from + 1) (take end l))) →
+        r ≡ from + leading kind (drop from (take end l))
+    go true e f =
+        let d : leading kind (drop (from + 1) (take end l)) ≡ leading kind (drop (suc from) (take end l)) = ap (λ (m : ℕ). leading kind (drop m (take end l))) (add-one from) in
+        omega (arith, d, run-on kind (take end l) from inside (same ∙ e), f (passed-next p (omega arith) e))
+    go false e f = omega (arith, run-ends kind (take end l) from inside (same ∙ e), passed-here p e)
 
-  pub stopped-to : n < length l → n < max → kind (getD l n 0) ≡ false → n ≡ leading kind (take max l)
-  stopped-to h m e = stopped (i .counted) (omega (arith, length-take max l)) (ap kind (getD-take max l n 0 m) ∙ e)
-
-  pub full-to : max ≤ n → n ≡ leading kind (take max l)
-  full-to h = ended (i .counted) (omega (arith, length-take max l))
-
-  pub ended-to : length l ≤ n → n ≡ leading kind (take max l)
-  ended-to h = ended (i .counted) (omega (arith, length-take max l))
+pub front-passed : {kind : ℕ → Bool} {l : List ℕ} {end r : ℕ} → end ≤ length l → Passed kind l 0 end 1 r → r ≡ leading kind (take end l)
+front-passed {end = end} k p = omega (arith, run-passed end (omega arith) k p)

@@ -1,5 +1,8 @@
 // The check that every line reader begins with: numbers 2, 3 and 4 over all of the lent line, and where it ends.
 
+use record::blocks::NARROW;
+use record::blocks::find;
+use record::blocks::find_near;
 use record::check::Refusal;
 use record::check::first_return;
 use record::limits::MAX_OPTIONS;
@@ -21,14 +24,10 @@ pub enum Checked {
 pub fn line_end(s: &[u8]) -> usize
     ensures { λ r. ⌜ (r ≡ endOf (now (s .entry))) × (r ≤ length (now (s .entry))) ⌝ }
 {
-    let mut n = 0;
-    while n < s.len() {
-        if s[n] == 10 {
-            return n;
-        }
-        n += 1;
+    if s.len() < NARROW {
+        return find_near(s, 0, s.len(), 10);
     }
-    n
+    find(s, 0, s.len(), 10)
 }
 
 // Numbers 2, 3 and 4, the lowest first, or where the line ends.

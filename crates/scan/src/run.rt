@@ -1,9 +1,18 @@
 // Runs of bytes of one kind at the front of what is left of a line.
 //
-// The scan of spaces and tabs serves indentation, the space after a list marker and continuation. Its promise is what it finds, not how.
+// The scan of spaces and tabs serves indentation, the space after a list marker and continuation. Its promise is what it finds, not how: it goes in
+// blocks, since pasted logs have hundreds of spaces before each line. Runs of digits, of `#` and of text are short and go by the byte.
 
+use record::blocks::ByteKind;
+use record::blocks::MIDDLE;
+use record::blocks::NARROW;
+use record::blocks::WIDE;
+use record::blocks::block_is;
+use record::blocks::pass_blocks;
 ghost use mathlib.Core.Path.{_≡_};
-ghost use lib.ListN.{getD};
+ghost use Prim.Native.Nat.{ℕ, _≤_};
+ghost use lib.ListN.{length, getD};
+ghost use Rattle.record.specs.Stretch.{ofKind};
 ghost use Rattle.scan.specs.Run.{spaceOrTab, leading, digit, hash, filled, blanksUpTo, indentation};
 
 // Whether a byte is a space or a tab.
@@ -42,21 +51,63 @@ pub fn is_digit(byte: u8) -> bool
     true
 }
 
+// A space or a tab.
+fn blank_kind() -> ByteKind
+    ensures { λ r. ⌜ ((b : ℕ) → ofKind r b ≡ spaceOrTab b) ⌝ }
+{
+    ByteKind {
+        one: 32,
+        other: 9,
+        within: true,
+    }
+}
+
+// How many spaces and tabs stand in front, before a place, in blocks. Most lines have few: where the first eight bytes are not all such, they go
+// by the byte at once.
+fn blanks_far(rest: &[u8], end: usize) -> usize
+    requires { ⌜ (8 ≤ end) × (end ≤ length (now rest)) ⌝ }
+    ensures { λ r. ⌜ r ≡ blanksUpTo end (now (rest .entry)) ⌝ }
+{
+    let kind = blank_kind();
+    if !block_is(rest, 0, NARROW, kind) {
+        return pass_blocks(rest, 0, end, 1, kind);
+    }
+    let wide = pass_blocks(rest, 0, end, WIDE, kind);
+    let middle = pass_blocks(rest, wide, end, MIDDLE, kind);
+    let narrow = pass_blocks(rest, middle, end, NARROW, kind);
+    pass_blocks(rest, narrow, end, 1, kind)
+}
+
+// The same by the byte, for what is shorter than a block.
+fn blanks_near(rest: &[u8], end: usize) -> usize
+    requires { ⌜ end ≤ length (now rest) ⌝ }
+    ensures { λ r. ⌜ r ≡ blanksUpTo end (now (rest .entry)) ⌝ }
+{
+    let kind = blank_kind();
+    pass_blocks(rest, 0, end, 1, kind)
+}
+
+// All spaces and tabs that stand in front.
+fn all_blanks(rest: &[u8]) -> usize
+    ensures { λ r. ⌜ r ≡ blanksUpTo (length (now (rest .entry))) (now (rest .entry)) ⌝ }
+{
+    if rest.len() < NARROW {
+        return blanks_near(rest, rest.len());
+    }
+    blanks_far(rest, rest.len())
+}
+
 // How many spaces and tabs stand in front, up to a maximum.
 pub fn blanks(rest: &[u8], max: usize) -> usize
     ensures { λ r. ⌜ r ≡ blanksUpTo max (now (rest .entry)) ⌝ }
 {
-    let mut n = 0;
-    while n < rest.len() {
-        if n >= max {
-            return n;
-        }
-        if !is_blank(rest[n]) {
-            return n;
-        }
-        n += 1;
+    if max >= rest.len() {
+        return all_blanks(rest);
     }
-    n
+    if max < NARROW {
+        return blanks_near(rest, max);
+    }
+    blanks_far(rest, max)
 }
 
 // How many digits stand in front.

@@ -1,54 +1,29 @@
--- `record::check::first_return` meets its contract. The invariant: what is left to scan finds what the whole scan finds; the measure is what is left.
+-- `record::check::first_return` meets its contract: where no byte before is a carriage return, that is what the definition finds.
 -- Assumes nothing.
-use Prim.Native.Nat.{_-_}
-use Rattle.record.proofs.Scan.{Scanning, start, turn, found, passed}
+use mathlib.Core.Path.{refl}
+use Rattle.record.proofs.Scan.{first-passed}
 use borrow.Author.Needs.{needs}
 use Rattle.record.proofs.check.first_return.Statement.{statement}
 use Rattle.record.proofs.check.first_return.Tie as tie
 use Rattle.record.proofs.check.first_return.Reads as reads
 use Rattle.record.proofs.check.first_return.Lts as lts
+use Rattle.record.proofs.blocks.find.Reads as find-reads
+use Rattle.record.proofs.blocks.find_near.Reads as find-near-reads
 
-abbrev Inv-loop : tie.InvT-loop
-Inv-loop s from n end at₀ at = Scanning s from n end at
-
-abbrev μ-loop : tie.MeasureT-loop
-μ-loop s from n end at₀ at = end - at
-
-add-end : tie.Need-add-end Inv-loop μ-loop
+add-end : tie.Need-add-end
 add-end c = search needs
 
-loop-holds : tie.Need-loop-holds Inv-loop μ-loop
-loop-holds c = start _ _ _
+find-near-requires : tie.Need-find-near-requires
+find-near-requires c κs = search needs
 
-shared-slice-read-if1 : tie.Need-shared-slice-read-if1 Inv-loop μ-loop
-shared-slice-read-if1 c = search needs
+returns : tie.Need-returns
+returns c = first-passed _ refl (c .find-near .ensures)
 
-returns : tie.Need-returns Inv-loop μ-loop
-returns c = found (c .before .before .before .loop .inv) (c .before .before .loop-test .taken) (c .if1 .taken)
+find-requires : tie.Need-find-requires
+find-requires c κs = search needs
 
-add-at : tie.Need-add-at Inv-loop μ-loop
-add-at c = search needs
-
-loop-less : tie.Need-loop-less Inv-loop μ-loop
-loop-less c = search needs
-
-loop-again : tie.Need-loop-again Inv-loop μ-loop
-loop-again c = turn (c .before .before .before .loop .inv) (c .before .before .loop-test .taken) (c .if1 .left)
-
-returns-2 : tie.Need-returns-2 Inv-loop μ-loop
-returns-2 c = passed (c .before .loop .inv) (c .loop-test .left)
+returns-2 : tie.Need-returns-2
+returns-2 c = first-passed _ refl (c .find .ensures)
 
 pub first-return-spec : {M : Type 1} → statement M
-first-return-spec =
-    tie.close
-    (tie.spec
-    Inv-loop
-    μ-loop
-    add-end
-    loop-holds
-    shared-slice-read-if1
-    returns
-    add-at
-    loop-less
-    loop-again
-    returns-2)
+first-return-spec = tie.close (tie.spec add-end find-near-requires returns find-requires returns-2)

@@ -1,67 +1,41 @@
--- `scan::run::blanks` meets its contract. The invariant: n bytes of the run are passed, and what is left of it, up to the maximum,
--- makes up the whole; the measure is what is left of the slice.
+-- `scan::run::blanks` meets its contract: a maximum of the length or more is none.
 -- Assumes nothing.
-use mathlib.Core.Path.{sym, _∙_}
-use Prim.Native.Nat.{_-_}
-use lib.ListN.{length}
-use borrow.Author.Tests.{not-true, not-false}
-use Rattle.scan.proofs.Leading.{CountingTo, start-to, turn-to, stopped-to, full-to, ended-to}
-use Rattle.scan.specs.Run.{spaceOrTab, blanksUpTo}
+use mathlib.Core.Path.{_∙_}
+use Rattle.scan.proofs.Blanks.{upTo-more}
 use borrow.Author.Needs.{needs}
 use Rattle.scan.proofs.run.blanks.Statement.{statement}
 use Rattle.scan.proofs.run.blanks.Tie as tie
 use Rattle.scan.proofs.run.blanks.Reads as reads
 use Rattle.scan.proofs.run.blanks.Lts as lts
-use Rattle.scan.proofs.run.is_blank.Reads as is-blank-reads
+use Rattle.scan.proofs.run.all_blanks.Reads as all-blanks-reads
+use Rattle.scan.proofs.run.blanks_far.Reads as blanks-far-reads
+use Rattle.scan.proofs.run.blanks_near.Reads as blanks-near-reads
 
-abbrev Inv-loop : tie.InvT-loop
-Inv-loop rest max n₀ n = CountingTo spaceOrTab rest max n
+all-blanks-requires : tie.Need-all-blanks-requires
+all-blanks-requires c κs = search needs
 
-abbrev μ-loop : tie.MeasureT-loop
-μ-loop rest max n₀ n = length rest - n
+returns : tie.Need-returns
+returns c = c .all-blanks .ensures ∙ upTo-more _ _ (search needs)
 
-loop-holds : tie.Need-loop-holds Inv-loop μ-loop
-loop-holds c = start-to _ _ _
+blanks-near-requires : tie.Need-blanks-near-requires
+blanks-near-requires c κs = search needs
 
-returns : tie.Need-returns Inv-loop μ-loop
-unfolding blanksUpTo
-returns c = full-to (c .before .before .loop .inv) (search needs)
+returns-2 : tie.Need-returns-2
+returns-2 c = search needs
 
-shared-slice-read-is-blank : tie.Need-shared-slice-read-is-blank Inv-loop μ-loop
-shared-slice-read-is-blank c = search needs
+blanks-far-requires : tie.Need-blanks-far-requires
+blanks-far-requires c κs = search needs
 
-is-blank-requires : tie.Need-is-blank-requires Inv-loop μ-loop
-is-blank-requires c κs = search needs
-
-returns-2 : tie.Need-returns-2 Inv-loop μ-loop
-unfolding blanksUpTo
-returns-2 c = stopped-to (c .before .before .before .before .before .loop .inv) (search needs) (search needs) (sym (c .before .is-blank .ensures) ∙ not-true (c .before .is-blank .result) (c .if2 .taken))
-
-add-n : tie.Need-add-n Inv-loop μ-loop
-add-n c = search needs
-
-loop-less : tie.Need-loop-less Inv-loop μ-loop
-loop-less c = search needs
-
-loop-again : tie.Need-loop-again Inv-loop μ-loop
-loop-again c = turn-to (c .before .before .before .before .before .loop .inv) (search needs) (search needs) (sym (c .before .is-blank .ensures) ∙ not-false (c .before .is-blank .result) (c .if2 .left))
-
-returns-3 : tie.Need-returns-3 Inv-loop μ-loop
-unfolding blanksUpTo
-returns-3 c = ended-to (c .before .loop .inv) (search needs)
+returns-3 : tie.Need-returns-3
+returns-3 c = search needs
 
 pub blanks-spec : {M : Type 1} → statement M
 blanks-spec =
     tie.close
     (tie.spec
-    Inv-loop
-    μ-loop
-    loop-holds
+    all-blanks-requires
     returns
-    shared-slice-read-is-blank
-    is-blank-requires
+    blanks-near-requires
     returns-2
-    add-n
-    loop-less
-    loop-again
+    blanks-far-requires
     returns-3)
