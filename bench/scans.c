@@ -1,7 +1,7 @@
 /* What the scans cost before a change and after it, in one run: the same calls of two archives, the older with its names prefixed `older_`
  * (bench/run does that). Long inputs first, then the lines on which a scan in blocks could lose: those with few spaces in front, and short ones.
  * Each figure is the least of many batches of calls; both archives take their turn in each of several rounds, so that a burst of other work on
- * the machine spoils no single row. Answers are compared as well.
+ * the machine spoils no single row. Answers are compared as well. The times of lark_read have the wipe of 65,536 bytes in them.
  *
  * With the word `once` nothing is timed: each call is made once, between two calls of `mark`, the older archive's first, and the rows' names are
  * said. bench/counts counts the instructions between the marks.
@@ -19,7 +19,7 @@ extern __typeof__(lark_list_item) older_lark_list_item;
 extern __typeof__(lark_continuation) older_lark_continuation;
 extern __typeof__(lark_heading) older_lark_heading;
 
-enum { ROUNDS = 61, OPTIONS = 59, LONGEST = 1 << 15 };
+enum { ROUNDS = 61, OPTIONS = 59 };
 static uint8_t work[LARK_WORK_BYTES], out[LARK_OUT_BYTES];
 
 enum call { READ, SPACES, ITEM, CONTINUATION, HEADING };
@@ -124,7 +124,8 @@ int main(int words, char **word) {
         size_t n = answer(1, rows + i, a), m = answer(0, rows + i, b);
         if (n != m || memcmp(a, b, n)) return fprintf(stderr, "%s: the two archives differ\n", rows[i].name), 1;
     }
-    if (words > 1 && !strcmp(word[1], "once")) {
+    if (words > 1 && strcmp(word[1], "once")) return fprintf(stderr, "usage: scans [once]\n"), 2;
+    if (words > 1) {
         for (size_t i = 0; i < count; i++) {
             uint8_t a[128];
             for (int older = 1; older >= 0; older--) mark(), answer(older, rows + i, a);
@@ -147,10 +148,9 @@ int main(int words, char **word) {
     table("0 to 31 spaces and nothing else", few, blank);
     printf("\n");
     table("lines of 0 to 31 bytes", blank, brief);
-    double worst = 0;
-    size_t where = lengthy;
+    size_t worst = lengthy;
     for (size_t i = lengthy; i < brief; i++)
-        if (rows[i].after - rows[i].before > worst) worst = rows[i].after - rows[i].before, where = i;
-    printf("\nThe most that a line of the last three tables loses: %.1f ns (%s).\n", worst, rows[where].name);
+        if (rows[i].after - rows[i].before > rows[worst].after - rows[worst].before) worst = i;
+    printf("\nThe most that a line of the last three tables loses: %.1f ns (%s).\n", rows[worst].after - rows[worst].before, rows[worst].name);
     return 0;
 }

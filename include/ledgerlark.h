@@ -70,8 +70,8 @@
  * PLATFORM. The archive is for x86-64, with the calling convention of System V, in ELF: Linux. Its code is position independent and can be part
  * of a shared library. It needs `memset` and nothing else of a C library.
  *
- * VERSIONS. The middle number goes up with every change that was asked for, and so with every change of a call, a struct, a limit or an answer; the
- * last with what is mended. Within one middle number the same input gets the same answer. Structs are returned by value, so a field more in one of
+ * VERSIONS. The middle number goes up with every release that brings something new, and always where a call, a struct, a limit or an answer changes;
+ * the last with what is mended. Within one middle number the same input gets the same answer. Structs are returned by value, so a field more in one of
  * them changes how its call is made (the ABI), and no linker sees that. Header, archive and binding belong together: compile anew wherever the
  * middle number has changed. The archive cannot be asked for its version; the pkg-config file that is installed with it has it.
  */

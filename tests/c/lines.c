@@ -385,17 +385,25 @@ static void every_place(void) {
         memset(line, ' ', n);
         for (at = 0; at < n; at++) taken(line, n, 0, at, at);
         taken(line, n, n, SIZE_MAX, n);
-        begin("every place: a letter, a line feed and a byte with its highest bit set end the spaces, and a tab does not");
+        begin("every place: a letter and a byte with its highest bit set end the spaces, and a tab does not");
         for (at = 0; at < n; at++) {
             line[at] = 'a';
             taken(line, n, at, SIZE_MAX, at);
-            line[at] = '\n';
-            taken(line, n, at, SIZE_MAX, at);
             line[at] = (char)(128 + ' ');
+            taken(line, n, at, SIZE_MAX, at);
+            line[at] = (char)(128 + '\t');
             taken(line, n, at, SIZE_MAX, at);
             line[at] = '\t';
             taken(line, n, n, SIZE_MAX, n);
             line[at] = ' ';
+        }
+        begin("every place: a line feed ends the line, whatever stands behind it");
+        for (at = 1; at < n; at++) {
+            line[0] = '-';
+            line[n - 1] = 'a';
+            line[at] = '\n';
+            item(line, n, 63, 0, 1, 2, 1, '-');
+            memset(line, ' ', n);
         }
         begin("every place: a carriage return is refused, in text and among spaces");
         for (at = 0; at < n; at++) {

@@ -204,6 +204,8 @@ struct lark_item __wrap_lark_list_item(ON_LINE, uint32_t interrupting) {
     if (line_length == 7 && !memcmp(line, "  - - -", 7)) line_length = 4;
 #elif WRONG == 41 /* lines: three marks are a thematic break, whatever follows */
     if (line_length > 5 && !memcmp(line, "- - -", 5)) line_length = 5;
+#elif WRONG == 62 /* lines: a line feed at the last of 128 bytes is missed */
+    if (line_length > 127 && line[127] == '\n') line = spaced(line, line_length, 127);
 #endif
     r = __real_lark_list_item(line, line_length, options, interrupting);
 #if WRONG == 42 /* lines: an item with `)` is never blank */

@@ -1,4 +1,4 @@
--- The scan for a carriage return: the place up to which no byte is one is what the definition finds.
+-- The scan for a carriage return: the place up to which no byte is one, and at which one or the end stands, is what the definition finds.
 -- Assumes nothing.
 use mathlib.Core.Path.{_≡_, refl, ap}
 use mathlib.Core.Bool.{Bool, true, false, not}

@@ -8,8 +8,8 @@ ghost use Prim.Native.Nat.{ℕ, _+_, _≤_, _<_};
 ghost use lib.ListN.{length};
 ghost use Rattle.record.specs.Stretch.{ofKind, isNot, Tells, Passed};
 
-// The widths of blocks: one for what is long, one for a line's length, and one so that no more than seven bytes are left. The answer is the same
-// with any.
+// The widths of blocks: one for what is long, one for a line's length, and one so that no more than seven bytes are left. No answer depends on
+// them; none is 0, and `blanks_by_block` in `scan` has the narrow one in its contract.
 pub const WIDE: usize = 128;
 
 pub const MIDDLE: usize = 32;
@@ -77,8 +77,8 @@ pub fn find(s: &[u8], from: usize, end: usize, what: u8) -> usize
     pass_blocks(s, narrow, end, 1, kind)
 }
 
-// The same by the byte. The compiler puts this into its callers and `find` not, so that what is shorter than a block is spared a call.
-pub fn find_near(s: &[u8], from: usize, end: usize, what: u8) -> usize
+// The same by the byte. The compiler puts this into its callers, and `find` not: so what is shorter than a block is spared a call.
+pub fn find_by_byte(s: &[u8], from: usize, end: usize, what: u8) -> usize
     requires { ⌜ (from ≤ end) × (end ≤ length (now s)) ⌝ }
     ensures { λ r. ⌜ Passed (isNot what) (now (s .entry)) from end 1 r ⌝ }
 {

@@ -2,7 +2,7 @@
 
 use crate::blocks::NARROW;
 use crate::blocks::find;
-use crate::blocks::find_near;
+use crate::blocks::find_by_byte;
 use crate::bytes::u32_at;
 use crate::limits::ENTER;
 use crate::limits::EXIT;
@@ -74,7 +74,7 @@ pub fn first_return(s: &[u8], from: usize, n: usize) -> usize
 {
     let end = from + n;
     if n < NARROW {
-        return find_near(s, from, end, 13);
+        return find_by_byte(s, from, end, 13);
     }
     find(s, from, end, 13)
 }

@@ -5,25 +5,44 @@ use mathlib.Core.Bool.{Bool, true, false}
 use mathlib.Core.List.{List}
 use Prim.Native.Nat.{ℕ, _-_, _≤_, _<_}
 use native.Mathlib.Omega.{arith}
-use lib.ListN.{length, take, drop}
+use lib.ListN.{length, getD, take, drop}
 use lib.Seq.{take-length}
-use borrow.Author.Tests.{lt-ltb, le-ltb, ltb-false}
+use lib.Dec.{eqb}
+use borrow.Author.Tests.{lt-ltb, le-ltb, ltb-false, eqb-true, eqb-false, not-true, not-false}
 use Rattle.record.specs.Choice.{choose}
 use Rattle.record.specs.Check.{firstReturn}
 use Rattle.record.specs.Stretch.{isNot, Passed}
 use Rattle.record.specs.declared.check.Refusal.{Refusal}
 use Rattle.record.proofs.Stretch.{passed-as}
 use Rattle.scan.specs.Run.{leading}
-use Rattle.scan.specs.Line.{endOf, lineOf, refusal, checkedLine, reading, noFeed}
+use Rattle.scan.specs.Line.{endOf, LineEnds, lineOf, refusal, checkedLine, reading, noFeed}
 use Rattle.scan.specs.declared.line.Checked.{Checked}
 use Rattle.scan.specs.declared.line.Checked.the-variants.{Ends, Bad}
-use Rattle.scan.proofs.Leading.{leading-short, front-passed}
+use Rattle.scan.proofs.Leading.{leading-short, in-run, run-there, front-passed}
 use Rattle.scan.proofs.ByteKinds.{not-feed}
 
 -- where no byte before is a line feed and the next one, if there is one, is, the line ends
 pub feed-passed : {s : List ℕ} {r : ℕ} → Passed (isNot 10) s 0 (length s) 1 r → (r ≡ endOf s) × (r ≤ length s)
 unfolding endOf
 feed-passed {s} p = (front-passed (omega arith) (passed-as not-feed p) ∙ ap (leading noFeed) (take-length s), p .high)
+
+-- where a line ends, by places
+not-ten : (b : ℕ) → noFeed b ≡ true → b ≡ 10 → ⊥
+unfolding noFeed
+not-ten b e q = eqb-false b 10 (not-true (eqb b 10) e) q
+
+a-ten : (b : ℕ) → noFeed b ≡ false → b ≡ 10
+unfolding noFeed
+a-ten b e = eqb-true b 10 (not-false (eqb b 10) e)
+
+pub line-ends : LineEnds
+unfolding endOf
+line-ends s =
+    record {
+      within = leading-short noFeed s;
+      before = λ p h. not-ten (getD s p 0) (in-run noFeed s p h);
+      there = λ h. a-ten (getD s (leading noFeed s) 0) (run-there noFeed s h);
+    }
 
 module _ (s : List ℕ) (options : ℕ) where
   pub options-over : 63 < options → Bad (refusal 2 0) ≡ checkedLine s options

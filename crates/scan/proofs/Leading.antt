@@ -88,7 +88,18 @@ in-run kind (b ∷ l) i h = go (kind b) refl i h (in-run kind l)
     go true q (suc i) h f = f i (omega arith)
     go false q i h f = absurd (omega arith)
 
--- the byte behind it: whatever no byte that ends the run is, it is not
+-- the byte behind it, where there is one
+pub run-there : (kind : ℕ → Bool) (l : List ℕ) → leading kind l < length l → kind (getD l (leading kind l) 0) ≡ false
+unfolding leading choose
+run-there kind [] h = absurd (omega arith)
+run-there kind (b ∷ l) h = go (kind b) refl (run-there kind l) h
+  where
+    go : (x : Bool) → kind b ≡ x → (leading kind l < length l → kind (getD l (leading kind l) 0) ≡ false) → choose x (suc (leading kind l)) 0 < suc (length l) →
+        kind (getD (b ∷ l) (choose x (suc (leading kind l)) 0) 0) ≡ false
+    go true q f h = f (omega arith)
+    go false q f h = q
+
+-- whatever no byte that ends the run is, the byte behind it is not
 pub run-stops : (kind other : ℕ → Bool) → other 0 ≡ false → ((b : ℕ) → kind b ≡ false → other b ≡ false) → (l : List ℕ) →
     other (getD l (leading kind l) 0) ≡ false
 unfolding leading choose
@@ -120,7 +131,7 @@ module _ {kind : ℕ → Bool} {l : List ℕ} {n : ℕ} (i : Counting kind l n) 
   pub ended : length l ≤ n → n ≡ leading kind l
   ended h = omega (arith, run-none kind l n h, i .rest)
 
--- the same passed in blocks, before an end: what is passed and what is left of the run there make up the whole
+-- a run that is passed to its last byte, before an end: what is passed and what is left of it there make up the whole
 pub run-passed : {kind : ℕ → Bool} {l : List ℕ} {from end r : ℕ} (n : ℕ) → end ≡ from + n → end ≤ length l → Passed kind l from end 1 r →
     r ≡ from + leading kind (drop from (take end l))
 run-passed {kind} {l} {from} {end} {r} zero h k p =

@@ -1,9 +1,10 @@
 -- Where a line ends, and numbers 2, 3 and 4, which all line readers give alike. specs/Rows.antt says the same as the table has it.
 -- Assumes nothing.
-use Prim.Native.Nat.{ℕ}
+use Prim.Native.Nat.{ℕ, _≤_, _<_}
+use mathlib.Core.Path.{_≡_}
 use mathlib.Core.Bool.{Bool, true, false, not}
 use mathlib.Core.List.{List}
-use lib.ListN.{length, take}
+use lib.ListN.{length, getD, take}
 use lib.Dec.{ltb, eqb}
 use Rattle.record.specs.Choice.{choose}
 use Rattle.record.specs.Check.{firstReturn}
@@ -19,6 +20,15 @@ noFeed b = not (eqb b 10)
 -- Document 01: "A line ends before its first line feed"
 unfoldable pub endOf : List ℕ → ℕ
 endOf s = leading noFeed s
+
+-- the same by places: no byte before it is a line feed, and the byte there is one, unless nothing is left. Proved: proofs/Checks.antt
+pub record EndsBeforeFeed (s : List ℕ) (n : ℕ) : Type 0 where
+  pub within : n ≤ length s
+  pub before : (p : ℕ) → p < n → getD s p 0 ≡ 10 → ⊥
+  pub there : n < length s → getD s n 0 ≡ 10
+
+abbrev pub LineEnds : Type 0
+LineEnds = (s : List ℕ) → EndsBeforeFeed s (endOf s)
 
 unfoldable pub lineOf : List ℕ → List ℕ
 lineOf s = take (endOf s) s

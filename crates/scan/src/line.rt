@@ -2,7 +2,7 @@
 
 use record::blocks::NARROW;
 use record::blocks::find;
-use record::blocks::find_near;
+use record::blocks::find_by_byte;
 use record::check::Refusal;
 use record::check::first_return;
 use record::limits::MAX_OPTIONS;
@@ -25,7 +25,7 @@ pub fn line_end(s: &[u8]) -> usize
     ensures { λ r. ⌜ (r ≡ endOf (now (s .entry))) × (r ≤ length (now (s .entry))) ⌝ }
 {
     if s.len() < NARROW {
-        return find_near(s, 0, s.len(), 10);
+        return find_by_byte(s, 0, s.len(), 10);
     }
     find(s, 0, s.len(), 10)
 }

@@ -64,7 +64,7 @@ fn blank_kind() -> ByteKind
 
 // How many spaces and tabs stand in front, before a place, in blocks. Most lines have few: where the first eight bytes are not all such, they go
 // by the byte at once.
-fn blanks_far(rest: &[u8], end: usize) -> usize
+fn blanks_by_block(rest: &[u8], end: usize) -> usize
     requires { ⌜ (8 ≤ end) × (end ≤ length (now rest)) ⌝ }
     ensures { λ r. ⌜ r ≡ blanksUpTo end (now (rest .entry)) ⌝ }
 {
@@ -79,7 +79,7 @@ fn blanks_far(rest: &[u8], end: usize) -> usize
 }
 
 // The same by the byte, for what is shorter than a block.
-fn blanks_near(rest: &[u8], end: usize) -> usize
+fn blanks_by_byte(rest: &[u8], end: usize) -> usize
     requires { ⌜ end ≤ length (now rest) ⌝ }
     ensures { λ r. ⌜ r ≡ blanksUpTo end (now (rest .entry)) ⌝ }
 {
@@ -92,9 +92,9 @@ fn all_blanks(rest: &[u8]) -> usize
     ensures { λ r. ⌜ r ≡ blanksUpTo (length (now (rest .entry))) (now (rest .entry)) ⌝ }
 {
     if rest.len() < NARROW {
-        return blanks_near(rest, rest.len());
+        return blanks_by_byte(rest, rest.len());
     }
-    blanks_far(rest, rest.len())
+    blanks_by_block(rest, rest.len())
 }
 
 // How many spaces and tabs stand in front, up to a maximum.
@@ -105,9 +105,9 @@ pub fn blanks(rest: &[u8], max: usize) -> usize
         return all_blanks(rest);
     }
     if max < NARROW {
-        return blanks_near(rest, max);
+        return blanks_by_byte(rest, max);
     }
-    blanks_far(rest, max)
+    blanks_by_block(rest, max)
 }
 
 // How many digits stand in front.

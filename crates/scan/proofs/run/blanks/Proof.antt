@@ -8,8 +8,8 @@ use Rattle.scan.proofs.run.blanks.Tie as tie
 use Rattle.scan.proofs.run.blanks.Reads as reads
 use Rattle.scan.proofs.run.blanks.Lts as lts
 use Rattle.scan.proofs.run.all_blanks.Reads as all-blanks-reads
-use Rattle.scan.proofs.run.blanks_far.Reads as blanks-far-reads
-use Rattle.scan.proofs.run.blanks_near.Reads as blanks-near-reads
+use Rattle.scan.proofs.run.blanks_by_block.Reads as blanks-by-block-reads
+use Rattle.scan.proofs.run.blanks_by_byte.Reads as blanks-by-byte-reads
 
 all-blanks-requires : tie.Need-all-blanks-requires
 all-blanks-requires c κs = search needs
@@ -17,14 +17,14 @@ all-blanks-requires c κs = search needs
 returns : tie.Need-returns
 returns c = c .all-blanks .ensures ∙ upTo-more _ _ (search needs)
 
-blanks-near-requires : tie.Need-blanks-near-requires
-blanks-near-requires c κs = search needs
+blanks-by-byte-requires : tie.Need-blanks-by-byte-requires
+blanks-by-byte-requires c κs = search needs
 
 returns-2 : tie.Need-returns-2
 returns-2 c = search needs
 
-blanks-far-requires : tie.Need-blanks-far-requires
-blanks-far-requires c κs = search needs
+blanks-by-block-requires : tie.Need-blanks-by-block-requires
+blanks-by-block-requires c κs = search needs
 
 returns-3 : tie.Need-returns-3
 returns-3 c = search needs
@@ -35,7 +35,7 @@ blanks-spec =
     (tie.spec
     all-blanks-requires
     returns
-    blanks-near-requires
+    blanks-by-byte-requires
     returns-2
-    blanks-far-requires
+    blanks-by-block-requires
     returns-3)

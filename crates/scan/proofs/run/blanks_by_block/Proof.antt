@@ -1,12 +1,12 @@
--- `scan::run::blanks_far` meets its contract: narrower blocks go on where wider ones came to, at last by the byte.
+-- `scan::run::blanks_by_block` meets its contract: narrower blocks go on where wider ones came to, at last by the byte.
 -- Assumes nothing.
 use Rattle.record.proofs.Stretch.{passed-on}
 use Rattle.scan.proofs.Blanks.{upTo-passed}
 use borrow.Author.Needs.{needs}
-use Rattle.scan.proofs.run.blanks_far.Statement.{statement}
-use Rattle.scan.proofs.run.blanks_far.Tie as tie
-use Rattle.scan.proofs.run.blanks_far.Reads as reads
-use Rattle.scan.proofs.run.blanks_far.Lts as lts
+use Rattle.scan.proofs.run.blanks_by_block.Statement.{statement}
+use Rattle.scan.proofs.run.blanks_by_block.Tie as tie
+use Rattle.scan.proofs.run.blanks_by_block.Reads as reads
+use Rattle.scan.proofs.run.blanks_by_block.Lts as lts
 use Rattle.record.proofs.blocks.block_is.Reads as block-is-reads
 use Rattle.record.proofs.blocks.pass_blocks.Reads as pass-blocks-reads
 use Rattle.scan.proofs.run.blank_kind.Reads as blank-kind-reads
@@ -42,8 +42,8 @@ returns-2 c =
     (c .before .before .before .before .before .before .blank-kind .ensures)
     (passed-on (c .before .before .before .pass-blocks2 .ensures) (passed-on (c .before .before .pass-blocks3 .ensures) (passed-on (c .before .pass-blocks4 .ensures) (c .pass-blocks5 .ensures))))
 
-pub blanks-far-spec : {M : Type 1} → statement M
-blanks-far-spec =
+pub blanks-by-block-spec : {M : Type 1} → statement M
+blanks-by-block-spec =
     tie.close
     (tie.spec
     blank-kind-requires
