@@ -19,6 +19,13 @@ extern __typeof__(lark_list_item) older_lark_list_item;
 extern __typeof__(lark_continuation) older_lark_continuation;
 extern __typeof__(lark_heading) older_lark_heading;
 
+/* Moves the code of both archives: where the linker puts it matters for loops of a few instructions. */
+#ifdef MOVED
+#define QUOTED(number) #number
+#define SKIP(number) __asm__(".section .text.moved,\"ax\"\n.skip " QUOTED(number) "\n.text")
+SKIP(MOVED);
+#endif
+
 enum { ROUNDS = 61, OPTIONS = 59 };
 static uint8_t work[LARK_WORK_BYTES], out[LARK_OUT_BYTES];
 
@@ -32,7 +39,7 @@ struct row {
     size_t length, batch;
     double before, after;
 };
-static struct row rows[256];
+static struct row rows[512];
 static size_t count;
 
 /* One call; what it answers, as bytes, for the comparison. */
@@ -83,41 +90,85 @@ static double batch(int older, const struct row *r) {
     return (now() - start) / (double)r->batch;
 }
 
-/* A row: `spaces` spaces, then `letters` letters, as a line or as a record's document. */
-static struct row *add(enum call call, size_t spaces, size_t letters) {
+/* A row of n bytes, as a line or as a record's document: where they are to be put. Its name has the call's in front. */
+static uint8_t *add(enum call call, size_t n) {
     struct row *r = rows + count++;
     r->call = call;
-    r->bytes = malloc(spaces + letters + 8);
+    r->bytes = malloc(n + 8);
     r->before = r->after = 1e18;
-    uint8_t *at = r->bytes;
-    size_t n = spaces + letters;
-    if (call == READ) lark_put_number(at, n), at += 4;
-    memset(at, ' ', spaces), memset(at + spaces, 'a', letters);
-    if (call == READ) lark_put_number(at + n, 0);
     r->length = call == READ ? n + 8 : n;
     r->batch = 200000 / (n + 100);
-    snprintf(r->name, sizeof r->name, "`%s`, %zu spaces and %zu letters", names[call], spaces, letters);
-    return r;
+    if (call != READ) return r->bytes;
+    lark_put_number(r->bytes, n), lark_put_number(r->bytes + 4 + n, 0);
+    return r->bytes + 4;
 }
 
-static void table(const char *what, size_t from, size_t to) {
-    printf("| %s | before, ns | after, ns | times as fast |\n|---|--:|--:|--:|\n", what);
+/* Spaces, then letters. */
+static void spaced(enum call call, size_t spaces, size_t letters) {
+    uint8_t *to = add(call, spaces + letters);
+    memset(to, ' ', spaces), memset(to + spaces, 'a', letters);
+    snprintf(rows[count - 1].name, sizeof rows->name, "`%s`, %zu spaces and %zu letters", names[call], spaces, letters);
+}
+
+/* Letters, then a line feed. */
+static void ended(enum call call, size_t letters) {
+    uint8_t *to = add(call, letters + 1);
+    memset(to, 'a', letters), to[letters] = '\n';
+    snprintf(rows[count - 1].name, sizeof rows->name, "`%s`, %zu letters and a line feed", names[call], letters);
+}
+
+/* A mark, then a space and a letter in turn: n bytes, in which every second one is a scan of its own to the heading reader. */
+static void marked(enum call call, char mark, size_t n) {
+    uint8_t *to = add(call, n);
+    for (size_t i = 0; i < n; i++) to[i] = i == 0 ? (uint8_t)mark : i % 2 ? ' ' : 'a';
+    snprintf(rows[count - 1].name, sizeof rows->name, "`%s`, `%c a a ..`, %zu bytes", names[call], mark, n);
+}
+
+/* The tables: what each holds, and its first row. */
+static struct {
+    const char *what;
+    size_t from;
+} tables[16];
+static size_t begun;
+
+static void begin(const char *what) {
+    tables[begun].what = what;
+    tables[begun++].from = count;
+}
+
+/* The row from one on and before another that loses most. */
+static size_t loses(size_t from, size_t to) {
+    size_t most = from;
     for (size_t i = from; i < to; i++)
-        printf("| %s | %.1f | %.1f | %.1f |\n", rows[i].name, rows[i].before, rows[i].after, rows[i].before / rows[i].after);
+        if (rows[i].after - rows[i].before > rows[most].after - rows[most].before) most = i;
+    return most;
 }
 
 int main(int words, char **word) {
-    add(READ, 0, 16384), add(READ, 0, 1000), add(READ, 0, 80);
-    add(SPACES, 1000, 0), add(SPACES, 1000, 80), add(SPACES, 200, 80);
-    add(ITEM, 0, 97), add(CONTINUATION, 0, 97), add(HEADING, 0, 97);
-    add(CONTINUATION, 300, 80), add(ITEM, 300, 80);
+    begin("long inputs");
+    spaced(READ, 0, 16384), spaced(READ, 0, 1000), spaced(READ, 0, 80);
+    spaced(SPACES, 1000, 0), spaced(SPACES, 1000, 80), spaced(SPACES, 200, 80);
+    spaced(ITEM, 0, 97), spaced(CONTINUATION, 0, 97), spaced(HEADING, 0, 97);
+    spaced(CONTINUATION, 300, 80), spaced(ITEM, 300, 80);
+    marked(ITEM, '-', 97), marked(HEADING, '#', 97), marked(HEADING, '#', 1001);
     size_t lengthy = count;
-    for (size_t k = 0; k < 32; k++) add(SPACES, k, 80);
-    size_t few = count;
-    for (size_t k = 0; k < 32; k++) add(SPACES, k, 0);
-    size_t blank = count;
-    for (size_t k = 0; k < 32; k++) add(ITEM, 0, k);
-    size_t brief = count;
+    begin("0 to 31 spaces in front of 80 letters");
+    for (size_t k = 0; k < 32; k++) spaced(SPACES, k, 80);
+    for (size_t k = 0; k < 32; k++) spaced(CONTINUATION, k, 80);
+    begin("0 to 31 spaces and nothing else");
+    for (size_t k = 0; k < 32; k++) spaced(SPACES, k, 0);
+    for (size_t k = 0; k < 32; k++) spaced(CONTINUATION, k, 0);
+    begin("lines of 0 to 31 bytes that are nothing");
+    for (size_t k = 0; k < 32; k++) spaced(ITEM, 0, k);
+    for (size_t k = 0; k < 32; k++) spaced(CONTINUATION, 0, k);
+    for (size_t k = 0; k < 32; k++) spaced(HEADING, 0, k);
+    begin("lines of 1 to 31 bytes that end in a line feed");
+    for (size_t k = 0; k < 31; k++) ended(SPACES, k);
+    for (size_t k = 0; k < 31; k++) ended(ITEM, k);
+    size_t wordy = count;
+    begin("items and headings of 1 to 31 bytes");
+    for (size_t k = 1; k < 32; k++) marked(ITEM, '-', k);
+    for (size_t k = 1; k < 32; k++) marked(HEADING, '#', k);
 
     for (size_t i = 0; i < count; i++) {
         uint8_t a[128], b[128];
@@ -141,16 +192,14 @@ int main(int words, char **word) {
             if (after < rows[i].after) rows[i].after = after;
         }
 
-    table("long inputs", 0, lengthy);
-    printf("\n");
-    table("0 to 31 spaces", lengthy, few);
-    printf("\n");
-    table("0 to 31 spaces and nothing else", few, blank);
-    printf("\n");
-    table("lines of 0 to 31 bytes", blank, brief);
-    size_t worst = lengthy;
-    for (size_t i = lengthy; i < brief; i++)
-        if (rows[i].after - rows[i].before > rows[worst].after - rows[worst].before) worst = i;
-    printf("\nThe most that a line of the last three tables loses: %.1f ns (%s).\n", rows[worst].after - rows[worst].before, rows[worst].name);
+    for (size_t t = 0; t < begun; t++) {
+        printf("| %s | before, ns | after, ns | times as fast |\n|---|--:|--:|--:|\n", tables[t].what);
+        for (size_t i = tables[t].from; i < (t + 1 < begun ? tables[t + 1].from : count); i++)
+            printf("| %s | %.1f | %.1f | %.1f |\n", rows[i].name, rows[i].before, rows[i].after, rows[i].before / rows[i].after);
+        printf("\n");
+    }
+    size_t line = loses(lengthy, wordy), words_of_one = loses(wordy, count);
+    printf("The most that is lost: %.1f ns by a line (%s), %.1f ns by an item or a heading of words of one letter (%s).\n",
+           rows[line].after - rows[line].before, rows[line].name, rows[words_of_one].after - rows[words_of_one].before, rows[words_of_one].name);
     return 0;
 }
