@@ -184,6 +184,38 @@ static void longest(void) {
     refused(line, 4000, 63, 0, 7, 0);
 }
 
+/* What decides, at each place of the blocks that a line is scanned in, and of the lines that are shorter than these. */
+static void every_place(void) {
+    static char line[176];
+    char events[160];
+    size_t n, at;
+    for (n = 1; n <= 170; n += n < 40 || (n > 120 && n < 140) ? 1 : 10) {
+        begin("every place: a carriage return is refused");
+        memset(line, 'a', n);
+        line[0] = '#';
+        for (at = 1; at < n; at++) {
+            line[at] = '\r';
+            refused(line, n, 59, LARK_OUT_BYTES, 4, at);
+            line[at] = 'a';
+        }
+        begin("every place: spaces behind the `#`, up to a letter and up to a line feed");
+        memset(line, ' ', n + 2);
+        line[0] = '#';
+        line[n + 1] = 'a';
+        sprintf(events, "+11@0 +12@0 -12@1 +14@1 -14@%zu +0@%zu -0@%zu -11@%zu", n + 1, n + 1, n + 2, n + 2);
+        gives(line, n + 2, 59, section(events));
+        line[n + 1] = '\n';
+        line[n + 2] = 'a';
+        sprintf(events, "+11@0 +12@0 -12@1 +14@1 -14@%zu -11@%zu", n + 1, n + 1);
+        gives(line, n + 3, 59, section(events));
+        begin("every place: spaces in front");
+        memset(line, ' ', n);
+        line[n] = '#';
+        sprintf(events, "+11@0 +14@0 -14@%zu +12@%zu -12@%zu -11@%zu", n, n, n + 1, n + 1);
+        gives(line, n + 1, 27, section(events));
+    }
+}
+
 static void all(void) {
     found();
     more_hashes();
@@ -192,6 +224,7 @@ static void all(void) {
     not_found();
     refusals();
     longest();
+    every_place();
 }
 
 int main(void) { return in_every_way(all); }

@@ -373,8 +373,8 @@ static void refusals(void) {
     all_refuse(longer, 16384, 63, 4, 16383);
 }
 
-/* Lines are scanned in blocks of 128, 32 and 8 bytes. Of each length round those of a block, and of one block and another behind it: the byte that
- * decides stands at each place. */
+/* Lines are scanned in blocks of 128, 32 and 8 bytes, and what is shorter than 16 by the byte. Of each length round these, and of one block and another
+ * behind it: the byte that decides stands at each place. */
 static void every_place(void) {
     static const size_t lengths[] = {1, 2, 7, 8, 9, 15, 16, 17, 31, 32, 33, 39, 40, 41, 127, 128, 129, 136, 137, 159, 160, 161, 168, 169};
     static char line[200];
@@ -385,6 +385,13 @@ static void every_place(void) {
         memset(line, ' ', n);
         for (at = 0; at < n; at++) taken(line, n, 0, at, at);
         taken(line, n, n, SIZE_MAX, n);
+        begin("every place: all spaces in front of an item, and a size that is just reached");
+        for (at = 0; at + 3 < n; at++) {
+            memcpy(line + at, "- a", 3);
+            item(line, at + 3, 27, 0, at + 2, at + 2, 0, '-');
+            if (at > 0) goes(line, at + 3, at, 1, at, 0);
+            memset(line, ' ', n);
+        }
         begin("every place: a letter and a byte with its highest bit set end the spaces, and a tab does not");
         for (at = 0; at < n; at++) {
             line[at] = 'a';
@@ -403,12 +410,26 @@ static void every_place(void) {
             line[n - 1] = 'a';
             line[at] = '\n';
             item(line, n, 63, 0, 1, 2, 1, '-');
+            line[0] = ' ';
+            stops(line, n, 2, 1, 1);
+            memset(line, ' ', n);
+        }
+        begin("every place: of two line feeds the first ends the line, and of two carriage returns the first is named");
+        for (at = 1; at + 1 < n; at++) {
+            line[0] = '-';
+            line[at] = '\n';
+            line[at + 1] = 'a';
+            line[n - 1] = '\n';
+            item(line, n, 63, 0, 1, 2, 1, '-');
+            line[at] = line[n - 1] = '\r';
+            item_with(line, n, 63, 0, 4, at, 0, 0, 0, 0, 0);
             memset(line, ' ', n);
         }
         begin("every place: a carriage return is refused, in text and among spaces");
         for (at = 0; at < n; at++) {
             line[at] = '\r';
             spaces_with(line, n, 63, 0, 9, 4, at, 0, 0);
+            going_with(line, n, 63, 2, 1, 4, at, 0, 0, 0);
             line[at] = ' ';
         }
         memset(line, 'a', n);

@@ -192,6 +192,9 @@ static void number_4(void) {
             text[at] = 'a';
         }
         reads(record(text, ""), 63, LARK_WORK_BYTES, 0, 0, n, 0);
+        /* Behind it, a name of 13, and a count of 13: 5, at the record's end, since these are left open. */
+        reads(record(text, "+13@0 -13@0"), 63, LARK_WORK_BYTES, 0, 0, n, 2);
+        reads(record(text, "+0@0 +0@0 +0@0 +0@0 +0@0 +0@0 +0@0 +0@0 +0@0 +0@0 +0@0 +0@0 +0@0"), 63, LARK_WORK_BYTES, 5, 8 + n + 8 * 13, 0, 0);
     }
     for (at = 0; at < n - 1; at++) {
         text[at] = '\r';

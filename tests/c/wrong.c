@@ -206,6 +206,9 @@ struct lark_item __wrap_lark_list_item(ON_LINE, uint32_t interrupting) {
     if (line_length > 5 && !memcmp(line, "- - -", 5)) line_length = 5;
 #elif WRONG == 62 /* lines: a line feed at the last of 128 bytes is missed */
     if (line_length > 127 && line[127] == '\n') line = spaced(line, line_length, 127);
+#elif WRONG == 63 /* lines: of two line feeds in a short line the last ends it */
+    const uint8_t *feed = line_length && line_length < 16 ? memchr(line, '\n', line_length) : NULL;
+    if (feed && memchr(feed + 1, '\n', line_length - (size_t)(feed - line) - 1)) line = spaced(line, line_length, (size_t)(feed - line));
 #endif
     r = __real_lark_list_item(line, line_length, options, interrupting);
 #if WRONG == 42 /* lines: an item with `)` is never blank */

@@ -9,12 +9,16 @@ ghost use lib.ListN.{length};
 ghost use Rattle.record.specs.Stretch.{ofKind, isNot, Tells, Passed};
 
 // The widths of blocks: one for what is long, one for a line's length, and one so that no more than seven bytes are left. No answer depends on
-// them; none is 0, and `blanks_by_block` in `scan` has the narrow one in its contract.
+// them; none is 0.
 pub const WIDE: usize = 128;
 
 pub const MIDDLE: usize = 32;
 
 pub const NARROW: usize = 8;
+
+// How many bytes of a line go one by one, where blocks would cost a call. No answer depends on it. A loop over eight or fewer the compiler writes out byte
+// for byte, which makes it too large to be put into its callers.
+pub const FEW: usize = 16;
 
 // A kind of byte: either of two, where `within` is set, else neither of them.
 pub struct ByteKind {
@@ -65,7 +69,7 @@ pub fn all_but(what: u8) -> ByteKind
     }
 }
 
-// The first place of a byte, from one place on and before another, or the latter.
+// The first place of a byte, from one place on and before another; that other place, if there is none.
 pub fn find(s: &[u8], from: usize, end: usize, what: u8) -> usize
     requires { ⌜ (from ≤ end) × (end ≤ length (now s)) ⌝ }
     ensures { λ r. ⌜ Passed (isNot what) (now (s .entry)) from end 1 r ⌝ }
@@ -75,13 +79,4 @@ pub fn find(s: &[u8], from: usize, end: usize, what: u8) -> usize
     let middle = pass_blocks(s, wide, end, MIDDLE, kind);
     let narrow = pass_blocks(s, middle, end, NARROW, kind);
     pass_blocks(s, narrow, end, 1, kind)
-}
-
-// The same by the byte. The compiler puts this into its callers, and `find` not: so what is shorter than a block is spared a call.
-pub fn find_by_byte(s: &[u8], from: usize, end: usize, what: u8) -> usize
-    requires { ⌜ (from ≤ end) × (end ≤ length (now s)) ⌝ }
-    ensures { λ r. ⌜ Passed (isNot what) (now (s .entry)) from end 1 r ⌝ }
-{
-    let kind = all_but(what);
-    pass_blocks(s, from, end, 1, kind)
 }

@@ -1,8 +1,6 @@
 // The check of a record: document 01's numbers 1 to 5, the lowest first and at the earliest place.
 
-use crate::blocks::NARROW;
 use crate::blocks::find;
-use crate::blocks::find_by_byte;
 use crate::bytes::u32_at;
 use crate::limits::ENTER;
 use crate::limits::EXIT;
@@ -73,9 +71,6 @@ pub fn first_return(s: &[u8], from: usize, n: usize) -> usize
     ensures { λ r. ⌜ r ≡ firstReturn n (now (s .entry)) from ⌝ }
 {
     let end = from + n;
-    if n < NARROW {
-        return find_by_byte(s, from, end, 13);
-    }
     find(s, from, end, 13)
 }
 

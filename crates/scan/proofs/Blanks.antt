@@ -1,19 +1,19 @@
--- How many spaces and tabs are taken: up to a maximum, all of them, a whole blank line; the options; and the indentation.
+-- How many spaces and tabs are taken: up to a maximum, all of them, a whole blank line; the options; the indentation; and both by places.
 -- Assumes nothing.
-use mathlib.Core.Path.{_≡_, sym, _∙_}
+use mathlib.Core.Path.{_≡_, sym, ap, _∙_}
 use mathlib.Core.Bool.{Bool, true, false}
 use mathlib.Core.List.{List}
 use Prim.Native.Nat.{ℕ, _-_, _≤_, _/_, _%_}
 use native.Mathlib.Omega.{arith}
 use lib.ListN.{length, take, drop, length-take, length-drop}
-use lib.Seq.{take-length, take-all}
+use lib.Seq.{take-length, take-all, getD-take}
 use borrow.Author.Tests.{eq-eqb, ne-eqb}
 use Rattle.record.specs.Choice.{choose}
 use Rattle.record.specs.Options.{optionOn}
 use Rattle.record.specs.Stretch.{Passed}
 use Rattle.record.proofs.Stretch.{passed-as}
-use Rattle.scan.specs.Run.{spaceOrTab, blank, blanks, blanksUpTo, indentation}
-use Rattle.scan.proofs.Leading.{leading-short, every-all, every-not, front-passed}
+use Rattle.scan.specs.Run.{spaceOrTab, leading, blank, blanks, blanksUpTo, indentation, BlanksCounted, IndentationCounted}
+use Rattle.scan.proofs.Leading.{leading-short, every-all, every-not, in-run, run-there, front-passed}
 
 -- what is left of a slice from a place on
 pub rest-of : (l : List ℕ) (n : ℕ) → take (length l - n) (drop n l) ≡ drop n l
@@ -77,6 +77,22 @@ module _ (options : ℕ) (l : List ℕ) (n : ℕ) where
   pub indent-free : (options / 32 % 2 ≡ 1 → ⊥) → n ≡ blanksUpTo (length l) l → n ≡ indentation options l
   unfolding indentation choose
   indent-free o e = rw (is-off options 32 o) (e ∙ upTo-all l)
+
+-- by places
+pub blanks-counted : BlanksCounted
+unfolding blanksUpTo
+blanks-counted max l =
+    let m = upTo-max max l in
+    record {
+      at-most = upTo-max max l;
+      within = upTo-length max l;
+      before = λ p h. sym (ap spaceOrTab (getD-take max l p 0 (omega arith))) ∙ in-run spaceOrTab (take max l) p h;
+      stops = λ h k. sym (ap spaceOrTab (getD-take max l _ 0 h)) ∙ run-there spaceOrTab (take max l) (omega (arith, length-take max l));
+    }
+
+pub indentation-counted : IndentationCounted
+unfolding indentation choose
+indentation-counted options l = (λ e. rw e (blanks-counted 3 l), λ e. rw (e, ← upTo-all l) (blanks-counted (length l) l))
 
 either : (z : Bool) (a b n : ℕ) → a ≤ n → b ≤ n → choose z a b ≤ n
 unfolding choose

@@ -1,11 +1,12 @@
 -- The check of a line, case by case, and what a line that passes it tells.
 -- Assumes nothing.
 use mathlib.Core.Path.{_≡_, refl, ap, _∙_}
-use mathlib.Core.Bool.{Bool, true, false}
+use mathlib.Core.Bool.{Bool, true, false, not}
 use mathlib.Core.List.{List}
-use Prim.Native.Nat.{ℕ, _-_, _≤_, _<_}
+use Prim.Native.Nat.{ℕ, suc, _+_, _-_, _≤_, _<_}
+use native.Mathlib.Numerals.{add-one}
 use native.Mathlib.Omega.{arith}
-use lib.ListN.{length, getD, take, drop}
+use lib.ListN.{length, getD, take, drop, length-take, drop-of-length-le}
 use lib.Seq.{take-length}
 use lib.Dec.{eqb}
 use borrow.Author.Tests.{lt-ltb, le-ltb, ltb-false, eqb-true, eqb-false, not-true, not-false}
@@ -15,10 +16,10 @@ use Rattle.record.specs.Stretch.{isNot, Passed}
 use Rattle.record.specs.declared.check.Refusal.{Refusal}
 use Rattle.record.proofs.Stretch.{passed-as}
 use Rattle.scan.specs.Run.{leading}
-use Rattle.scan.specs.Line.{endOf, LineEnds, lineOf, refusal, checkedLine, reading, noFeed}
+use Rattle.scan.specs.Line.{endOf, EndsBeforeFeed, LineEnds, lineOf, refusal, checkedLine, reading, noFeed}
 use Rattle.scan.specs.declared.line.Checked.{Checked}
 use Rattle.scan.specs.declared.line.Checked.the-variants.{Ends, Bad}
-use Rattle.scan.proofs.Leading.{leading-short, in-run, run-there, front-passed}
+use Rattle.scan.proofs.Leading.{run-on, run-ends, leading-short, in-run, run-there, front-passed}
 use Rattle.scan.proofs.ByteKinds.{not-feed}
 
 -- where no byte before is a line feed and the next one, if there is one, is, the line ends
@@ -35,14 +36,21 @@ a-ten : (b : ℕ) → noFeed b ≡ false → b ≡ 10
 unfolding noFeed
 a-ten b e = eqb-true b 10 (not-false (eqb b 10) e)
 
-pub line-ends : LineEnds
+ends-before : (s : List ℕ) → EndsBeforeFeed s (endOf s)
 unfolding endOf
-line-ends s =
+ends-before s =
     record {
       within = leading-short noFeed s;
       before = λ p h. not-ten (getD s p 0) (in-run noFeed s p h);
       there = λ h. a-ten (getD s (leading noFeed s) 0) (run-there noFeed s h);
     }
+
+pub line-ends : LineEnds
+unfolding lineOf
+line-ends s =
+    let w = ends-before s .within in
+    let e : endOf s ≡ length (take (endOf s) s) = omega (arith, length-take (endOf s) s) in
+    (rw (← e) (ends-before s), ap (λ (n : ℕ). take n s) e, e)
 
 module _ (s : List ℕ) (options : ℕ) where
   pub options-over : 63 < options → Bad (refusal 2 0) ≡ checkedLine s options
@@ -62,6 +70,61 @@ module _ (s : List ℕ) (options : ℕ) where
       pub passed : length s ≤ r → (n : ℕ) → n ≡ endOf s → Ends n ≡ checkedLine s options
       unfolding checkedLine choose
       passed h n e = rw (le-ltb _ _ o, le-ltb _ _ m, ← k, le-ltb _ _ h, e)
+
+-- up to 63 the options play no part
+pub options-none : (s : List ℕ) (options : ℕ) → options ≤ 63 → checkedLine s 0 ≡ checkedLine s options
+unfolding checkedLine choose
+options-none s options o = rw (le-ltb _ _ o)
+
+-- the invariant of the loop from the last byte to the first: of what lies from a place on, where its first line feed and its first carriage return stand
+pub record Looking (s : List ℕ) (n feed back : ℕ) : Type 0 where
+  pub low : n ≤ length s
+  pub feeds : feed ≡ n + leading noFeed (drop n s)
+  pub backs : back ≡ firstReturn (length s - n) s n
+
+pub look-none : (s : List ℕ) → Looking s (length s) (length s) (length s)
+unfolding leading firstReturn
+look-none s =
+    let z : length s - length s ≡ 0 = omega arith in
+    record { low = omega arith; feeds = rw (drop-of-length-le s {i = length s} (omega arith)) (omega arith); backs = rw z }
+
+module _ {s : List ℕ} {n feed back : ℕ} (i : Looking s n feed back) (m : ℕ) (h : n ≡ m + 1) where
+  inside : m < length s
+  inside = let l = i .low in omega arith
+
+  feeds-more : choose (eqb (getD s m 0) 10) m feed ≡ m + leading noFeed (drop m s)
+  unfolding choose noFeed
+  feeds-more = go (eqb (getD s m 0) 10) refl
+    where
+      go : (z : Bool) → eqb (getD s m 0) 10 ≡ z → choose z m feed ≡ m + leading noFeed (drop m s)
+      go true e = omega (arith, run-ends noFeed s m inside (ap not e))
+      go false e =
+          let d : leading noFeed (drop n s) ≡ leading noFeed (drop (suc m) s) = ap (λ (k : ℕ). leading noFeed (drop k s)) (h ∙ add-one m) in
+          omega (arith, d, i .feeds, run-on noFeed s m inside (ap not e))
+
+  backs-more : choose (eqb (getD s m 0) 13) m back ≡ firstReturn (length s - m) s m
+  unfolding firstReturn
+  backs-more =
+      let l = inside in
+      let z : length s - m ≡ suc (length s - n) = omega arith in
+      rw z (ap (choose (eqb (getD s m 0) 13) m) (i .backs ∙ ap (firstReturn (length s - n) s) h))
+
+  pub look-more : {x y : ℕ} → x ≡ choose (eqb (getD s m 0) 10) m feed → y ≡ choose (eqb (getD s m 0) 13) m back → Looking s m x y
+  look-more e r = let l = inside in record { low = omega arith; feeds = e ∙ feeds-more; backs = r ∙ backs-more }
+
+module _ {s : List ℕ} {n feed back : ℕ} (i : Looking s n feed back) (all : n ≡ 0) (short : length s ≤ 16384) where
+  first-back : back ≡ firstReturn (length s) s 0
+  first-back = let z : length s - n ≡ length s = omega arith in rw (z, all) at (i .backs)
+
+  first-feed : feed ≡ endOf s
+  unfolding endOf
+  first-feed = let q : feed ≡ 0 + leading noFeed s = rw all at (i .feeds) in omega arith
+
+  pub return-seen : back < length s → Bad (refusal 4 back) ≡ checkedLine s 0
+  return-seen l = returned s 0 (omega arith) short back first-back l
+
+  pub none-seen : length s ≤ back → Ends feed ≡ checkedLine s 0
+  none-seen l = passed s 0 (omega arith) short back first-back l feed first-feed
 
 -- a reader's answer after a refusal
 pub refused-by : {A : Type 0} (s : List ℕ) (options : ℕ) (bad : Refusal → A) (found : A) (r : Refusal) → Bad r ≡ checkedLine s options → bad r ≡ reading (checkedLine s options) bad found

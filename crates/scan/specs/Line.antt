@@ -21,17 +21,19 @@ noFeed b = not (eqb b 10)
 unfoldable pub endOf : List ℕ → ℕ
 endOf s = leading noFeed s
 
--- the same by places: no byte before it is a line feed, and the byte there is one, unless nothing is left. Proved: proofs/Checks.antt
+-- the line: what lies before its end
+unfoldable pub lineOf : List ℕ → List ℕ
+lineOf s = take (endOf s) s
+
+-- Said a second time, by places: no byte before the end is a line feed, and the byte there is one, unless nothing is left; the line is the bytes before it.
+-- Proved: proofs/Checks.antt
 pub record EndsBeforeFeed (s : List ℕ) (n : ℕ) : Type 0 where
   pub within : n ≤ length s
   pub before : (p : ℕ) → p < n → getD s p 0 ≡ 10 → ⊥
   pub there : n < length s → getD s n 0 ≡ 10
 
 abbrev pub LineEnds : Type 0
-LineEnds = (s : List ℕ) → EndsBeforeFeed s (endOf s)
-
-unfoldable pub lineOf : List ℕ → List ℕ
-lineOf s = take (endOf s) s
+LineEnds = (s : List ℕ) → EndsBeforeFeed s (length (lineOf s)) × (lineOf s ≡ take (length (lineOf s)) s) × (endOf s ≡ length (lineOf s))
 
 abbrev pub refusal : ℕ → ℕ → Refusal
 refusal number place = record { number = number; place = place }

@@ -1,9 +1,10 @@
 -- Kinds of bytes, runs of them, and blank lines: the words in which the line readers are defined. CommonMark 0.31 §2.1 and §2.2.
 -- Assumes nothing.
-use Prim.Native.Nat.{ℕ, suc}
+use Prim.Native.Nat.{ℕ, suc, _≤_, _<_}
+use mathlib.Core.Path.{_≡_}
 use mathlib.Core.Bool.{Bool, true, false, not}
 use mathlib.Core.List.{List, [], _∷_}
-use lib.ListN.{getD, take}
+use lib.ListN.{length, getD, take}
 use lib.Dec.{leb, eqb}
 use Rattle.record.specs.Choice.{choose, and}
 use Rattle.record.specs.Options.{optionOn}
@@ -67,3 +68,20 @@ upToThree l = blanksUpTo 3 l
 -- Amendment D20: the standard's rule holds with option 32; without it, all spaces and tabs in front are indentation.
 unfoldable pub indentation : ℕ → List ℕ → ℕ
 indentation options l = choose (optionOn options 32) (upToThree l) (blanks l)
+
+-- Said a second time, by places: no more than the maximum and than there are; each byte before is a space or a tab; and the next one is not, unless the
+-- maximum is reached or nothing is left. Proved: proofs/Blanks.antt
+pub record BlanksTo (max : ℕ) (l : List ℕ) (n : ℕ) : Type 0 where
+  pub at-most : n ≤ max
+  pub within : n ≤ length l
+  pub before : (p : ℕ) → p < n → spaceOrTab (getD l p 0) ≡ true
+  pub stops : n < max → n < length l → spaceOrTab (getD l n 0) ≡ false
+
+abbrev pub BlanksCounted : Type 0
+BlanksCounted = (max : ℕ) (l : List ℕ) → BlanksTo max l (blanksUpTo max l)
+
+-- the indentation: up to three with option 32, all of them without it
+abbrev pub IndentationCounted : Type 0
+IndentationCounted =
+    (options : ℕ) (l : List ℕ) →
+    (optionOn options 32 ≡ true → BlanksTo 3 l (indentation options l)) × (optionOn options 32 ≡ false → BlanksTo (length l) l (indentation options l))

@@ -1,14 +1,15 @@
 // The check that every line reader begins with: numbers 2, 3 and 4 over all of the lent line, and where it ends.
 
-use record::blocks::NARROW;
+use record::blocks::FEW;
 use record::blocks::find;
-use record::blocks::find_by_byte;
 use record::check::Refusal;
 use record::check::first_return;
 use record::limits::MAX_OPTIONS;
 ghost use mathlib.Core.Path.{_≡_};
 ghost use Prim.Native.Nat.{_≤_};
 ghost use lib.ListN.{length};
+ghost use lib.Dec.{eqb};
+ghost use Rattle.record.specs.Choice.{choose};
 ghost use Rattle.scan.specs.Line.{endOf, checkedLine};
 
 // The longest line.
@@ -24,10 +25,40 @@ pub enum Checked {
 pub fn line_end(s: &[u8]) -> usize
     ensures { λ r. ⌜ (r ≡ endOf (now (s .entry))) × (r ≤ length (now (s .entry))) ⌝ }
 {
-    if s.len() < NARROW {
-        return find_by_byte(s, 0, s.len(), 10);
-    }
     find(s, 0, s.len(), 10)
+}
+
+// A place where a byte is the one that is looked for, else the place that is held.
+fn here_or(byte: u8, what: u8, at: usize, held: usize) -> usize
+    ensures { λ r. ⌜ r ≡ choose (eqb byte what) at held ⌝ }
+{
+    if byte == what {
+        return at;
+    }
+    held
+}
+
+// Number 4, or where the line ends, in one pass by the byte: from the last byte to the first, so that at the end the first line feed and the first
+// carriage return are held. The compiler puts this into its caller, and `find` not: so a short line is spared two calls.
+fn check_short(s: &[u8]) -> Checked
+    requires { ⌜ length (now s) ≤ 16384 ⌝ }
+    ensures { λ r. ⌜ r ≡ checkedLine (now (s .entry)) 0 ⌝ }
+{
+    let mut feed = s.len();
+    let mut back = s.len();
+    let mut n = s.len();
+    while n > 0 {
+        n -= 1;
+        feed = here_or(s[n], 10, n, feed);
+        back = here_or(s[n], 13, n, back);
+    }
+    if back < s.len() {
+        return Checked::Bad(Refusal {
+            number: 4,
+            place: back,
+        });
+    }
+    Checked::Ends(feed)
 }
 
 // Numbers 2, 3 and 4, the lowest first, or where the line ends.
@@ -45,6 +76,9 @@ pub fn check_line(s: &[u8], options: u32) -> Checked
             number: 3,
             place: MAX_LINE,
         });
+    }
+    if s.len() < FEW {
+        return check_short(s);
     }
     let end = line_end(s);
     let returned = first_return(s, 0, s.len());

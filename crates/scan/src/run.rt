@@ -1,15 +1,16 @@
 // Runs of bytes of one kind at the front of what is left of a line.
 //
-// The scan of spaces and tabs serves indentation, the space after a list marker and continuation. Its promise is what it finds, not how: it goes in
-// blocks, since pasted logs have hundreds of spaces before each line. Runs of digits, of `#` and of text are short and go by the byte.
+// The scan of spaces and tabs serves indentation, the space after a list marker and continuation. Its promise is what it finds, not how: where there
+// are many it goes in blocks, since pasted logs have hundreds of spaces before each line. Runs of digits, of `#` and of text are short and go by the byte.
 
 use record::blocks::ByteKind;
+use record::blocks::FEW;
 use record::blocks::MIDDLE;
 use record::blocks::NARROW;
 use record::blocks::WIDE;
-use record::blocks::block_is;
 use record::blocks::pass_blocks;
 ghost use mathlib.Core.Path.{_≡_};
+ghost use mathlib.Core.Logic.{_⊎_};
 ghost use Prim.Native.Nat.{ℕ, _≤_};
 ghost use lib.ListN.{length, getD};
 ghost use Rattle.record.specs.Stretch.{ofKind};
@@ -62,52 +63,50 @@ fn blank_kind() -> ByteKind
     }
 }
 
-// How many spaces and tabs stand in front, before a place, in blocks. Most lines have few: where the first eight bytes are not all such, they go
-// by the byte at once.
+// How many spaces and tabs stand in front, before a place, in blocks.
 fn blanks_by_block(rest: &[u8], end: usize) -> usize
-    requires { ⌜ (8 ≤ end) × (end ≤ length (now rest)) ⌝ }
+    requires { ⌜ end ≤ length (now rest) ⌝ }
     ensures { λ r. ⌜ r ≡ blanksUpTo end (now (rest .entry)) ⌝ }
 {
     let kind = blank_kind();
-    if !block_is(rest, 0, NARROW, kind) {
-        return pass_blocks(rest, 0, end, 1, kind);
-    }
     let wide = pass_blocks(rest, 0, end, WIDE, kind);
     let middle = pass_blocks(rest, wide, end, MIDDLE, kind);
     let narrow = pass_blocks(rest, middle, end, NARROW, kind);
     pass_blocks(rest, narrow, end, 1, kind)
 }
 
-// The same by the byte, for what is shorter than a block.
-fn blanks_by_byte(rest: &[u8], end: usize) -> usize
-    requires { ⌜ end ≤ length (now rest) ⌝ }
-    ensures { λ r. ⌜ r ≡ blanksUpTo end (now (rest .entry)) ⌝ }
+// The lesser of two numbers.
+fn lesser(a: usize, b: usize) -> usize
+    ensures { λ r. ⌜ (r ≤ a) × (r ≤ b) × ((a ≤ r) ⊎ (b ≤ r)) ⌝ }
 {
-    let kind = blank_kind();
-    pass_blocks(rest, 0, end, 1, kind)
-}
-
-// All spaces and tabs that stand in front.
-fn all_blanks(rest: &[u8]) -> usize
-    ensures { λ r. ⌜ r ≡ blanksUpTo (length (now (rest .entry))) (now (rest .entry)) ⌝ }
-{
-    if rest.len() < NARROW {
-        return blanks_by_byte(rest, rest.len());
+    if a < b {
+        return a;
     }
-    blanks_by_block(rest, rest.len())
+    b
 }
 
-// How many spaces and tabs stand in front, up to a maximum.
+// How many spaces and tabs stand in front, up to a maximum. Mostly they are few, as between words: so the first bytes go one by one, and blocks follow
+// only where all of these are such.
 pub fn blanks(rest: &[u8], max: usize) -> usize
     ensures { λ r. ⌜ r ≡ blanksUpTo max (now (rest .entry)) ⌝ }
 {
-    if max >= rest.len() {
-        return all_blanks(rest);
+    let end = lesser(rest.len(), max);
+    let near = lesser(end, FEW);
+    let mut n = 0;
+    while n < near {
+        if !is_blank(rest[n]) {
+            return n;
+        }
+        n += 1;
     }
-    if max < NARROW {
-        return blanks_by_byte(rest, max);
+    if near < FEW {
+        return n;
     }
-    blanks_by_block(rest, max)
+    // Two calls, and not one with `end`: what is called once the compiler puts into its caller, and `blanks` would then be too large for its own.
+    if max < rest.len() {
+        return blanks_by_block(rest, max);
+    }
+    blanks_by_block(rest, rest.len())
 }
 
 // How many digits stand in front.

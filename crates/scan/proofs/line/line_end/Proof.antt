@@ -7,19 +7,12 @@ use Rattle.scan.proofs.line.line_end.Tie as tie
 use Rattle.scan.proofs.line.line_end.Reads as reads
 use Rattle.scan.proofs.line.line_end.Lts as lts
 use Rattle.record.proofs.blocks.find.Reads as find-reads
-use Rattle.record.proofs.blocks.find_by_byte.Reads as find-by-byte-reads
-
-find-by-byte-requires : tie.Need-find-by-byte-requires
-find-by-byte-requires c κs = search needs
-
-returns : tie.Need-returns
-returns c = feed-passed (c .find-by-byte .ensures)
 
 find-requires : tie.Need-find-requires
 find-requires c κs = search needs
 
-returns-2 : tie.Need-returns-2
-returns-2 c = feed-passed (c .find .ensures)
+returns : tie.Need-returns
+returns c = feed-passed (c .find .ensures)
 
 pub line-end-spec : {M : Type 1} → statement M
-line-end-spec = tie.close (tie.spec find-by-byte-requires returns find-requires returns-2)
+line-end-spec = tie.close (tie.spec find-requires returns)

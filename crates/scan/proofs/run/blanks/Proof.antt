@@ -1,41 +1,94 @@
--- `scan::run::blanks` meets its contract: a maximum of the length or more is none.
+-- `scan::run::blanks` meets its contract. The invariant of the loop over the first bytes: n bytes of the run are passed, and what is left of it, up to the
+-- maximum, makes up the whole; the measure is what is left of the first bytes. Where there are more, the answer is that of the blocks.
 -- Assumes nothing.
-use mathlib.Core.Path.{_∙_}
+use mathlib.Core.Path.{sym, _∙_}
+use Prim.Native.Nat.{_-_, _≤_}
+use borrow.Author.Tests.{not-true, not-false}
+use Rattle.scan.proofs.Leading.{CountingTo, start-to, turn-to, stopped-to, done-to}
 use Rattle.scan.proofs.Blanks.{upTo-more}
+use Rattle.scan.specs.Run.{spaceOrTab, blanksUpTo}
 use borrow.Author.Needs.{needs}
 use Rattle.scan.proofs.run.blanks.Statement.{statement}
 use Rattle.scan.proofs.run.blanks.Tie as tie
 use Rattle.scan.proofs.run.blanks.Reads as reads
 use Rattle.scan.proofs.run.blanks.Lts as lts
-use Rattle.scan.proofs.run.all_blanks.Reads as all-blanks-reads
 use Rattle.scan.proofs.run.blanks_by_block.Reads as blanks-by-block-reads
-use Rattle.scan.proofs.run.blanks_by_byte.Reads as blanks-by-byte-reads
+use Rattle.scan.proofs.run.is_blank.Reads as is-blank-reads
+use Rattle.scan.proofs.run.lesser.Reads as lesser-reads
 
-all-blanks-requires : tie.Need-all-blanks-requires
-all-blanks-requires c κs = search needs
+abbrev Inv-loop : tie.InvT-loop
+Inv-loop rest max end near n₀ n = (n ≤ near) × CountingTo spaceOrTab rest max n
 
-returns : tie.Need-returns
-returns c = c .all-blanks .ensures ∙ upTo-more _ _ (search needs)
+abbrev μ-loop : tie.MeasureT-loop
+μ-loop rest max end near n₀ n = near - n
 
-blanks-by-byte-requires : tie.Need-blanks-by-byte-requires
-blanks-by-byte-requires c κs = search needs
+lesser-requires : tie.Need-lesser-requires Inv-loop μ-loop
+lesser-requires c κs = search needs
 
-returns-2 : tie.Need-returns-2
-returns-2 c = search needs
+lesser-requires-2 : tie.Need-lesser-requires-2 Inv-loop μ-loop
+lesser-requires-2 c κs = search needs
 
-blanks-by-block-requires : tie.Need-blanks-by-block-requires
+loop-holds : tie.Need-loop-holds Inv-loop μ-loop
+loop-holds c = (search needs, start-to _ _ _)
+
+shared-slice-read-is-blank : tie.Need-shared-slice-read-is-blank Inv-loop μ-loop
+shared-slice-read-is-blank c = search needs
+
+is-blank-requires : tie.Need-is-blank-requires Inv-loop μ-loop
+is-blank-requires c κs = search needs
+
+returns : tie.Need-returns Inv-loop μ-loop
+unfolding blanksUpTo
+returns c = stopped-to (c .before .before .before .before .loop .inv .1) (search needs) (search needs) (sym (c .before .is-blank .ensures) ∙ not-true (c .before .is-blank .result) (c .if1 .taken))
+
+add-n : tie.Need-add-n Inv-loop μ-loop
+add-n c = search needs
+
+loop-less : tie.Need-loop-less Inv-loop μ-loop
+loop-less c = search needs
+
+loop-again : tie.Need-loop-again Inv-loop μ-loop
+loop-again c = (search needs, turn-to (c .before .before .before .before .loop .inv .1) (search needs) (search needs) (sym (c .before .is-blank .ensures) ∙ not-false (c .before .is-blank .result) (c .if1 .left)))
+
+returns-2 : tie.Need-returns-2 Inv-loop μ-loop
+unfolding blanksUpTo
+returns-2 c =
+    done-to
+    (c .before .before .loop .inv .1)
+    (c .before .before .before .before .lesser .ensures .2)
+    (c .before .before .before .lesser2 .ensures .2)
+    (search needs)
+    (search needs)
+
+blanks-by-block-requires : tie.Need-blanks-by-block-requires Inv-loop μ-loop
 blanks-by-block-requires c κs = search needs
 
-returns-3 : tie.Need-returns-3
+returns-3 : tie.Need-returns-3 Inv-loop μ-loop
 returns-3 c = search needs
+
+blanks-by-block-requires-2 : tie.Need-blanks-by-block-requires-2 Inv-loop μ-loop
+blanks-by-block-requires-2 c κs = search needs
+
+returns-4 : tie.Need-returns-4 Inv-loop μ-loop
+returns-4 c = c .blanks-by-block2 .ensures ∙ upTo-more _ _ (search needs)
 
 pub blanks-spec : {M : Type 1} → statement M
 blanks-spec =
     tie.close
     (tie.spec
-    all-blanks-requires
+    Inv-loop
+    μ-loop
+    lesser-requires
+    lesser-requires-2
+    loop-holds
+    shared-slice-read-is-blank
+    is-blank-requires
     returns
-    blanks-by-byte-requires
+    add-n
+    loop-less
+    loop-again
     returns-2
     blanks-by-block-requires
-    returns-3)
+    returns-3
+    blanks-by-block-requires-2
+    returns-4)

@@ -7,21 +7,14 @@ use Rattle.scan.proofs.run.blanks_by_block.Statement.{statement}
 use Rattle.scan.proofs.run.blanks_by_block.Tie as tie
 use Rattle.scan.proofs.run.blanks_by_block.Reads as reads
 use Rattle.scan.proofs.run.blanks_by_block.Lts as lts
-use Rattle.record.proofs.blocks.block_is.Reads as block-is-reads
 use Rattle.record.proofs.blocks.pass_blocks.Reads as pass-blocks-reads
 use Rattle.scan.proofs.run.blank_kind.Reads as blank-kind-reads
 
 blank-kind-requires : tie.Need-blank-kind-requires
 blank-kind-requires c κs = search needs
 
-block-is-requires : tie.Need-block-is-requires
-block-is-requires c κs = search needs
-
 pass-blocks-requires : tie.Need-pass-blocks-requires
 pass-blocks-requires c κs = search needs
-
-returns : tie.Need-returns
-returns c = upTo-passed (search needs) (c .before .before .before .blank-kind .ensures) (c .pass-blocks .ensures)
 
 pass-blocks-requires-2 : tie.Need-pass-blocks-requires-2
 pass-blocks-requires-2 c κs = search needs
@@ -32,26 +25,20 @@ pass-blocks-requires-3 c κs = search needs
 pass-blocks-requires-4 : tie.Need-pass-blocks-requires-4
 pass-blocks-requires-4 c κs = search needs
 
-pass-blocks-requires-5 : tie.Need-pass-blocks-requires-5
-pass-blocks-requires-5 c κs = search needs
-
-returns-2 : tie.Need-returns-2
-returns-2 c =
+returns : tie.Need-returns
+returns c =
     upTo-passed
     (search needs)
-    (c .before .before .before .before .before .before .blank-kind .ensures)
-    (passed-on (c .before .before .before .pass-blocks2 .ensures) (passed-on (c .before .before .pass-blocks3 .ensures) (passed-on (c .before .pass-blocks4 .ensures) (c .pass-blocks5 .ensures))))
+    (c .before .before .before .before .blank-kind .ensures)
+    (passed-on (c .before .before .before .pass-blocks .ensures) (passed-on (c .before .before .pass-blocks2 .ensures) (passed-on (c .before .pass-blocks3 .ensures) (c .pass-blocks4 .ensures))))
 
 pub blanks-by-block-spec : {M : Type 1} → statement M
 blanks-by-block-spec =
     tie.close
     (tie.spec
     blank-kind-requires
-    block-is-requires
     pass-blocks-requires
-    returns
     pass-blocks-requires-2
     pass-blocks-requires-3
     pass-blocks-requires-4
-    pass-blocks-requires-5
-    returns-2)
+    returns)
