@@ -117,11 +117,11 @@ static void ended(enum call call, size_t letters) {
     snprintf(rows[count - 1].name, sizeof rows->name, "`%s`, %zu letters and a line feed", names[call], letters);
 }
 
-/* A mark, then a space and a letter in turn: n bytes, in which every second one is a scan of its own to the heading reader. */
-static void marked(enum call call, char mark, size_t n) {
+/* A mark, then some spaces and a letter in turn: n bytes, in which all the spaces between two letters are a scan of their own to the heading reader. */
+static void marked(enum call call, char mark, size_t spaces, size_t n) {
     uint8_t *to = add(call, n);
-    for (size_t i = 0; i < n; i++) to[i] = i == 0 ? (uint8_t)mark : i % 2 ? ' ' : 'a';
-    snprintf(rows[count - 1].name, sizeof rows->name, "`%s`, `%c a a ..`, %zu bytes", names[call], mark, n);
+    for (size_t i = 0; i < n; i++) to[i] = i == 0 ? (uint8_t)mark : i % (spaces + 1) ? ' ' : 'a';
+    snprintf(rows[count - 1].name, sizeof rows->name, "`%s`, `%c%*sa%*sa ..`, %zu bytes", names[call], mark, (int)spaces, "", (int)spaces, "", n);
 }
 
 /* The tables: what each holds, and its first row. */
@@ -150,7 +150,7 @@ int main(int words, char **word) {
     spaced(SPACES, 1000, 0), spaced(SPACES, 1000, 80), spaced(SPACES, 200, 80);
     spaced(ITEM, 0, 97), spaced(CONTINUATION, 0, 97), spaced(HEADING, 0, 97);
     spaced(CONTINUATION, 300, 80), spaced(ITEM, 300, 80);
-    marked(ITEM, '-', 97), marked(HEADING, '#', 97), marked(HEADING, '#', 1001);
+    marked(ITEM, '-', 1, 97), marked(HEADING, '#', 1, 97), marked(HEADING, '#', 1, 1001), marked(HEADING, '#', 3, 1001);
     size_t lengthy = count;
     begin("0 to 31 spaces in front of 80 letters");
     for (size_t k = 0; k < 32; k++) spaced(SPACES, k, 80);
@@ -158,6 +158,10 @@ int main(int words, char **word) {
     begin("0 to 31 spaces and nothing else");
     for (size_t k = 0; k < 32; k++) spaced(SPACES, k, 0);
     for (size_t k = 0; k < 32; k++) spaced(CONTINUATION, k, 0);
+    begin("0 to 23 spaces in front of 8 letters");
+    for (size_t k = 0; k < 24; k++) spaced(SPACES, k, 8);
+    for (size_t k = 0; k < 24; k++) spaced(CONTINUATION, k, 8);
+    for (size_t k = 0; k < 24; k++) spaced(ITEM, k, 8);
     begin("lines of 0 to 31 bytes that are nothing");
     for (size_t k = 0; k < 32; k++) spaced(ITEM, 0, k);
     for (size_t k = 0; k < 32; k++) spaced(CONTINUATION, 0, k);
@@ -167,8 +171,9 @@ int main(int words, char **word) {
     for (size_t k = 0; k < 31; k++) ended(ITEM, k);
     size_t wordy = count;
     begin("items and headings of 1 to 31 bytes");
-    for (size_t k = 1; k < 32; k++) marked(ITEM, '-', k);
-    for (size_t k = 1; k < 32; k++) marked(HEADING, '#', k);
+    for (size_t k = 1; k < 32; k++) marked(ITEM, '-', 1, k);
+    for (size_t k = 1; k < 32; k++) marked(HEADING, '#', 1, k);
+    for (size_t k = 1; k < 32; k++) marked(HEADING, '#', 3, k);
 
     for (size_t i = 0; i < count; i++) {
         uint8_t a[128], b[128];

@@ -12,7 +12,7 @@ use record::limits::MAX_RESULT;
 use record::limits::SPACE_OR_TAB;
 use scan::line::Checked;
 use scan::line::check_line;
-use scan::run::blanks;
+use scan::run::gap;
 use scan::run::hashes;
 use scan::run::indented;
 use scan::run::is_blank;
@@ -74,7 +74,7 @@ pub fn next_piece(rest: &[u8]) -> Piece
     if is_blank(rest[0]) {
         return Piece {
             name: SPACE_OR_TAB,
-            size: blanks(rest, rest.len()),
+            size: gap(rest),
         };
     }
     if rest[0] == 35 {

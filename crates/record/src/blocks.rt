@@ -16,10 +16,6 @@ pub const MIDDLE: usize = 32;
 
 pub const NARROW: usize = 8;
 
-// How many bytes of a line go one by one, where blocks would cost a call. No answer depends on it. A loop over eight or fewer the compiler writes out byte
-// for byte, which makes it too large to be put into its callers.
-pub const FEW: usize = 16;
-
 // A kind of byte: either of two, where `within` is set, else neither of them.
 pub struct ByteKind {
     pub one: u8,

@@ -1,6 +1,5 @@
 // The check that every line reader begins with: numbers 2, 3 and 4 over all of the lent line, and where it ends.
 
-use record::blocks::FEW;
 use record::blocks::find;
 use record::check::Refusal;
 use record::check::first_return;
@@ -14,6 +13,10 @@ ghost use Rattle.scan.specs.Line.{endOf, checkedLine};
 
 // The longest line.
 pub const MAX_LINE: usize = 16384;
+
+// Lines shorter than this go by the byte, where blocks would cost two calls. No answer depends on it. A loop over eight bytes or fewer the compiler writes
+// out byte for byte, which makes `check_line` too large to be put into its callers.
+const SHORT: usize = 10;
 
 // What the check finds: the length of the line proper, or the refusal.
 pub enum Checked {
@@ -77,7 +80,7 @@ pub fn check_line(s: &[u8], options: u32) -> Checked
             place: MAX_LINE,
         });
     }
-    if s.len() < FEW {
+    if s.len() < SHORT {
         return check_short(s);
     }
     let end = line_end(s);

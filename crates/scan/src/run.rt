@@ -1,10 +1,10 @@
 // Runs of bytes of one kind at the front of what is left of a line.
 //
 // The scan of spaces and tabs serves indentation, the space after a list marker and continuation. Its promise is what it finds, not how: where there
-// are many it goes in blocks, since pasted logs have hundreds of spaces before each line. Runs of digits, of `#` and of text are short and go by the byte.
+// are many it goes in blocks, since pasted logs have hundreds of spaces before each line. Runs of digits, of `#` and of text, and the gaps between the words
+// of a heading, are short and go by the byte.
 
 use record::blocks::ByteKind;
-use record::blocks::FEW;
 use record::blocks::MIDDLE;
 use record::blocks::NARROW;
 use record::blocks::WIDE;
@@ -15,6 +15,9 @@ ghost use Prim.Native.Nat.{ℕ, _≤_};
 ghost use lib.ListN.{length, getD};
 ghost use Rattle.record.specs.Stretch.{ofKind};
 ghost use Rattle.scan.specs.Run.{spaceOrTab, leading, digit, hash, filled, blanksUpTo, indentation};
+
+// How many spaces and tabs go one by one before blocks are tried, which cost a call. No answer depends on it.
+const FEW: usize = 16;
 
 // Whether a byte is a space or a tab.
 pub fn is_blank(byte: u8) -> bool
@@ -107,6 +110,20 @@ pub fn blanks(rest: &[u8], max: usize) -> usize
         return blanks_by_block(rest, max);
     }
     blanks_by_block(rest, rest.len())
+}
+
+// How many spaces and tabs stand in front, one by one: for the gaps of a heading, each of which is a scan, and mostly of one byte.
+pub fn gap(rest: &[u8]) -> usize
+    ensures { λ r. ⌜ r ≡ leading spaceOrTab (now (rest .entry)) ⌝ }
+{
+    let mut n = 0;
+    while n < rest.len() {
+        if !is_blank(rest[n]) {
+            return n;
+        }
+        n += 1;
+    }
+    n
 }
 
 // How many digits stand in front.

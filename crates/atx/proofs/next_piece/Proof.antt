@@ -2,12 +2,13 @@
 -- Assumes nothing.
 use mathlib.Core.Path.{sym, _∙_}
 use Rattle.atx.proofs.Pieces.{blank-piece, hash-piece, data-piece}
+use Rattle.scan.proofs.Blanks.{all-upTo}
 use borrow.Author.Needs.{needs}
 use Rattle.atx.proofs.next_piece.Statement.{statement}
 use Rattle.atx.proofs.next_piece.Tie as tie
 use Rattle.atx.proofs.next_piece.Reads as reads
 use Rattle.atx.proofs.next_piece.Lts as lts
-use Rattle.scan.proofs.run.blanks.Reads as blanks-reads
+use Rattle.scan.proofs.run.gap.Reads as gap-reads
 use Rattle.scan.proofs.run.hashes.Reads as hashes-reads
 use Rattle.scan.proofs.run.is_blank.Reads as is-blank-reads
 use Rattle.scan.proofs.run.word.Reads as word-reads
@@ -18,11 +19,11 @@ shared-slice-read-is-blank c = search needs
 is-blank-requires : tie.Need-is-blank-requires
 is-blank-requires c κs = search needs
 
-blanks-requires : tie.Need-blanks-requires
-blanks-requires c κs = search needs
+gap-requires : tie.Need-gap-requires
+gap-requires c κs = search needs
 
 returns : tie.Need-returns
-returns c = blank-piece _ _ (sym (c .before .before .is-blank .ensures) ∙ c .before .if1 .taken) (c .blanks .ensures)
+returns c = blank-piece _ _ (sym (c .before .before .is-blank .ensures) ∙ c .before .if1 .taken) (c .gap .ensures ∙ all-upTo _)
 
 shared-slice-read-if2 : tie.Need-shared-slice-read-if2
 shared-slice-read-if2 c = search needs
@@ -45,7 +46,7 @@ next-piece-spec =
     (tie.spec
     shared-slice-read-is-blank
     is-blank-requires
-    blanks-requires
+    gap-requires
     returns
     shared-slice-read-if2
     hashes-requires
