@@ -37,10 +37,6 @@ pub upTo-all : (l : List ℕ) → blanksUpTo (length l) l ≡ blanks l
 unfolding blanksUpTo blanks
 upTo-all l = rw (take-length)
 
-pub all-upTo : (l : List ℕ) → leading spaceOrTab l ≡ blanksUpTo (length l) l
-unfolding blanks
-all-upTo l = sym (upTo-all l)
-
 pub upTo-more : (max : ℕ) (l : List ℕ) → length l ≤ max → blanksUpTo (length l) l ≡ blanksUpTo max l
 unfolding blanksUpTo
 upTo-more max l h = rw (take-length l, take-all max l h)

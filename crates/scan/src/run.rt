@@ -14,7 +14,7 @@ ghost use mathlib.Core.Logic.{_⊎_};
 ghost use Prim.Native.Nat.{ℕ, _≤_};
 ghost use lib.ListN.{length, getD};
 ghost use Rattle.record.specs.Stretch.{ofKind};
-ghost use Rattle.scan.specs.Run.{spaceOrTab, leading, digit, hash, filled, blanksUpTo, indentation};
+ghost use Rattle.scan.specs.Run.{spaceOrTab, leading, digit, hash, filled, blanksUpTo, blanks, indentation};
 
 // How many spaces and tabs go one by one before blocks are tried, which cost a call. No answer depends on it.
 const FEW: usize = 16;
@@ -88,8 +88,8 @@ fn lesser(a: usize, b: usize) -> usize
     b
 }
 
-// How many spaces and tabs stand in front, up to a maximum. Mostly they are few, as between words: so the first bytes go one by one, and blocks follow
-// only where all of these are such.
+// How many spaces and tabs stand in front, up to a maximum. Mostly they are few: so the first bytes go one by one, and blocks follow only where all
+// of these are such.
 pub fn blanks(rest: &[u8], max: usize) -> usize
     ensures { λ r. ⌜ r ≡ blanksUpTo max (now (rest .entry)) ⌝ }
 {
@@ -114,16 +114,16 @@ pub fn blanks(rest: &[u8], max: usize) -> usize
 
 // How many spaces and tabs stand in front, one by one: for the gaps of a heading, each of which is a scan, and mostly of one byte.
 pub fn gap(rest: &[u8]) -> usize
-    ensures { λ r. ⌜ r ≡ leading spaceOrTab (now (rest .entry)) ⌝ }
+    ensures { λ r. ⌜ r ≡ blanks (now (rest .entry)) ⌝ }
 {
-    let mut n = 0;
-    while n < rest.len() {
-        if !is_blank(rest[n]) {
-            return n;
+    let mut at = 0;
+    while at < rest.len() {
+        if !is_blank(rest[at]) {
+            return at;
         }
-        n += 1;
+        at += 1;
     }
-    n
+    at
 }
 
 // How many digits stand in front.
