@@ -21,22 +21,6 @@ use Rattle.atx.specs.Heading.{numbersOf as headingNumbers}
 headed : List ℕ → ℕ → ℕ → List ℕ
 headed s options outs = let n = headingNumbers (headedOf s options outs .answer) in n .number ∷ n .place ∷ n .found ∷ n .events ∷ []
 
--- ` # a#`: enter 11, 14 from 0 to 1, 12 from 1 to 2, 14 from 2 to 3, Data from 3 to 5, exit 11
-heading-case : headingEvents (32 ∷ 35 ∷ 32 ∷ 97 ∷ 35 ∷ []) ≡
-    enter 11 0
-    ∷ enter 14 0
-    ∷ exit 14 1
-    ∷ enter 12 1
-    ∷ exit 12 2
-    ∷ enter 14 2
-    ∷ exit 14 3
-    ∷ enter 0 3
-    ∷ exit 0 5
-    ∷ exit 11 5
-    ∷ []
-unfolding headingEvents eventsFrom split pieces pieceOf blanks leading spaceOrTab filled hash or choose
-heading-case = refl
-
 -- `# #a`: a `#` run followed directly by Data
 run-then-data : headingEvents (35 ∷ 32 ∷ 35 ∷ 97 ∷ []) ≡
     enter 11 0 ∷ enter 12 0 ∷ exit 12 1 ∷ enter 14 1 ∷ exit 14 2 ∷ enter 12 2 ∷ exit 12 3 ∷ enter 0 3 ∷ exit 0 4 ∷ exit 11 4 ∷ []

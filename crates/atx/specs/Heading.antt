@@ -1,6 +1,7 @@
 -- The heading reader. CommonMark 0.31 §4.2: the opening sequence; what the `#` runs behind it become is the heading resolver's.
 -- Assumes nothing.
 use Prim.Native.Nat.{ℕ, zero, suc, _+_}
+use mathlib.Core.Path.{_≡_, refl}
 use mathlib.Core.Bool.{Bool, true}
 use mathlib.Core.List.{List, [], _∷_, _++_}
 use lib.ListN.{length, drop}
@@ -10,7 +11,7 @@ use Rattle.record.specs.Options.{optionOn}
 use Rattle.record.specs.Event.{enter, exit, sectionBytes}
 use Rattle.record.specs.Outcome.{Outcome, accepted, refused, sized}
 use Rattle.record.specs.declared.event.Event.{Event}
-use Rattle.scan.specs.Run.{spaceOrTab, filled, hash, leading, first, blanks, indentation}
+use Rattle.scan.specs.Run.{or, spaceOrTab, filled, hash, leading, first, blanks, indentation}
 use Rattle.scan.specs.Line.{lineOf, checkedLine, reading}
 use Rattle.atx.specs.declared.Piece.{Piece}
 use Rattle.atx.specs.declared.Headed.{Headed}
@@ -59,6 +60,22 @@ eventsFrom at (p ∷ ps) = enter (p .name) at ∷ exit (p .name) (at + p .size) 
 -- "its events section, from enter to exit of 11, not yet resolved, with line offsets as places"
 unfoldable pub headingEvents : List ℕ → List Event
 headingEvents l = enter 11 0 ∷ (eventsFrom 0 (split l) ++ (exit 11 (length l) ∷ []))
+
+-- ` # a#`: enter 11, 14 from 0 to 1, 12 from 1 to 2, 14 from 2 to 3, Data from 3 to 5, exit 11
+heading-case : headingEvents (32 ∷ 35 ∷ 32 ∷ 97 ∷ 35 ∷ []) ≡
+    enter 11 0
+    ∷ enter 14 0
+    ∷ exit 14 1
+    ∷ enter 12 1
+    ∷ exit 12 2
+    ∷ enter 14 2
+    ∷ exit 14 3
+    ∷ enter 0 3
+    ∷ exit 0 5
+    ∷ exit 11 5
+    ∷ []
+unfolding headingEvents eventsFrom split pieces pieceOf blanks leading spaceOrTab filled hash or choose
+heading-case = refl
 
 -- what is answered and what is written
 pub record Result : Type 0 where
