@@ -7,7 +7,7 @@
  *     lark_resolve_attention  `*`, `_` and `~` runs become emphasis, strong and strikethrough
  *     lark_resolve_headings   what each heading reads gets a text round it
  *     lark_resolve_lists      neighbouring list items get a list round them
- *     lark_space_or_tab       how many spaces and tabs does a line begin with?
+ *     lark_space_or_tab       with how many columns of spaces and tabs does a line begin?
  *     lark_list_item          does a list item start on this line?
  *     lark_continuation       does this line go on with a list item?
  *     lark_heading            is this line a heading, and what are its events?
@@ -38,6 +38,22 @@
  * events than a record may have, and deeper ones, attention most of all; such a record is refused with 3 or 5. So attention comes last.
  *
  * A LINE is bytes from where reading starts. It ends before its first line feed, or where the bytes end.
+ *
+ * COLUMNS. Indentation is counted in columns, from 0 at the start of the whole line. A space is one column. A tab goes to the next stop, and there
+ * is one every 4 columns: so it is 1 to 4 columns wide, by where it stands. `column` says at which column the bytes begin that a line reader is
+ * lent: 0 for a whole line, more where something of it was taken before. Up to LARK_MAX_COLUMN all columns with the same remainder by 4 are answered
+ * alike, so that for a greater one that remainder can be passed.
+ *
+ * A CUT TAB. Where a line reader may take some columns of a tab and not all, it takes those. The tab's byte is then not in `taken`, and `left` has the
+ * columns of it that were not taken; where no tab was cut `left` is 0. To go on, lend the line from `taken` on, at the column where reading stopped,
+ * which is the starting column and the columns taken. A cut tab is then the first byte that is lent, and only what is left of it counts. The columns
+ * taken are those of the bytes taken; where a tab was cut, and for an item, they need not be counted:
+ *
+ *     lark_space_or_tab   `max`, where a tab was cut
+ *     lark_list_item      `size` of the answer; one less where `blank` is 1
+ *     lark_continuation   `size` as it was passed, where a tab was cut or the line is filled
+ *
+ *     "-\t\ta" at column 0 is an item with taken 1, left 2 and size 2. Go on with "\t\ta" at column 2: these tabs have 2 and 4 columns.
  *
  *
  * SLICES. A slice is a pointer and then its length in bytes. No alignment is asked for. The slices of one call must not overlap: not what is
@@ -95,14 +111,15 @@
 extern "C" {
 #endif
 
-#define LARK_VERSION "0.4.0"
+#define LARK_VERSION "0.5.0"
 #define LARK_VERSION_MAJOR 0
-#define LARK_VERSION_MINOR 4
+#define LARK_VERSION_MINOR 5
 #define LARK_VERSION_PATCH 0
 
 /* Limits. */
 #define LARK_MAX_DOCUMENT 16384 /* bytes of a document */
 #define LARK_MAX_LINE 16384     /* bytes of a line, those past its line feed included */
+#define LARK_MAX_COLUMN 16384   /* the column that a line starts at */
 #define LARK_MAX_EVENTS 2048    /* events of a record */
 #define LARK_MAX_DEPTH 64       /* events of a record that are open at once */
 #define LARK_MAX_RESULT 8000    /* events of a section that is written */
@@ -118,7 +135,7 @@ extern "C" {
 #define LARK_OPTION_SINGLE_TILDE 4u   /* `~a~` strikes through as `~~a~~` does; nothing without option 2 */
 #define LARK_OPTION_HEADING 8u        /* lark_heading finds headings */
 #define LARK_OPTION_LIST_ITEM 16u     /* lark_list_item finds list items */
-#define LARK_OPTION_CODE_INDENTED 32u /* an indentation of four is code: no item, no heading. Without it indentation is free */
+#define LARK_OPTION_CODE_INDENTED 32u /* an indentation of four columns is code: no item, no heading. Without it it is free */
 #define LARK_MAX_OPTIONS 63u
 
 /* Kinds of events. */
@@ -155,7 +172,7 @@ extern "C" {
 /* Refusals: the values of `number`, and what `place` then is. */
 #define LARK_ACCEPTED 0
 #define LARK_REFUSED_WORK 1    /* less than LARK_WORK_BYTES of work memory. Place 0 */
-#define LARK_REFUSED_OPTIONS 2 /* options over LARK_MAX_OPTIONS. Place 0 */
+#define LARK_REFUSED_OPTIONS 2 /* options over LARK_MAX_OPTIONS, or a column over LARK_MAX_COLUMN. Place 0 */
 #define LARK_REFUSED_COUNT 3   /* a count is cut off, over its limit, or promises more than the record has: the place of that count.
                                 * Bytes after the last section: the place of the first of them. A line over LARK_MAX_LINE: 16,384 */
 #define LARK_REFUSED_RETURN 4  /* a carriage return in the document or line: its place */
@@ -171,7 +188,7 @@ static inline const char *lark_refusal_text(size_t number) LARK_NOEXCEPT {
     switch (number) {
     case LARK_ACCEPTED: return "accepted";
     case LARK_REFUSED_WORK: return "the work memory is under 65,536 bytes";
-    case LARK_REFUSED_OPTIONS: return "the options are over 63";
+    case LARK_REFUSED_OPTIONS: return "the options are over 63, or the column over 16,384";
     case LARK_REFUSED_COUNT: return "a length does not fit";
     case LARK_REFUSED_RETURN: return "a carriage return";
     case LARK_REFUSED_EVENT: return "an event is not sound";
@@ -277,7 +294,8 @@ struct lark_spaces {
     size_t number; /* 0, or the refusal */
     size_t place;  /* where */
     size_t found;  /* 1, or 0: too few */
-    size_t taken;  /* bytes taken */
+    size_t taken;  /* bytes taken, without a cut tab */
+    size_t left;   /* columns left of the cut tab, or 0 */
 };
 
 /* The answer of lark_list_item. `size`, `blank` and `mark` are what lark_continuation wants for the lines that follow. */
@@ -285,8 +303,9 @@ struct lark_item {
     size_t number; /* 0, or the refusal */
     size_t place;  /* where */
     size_t found;  /* 1, or 0: not a list item */
-    size_t taken;  /* bytes from the line's start to where the item's content begins; to the marker's end if nothing follows it */
-    size_t size;   /* the spaces and tabs that further lines of the item need */
+    size_t taken;  /* bytes from the line's start to where the item's content begins, without a cut tab; to the marker's end if nothing follows it */
+    size_t left;   /* columns left of the cut tab, or 0 */
+    size_t size;   /* the columns of spaces and tabs that further lines of the item need: those from the starting column to where its content begins */
     size_t blank;  /* 1 if nothing but spaces and tabs follows the marker */
     size_t mark;   /* the marker byte: `*`, `+`, `-`, or the `.` or `)` behind the digits */
 };
@@ -296,7 +315,8 @@ struct lark_going {
     size_t number; /* 0, or the refusal */
     size_t place;  /* where */
     size_t found;  /* 1, or 0: not a continuation */
-    size_t taken;  /* bytes taken */
+    size_t taken;  /* bytes taken, without a cut tab */
+    size_t left;   /* columns left of the cut tab, or 0 */
     size_t blank;  /* the flag for the next line: also after the finding "not a continuation"; 0 after a refusal */
 };
 
@@ -357,37 +377,49 @@ struct lark_resolved lark_resolve_headings(const uint8_t *record, size_t record_
 struct lark_resolved lark_resolve_lists(const uint8_t *record, size_t record_length, uint32_t options, uint8_t *out, size_t out_length,
                                         uint8_t *work, size_t work_length) LARK_NOEXCEPT;
 
-/* The spaces and tabs that a line begins with, at most `max` of them. Fewer than `min` is the finding "too few", also where `min` is more than
- * `max`. Any `min` and `max` will do: 0 and SIZE_MAX set no bound. A tab counts as one byte.
+/* The spaces and tabs that a line begins with, at most `max` columns of them; a tab may be cut there. Fewer columns than `min` is the finding "too
+ * few", also where `min` is more than `max`; the part of a cut tab that is taken counts. Any `min` and `max` will do: 0 and SIZE_MAX set no bound.
+ *
+ *     "\ta" at column 0   max 1: taken 0, left 3   max 4: taken 1, left 0   max 0: taken 0, left 0
+ *     "\ta" at column 3   max 1: taken 1, left 0
  *
  * Reads the line. Writes nothing. Refuses with 2, 3 and 4. */
-struct lark_spaces lark_space_or_tab(const uint8_t *line, size_t line_length, uint32_t options, size_t min, size_t max) LARK_NOEXCEPT;
+struct lark_spaces lark_space_or_tab(const uint8_t *line, size_t line_length, uint32_t options, size_t column, size_t min, size_t max) LARK_NOEXCEPT;
 
 /* Whether a list item starts on a line, with option 16 on: `*`, `+`, `-`, or 1 to 9 digits and `.` or `)`, then a space, a tab or the end. A
  * thematic break, as `- - -` or `***`, is no item. `interrupting` (0, or any other value for yes) says that the line would interrupt a
  * paragraph: then a number must be exactly `1`, and something must follow the marker.
  *
+ * Behind the marker 1 to 4 columns are taken, all there are; of 5 or more, one. A tab may be cut there.
+ *
+ *     "-\ta" at column 0: taken 2, left 0, size 4   at column 2: taken 2, left 0, size 2
+ *     "-\t" at column 0: taken 1, left 0, size 2, blank
+ *
  * Reads the line. Writes nothing. Refuses with 2, 3 and 4. */
-struct lark_item lark_list_item(const uint8_t *line, size_t line_length, uint32_t options, uint32_t interrupting) LARK_NOEXCEPT;
+struct lark_item lark_list_item(const uint8_t *line, size_t line_length, uint32_t options, size_t column, uint32_t interrupting) LARK_NOEXCEPT;
 
 /* Whether a line goes on with a list item. `size`, `blank` and `mark` are the item's, from lark_list_item, and `blank` from then on from the
- * call for the line before. A blank line goes on unless `blank` is set, and up to `size` of its spaces and tabs are taken. Any other line clears
- * the flag, and goes on if it begins with `size` spaces or tabs, and with one at least: those `size` are taken.
+ * call for the line before. A blank line goes on unless `blank` is set, and up to `size` columns of its spaces and tabs are taken. Any other line
+ * clears the flag, and goes on if it begins with `size` columns of spaces and tabs, and with one at least: those `size` are taken. A tab may be cut.
+ *
+ *     "\ta" at column 0, size 2: taken 0, left 2   size 4: taken 1, left 0
  *
  * `blank` is 0, or any other value for set. `mark` `.` or `)` is an ordered item, any other value a bulleted one; the answer does not depend
  * on it. No option need be on.
  *
  * Reads the line. Writes nothing. Refuses with 2, 3 and 4. */
-struct lark_going lark_continuation(const uint8_t *line, size_t line_length, uint32_t options, size_t size, uint32_t blank,
+struct lark_going lark_continuation(const uint8_t *line, size_t line_length, uint32_t options, size_t column, size_t size, uint32_t blank,
                                     uint32_t mark) LARK_NOEXCEPT;
 
 /* Whether a line is a heading, with option 8 on: 1 to 6 `#`, then a space, a tab or the end. Its events go from enter to exit of 11, with
- * places in the line, and are not yet resolved: spaces and tabs (14), `#` runs behind a break (12), and Data between.
+ * places in the line, and are not yet resolved: spaces and tabs (14), `#` runs behind a break (12), and Data between. The column matters only for
+ * how far the line is indented; places are bytes, and a tab is one.
  *
  *     `# a b`  +11@0 +12@0 -12@1 +14@1 -14@2 +0@2 -0@3 +14@3 -14@4 +0@4 -0@5 -11@5
  *
  * Reads the line. Writes the section to the output. Refuses with 2, 3 and 4, and for a heading with 7 and 8. */
-struct lark_headed lark_heading(const uint8_t *line, size_t line_length, uint32_t options, uint8_t *out, size_t out_length) LARK_NOEXCEPT;
+struct lark_headed lark_heading(const uint8_t *line, size_t line_length, uint32_t options, size_t column, uint8_t *out,
+                                size_t out_length) LARK_NOEXCEPT;
 
 #ifdef __cplusplus
 }

@@ -19,8 +19,9 @@ struct call {
     uint32_t options;
     uint64_t place[SLICES];  /* where each slice stands in what is shared; 0 is NULL */
     uint64_t length[SLICES]; /* and its length */
-    uint64_t argument[3];    /* the arguments that are no slice, in their order */
-    uint64_t answer[7];      /* the fields of what is answered, in their order */
+    uint64_t column;         /* where a line starts */
+    uint64_t argument[3];    /* the other arguments that are no slice, in their order */
+    uint64_t answer[8];      /* the fields of what is answered, in their order */
 };
 
 #endif

@@ -26,16 +26,17 @@ static void make(struct call *c) {
     const uint8_t *in = slice(c, INPUT);
     uint8_t *out = slice(c, OUT), *work = slice(c, WORK);
     size_t in_length = c->length[INPUT], out_length = c->length[OUT], work_length = c->length[WORK];
+    size_t column = c->column;
     uint32_t options = c->options, flag = (uint32_t)c->argument[0], blank = (uint32_t)c->argument[1], mark = (uint32_t)c->argument[2];
     switch (c->name) {
     case READ: ANSWER(lark_reading, lark_read(in, in_length, options, work, work_length)); break;
     case RESOLVE_ATTENTION: ANSWER(lark_resolved, lark_resolve_attention(in, in_length, options, out, out_length, work, work_length)); break;
     case RESOLVE_HEADINGS: ANSWER(lark_resolved, lark_resolve_headings(in, in_length, options, out, out_length, work, work_length)); break;
     case RESOLVE_LISTS: ANSWER(lark_resolved, lark_resolve_lists(in, in_length, options, out, out_length, work, work_length)); break;
-    case SPACE_OR_TAB: ANSWER(lark_spaces, lark_space_or_tab(in, in_length, options, c->argument[0], c->argument[1])); break;
-    case LIST_ITEM: ANSWER(lark_item, lark_list_item(in, in_length, options, flag)); break;
-    case CONTINUATION: ANSWER(lark_going, lark_continuation(in, in_length, options, c->argument[0], blank, mark)); break;
-    case HEADING: ANSWER(lark_headed, lark_heading(in, in_length, options, out, out_length)); break;
+    case SPACE_OR_TAB: ANSWER(lark_spaces, lark_space_or_tab(in, in_length, options, column, c->argument[0], c->argument[1])); break;
+    case LIST_ITEM: ANSWER(lark_item, lark_list_item(in, in_length, options, column, flag)); break;
+    case CONTINUATION: ANSWER(lark_going, lark_continuation(in, in_length, options, column, c->argument[0], blank, mark)); break;
+    case HEADING: ANSWER(lark_headed, lark_heading(in, in_length, options, column, out, out_length)); break;
     }
 }
 

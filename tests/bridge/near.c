@@ -127,26 +127,27 @@ RESOLVER(lark_resolve_attention, RESOLVE_ATTENTION)
 RESOLVER(lark_resolve_headings, RESOLVE_HEADINGS)
 RESOLVER(lark_resolve_lists, RESOLVE_LISTS)
 
-struct lark_spaces lark_space_or_tab(const uint8_t *line, size_t line_length, uint32_t options, size_t min, size_t max) {
-    struct call c = {.name = SPACE_OR_TAB, .options = options, .argument = {min, max}};
+struct lark_spaces lark_space_or_tab(const uint8_t *line, size_t line_length, uint32_t options, size_t column, size_t min, size_t max) {
+    struct call c = {.name = SPACE_OR_TAB, .options = options, .column = column, .argument = {min, max}};
     c = cross(c, line, line_length, NULL, 0, NULL, 0);
-    return (struct lark_spaces){c.answer[0], c.answer[1], c.answer[2], c.answer[3]};
+    return (struct lark_spaces){c.answer[0], c.answer[1], c.answer[2], c.answer[3], c.answer[4]};
 }
 
-struct lark_item lark_list_item(const uint8_t *line, size_t line_length, uint32_t options, uint32_t interrupting) {
-    struct call c = {.name = LIST_ITEM, .options = options, .argument = {interrupting}};
+struct lark_item lark_list_item(const uint8_t *line, size_t line_length, uint32_t options, size_t column, uint32_t interrupting) {
+    struct call c = {.name = LIST_ITEM, .options = options, .column = column, .argument = {interrupting}};
     c = cross(c, line, line_length, NULL, 0, NULL, 0);
-    return (struct lark_item){c.answer[0], c.answer[1], c.answer[2], c.answer[3], c.answer[4], c.answer[5], c.answer[6]};
+    return (struct lark_item){c.answer[0], c.answer[1], c.answer[2], c.answer[3], c.answer[4], c.answer[5], c.answer[6], c.answer[7]};
 }
 
-struct lark_going lark_continuation(const uint8_t *line, size_t line_length, uint32_t options, size_t size, uint32_t blank, uint32_t mark) {
-    struct call c = {.name = CONTINUATION, .options = options, .argument = {size, blank, mark}};
+struct lark_going lark_continuation(const uint8_t *line, size_t line_length, uint32_t options, size_t column, size_t size, uint32_t blank,
+                                    uint32_t mark) {
+    struct call c = {.name = CONTINUATION, .options = options, .column = column, .argument = {size, blank, mark}};
     c = cross(c, line, line_length, NULL, 0, NULL, 0);
-    return (struct lark_going){c.answer[0], c.answer[1], c.answer[2], c.answer[3], c.answer[4]};
+    return (struct lark_going){c.answer[0], c.answer[1], c.answer[2], c.answer[3], c.answer[4], c.answer[5]};
 }
 
-struct lark_headed lark_heading(const uint8_t *line, size_t line_length, uint32_t options, uint8_t *out, size_t out_length) {
-    struct call c = {.name = HEADING, .options = options};
+struct lark_headed lark_heading(const uint8_t *line, size_t line_length, uint32_t options, size_t column, uint8_t *out, size_t out_length) {
+    struct call c = {.name = HEADING, .options = options, .column = column};
     c = cross(c, line, line_length, out, out_length, NULL, 0);
     return (struct lark_headed){c.answer[0], c.answer[1], c.answer[2], c.answer[3]};
 }

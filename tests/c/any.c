@@ -1,4 +1,4 @@
-/* Any record, line, options and lengths, good or broken: made by a generator with a fixed start, the same in every run.
+/* Any record, line, options, column and lengths, good or broken: made by a generator with a fixed start, the same in every run.
  *
  * What must come is not known here, but what must hold of it is. Each call is made twice, in memory that held other bytes and with a page that
  * may not be touched behind the slices the first time and before them the second; both must answer and write alike. A refusal says its number
@@ -7,7 +7,7 @@
 #include "check.h"
 
 enum { READ, ATTENTION, HEADINGS, LISTS, SPACES, ITEM, GOING, HEADING, CALLS };
-enum { INPUTS = 1500, FIELDS = 7 };
+enum { INPUTS = 1500, FIELDS = 8 };
 
 static uint32_t state = 2463534242u;
 static uint32_t below(uint32_t n) {
@@ -87,8 +87,8 @@ static void break_bytes(struct bytes *b) {
 
 static void make_line(struct bytes *b) {
     static const char letters[] = "  \t-*+1290.)##a";
-    static const char *const fronts[] = {"", "- ", " 12. ", "1) ", "# ", "   ##\t"};
-    const char *front = fronts[below(6)];
+    static const char *const fronts[] = {"", "- ", " 12. ", "1) ", "# ", "   ##\t", "\t", "-\t"};
+    const char *front = fronts[below(8)];
     size_t i, n = below(24);
     b->n = 0;
     put(b, front, strlen(front));
@@ -103,7 +103,7 @@ static void make_line(struct bytes *b) {
 struct given {
     const struct bytes *in;
     uint32_t options, flag, mark;
-    size_t out_length, work_length, min, max;
+    size_t out_length, work_length, column, min, max;
 };
 
 static const char *const call_names[CALLS] = {"lark_read",         "lark_resolve_attention", "lark_resolve_headings", "lark_resolve_lists",
@@ -130,22 +130,22 @@ static void make(int call, struct given g, size_t fields[FIELDS], struct bytes *
         break;
     }
     case SPACES: {
-        struct lark_spaces r = lark_space_or_tab(in.p, in.n, g.options, g.min, g.max);
+        struct lark_spaces r = lark_space_or_tab(in.p, in.n, g.options, g.column, g.min, g.max);
         memcpy(fields, &r, sizeof r);
         break;
     }
     case ITEM: {
-        struct lark_item r = lark_list_item(in.p, in.n, g.options, g.flag);
+        struct lark_item r = lark_list_item(in.p, in.n, g.options, g.column, g.flag);
         memcpy(fields, &r, sizeof r);
         break;
     }
     case GOING: {
-        struct lark_going r = lark_continuation(in.p, in.n, g.options, g.min, g.flag, g.mark);
+        struct lark_going r = lark_continuation(in.p, in.n, g.options, g.column, g.min, g.flag, g.mark);
         memcpy(fields, &r, sizeof r);
         break;
     }
     default: {
-        struct lark_headed r = lark_heading(in.p, in.n, g.options, out.p, out.n);
+        struct lark_headed r = lark_heading(in.p, in.n, g.options, g.column, out.p, out.n);
         memcpy(fields, &r, sizeof r);
         n = r.found ? 4 + 8 * r.events : 0;
     }
@@ -165,7 +165,14 @@ static void make(int call, struct given g, size_t fields[FIELDS], struct bytes *
     take_back(work);
 }
 
-static size_t answers[CALLS][9], findings[CALLS];
+static size_t answers[CALLS][9], findings[CALLS], cuts[CALLS];
+
+/* What is left of a cut tab: at most 3 columns, of a tab that stands where the bytes taken end. */
+static void cut_is_sound(int call, struct given g, const size_t fields[FIELDS]) {
+    if (fields[4] > 3) fail("columns left", fields[4], 3);
+    if (fields[3] >= g.in->n || g.in->at[fields[3]] != '\t') fail("the place of a cut tab", fields[3], g.in->n);
+    cuts[call]++;
+}
 
 static void both_ways(int call, struct given g) {
     static struct bytes wrote, again;
@@ -180,6 +187,7 @@ static void both_ways(int call, struct given g) {
     same("what is written the second time", again.at, wrote.at, wrote.n);
     if (first[0] <= 8) answers[call][first[0]]++;
     if (call >= SPACES && !first[0] && !first[2]) findings[call]++;
+    if (call >= SPACES && call <= GOING && first[2] && first[4]) cut_is_sound(call, g, first);
     /* a resolved record is a record again, if it is not too deep */
     if (call >= ATTENTION && call <= LISTS && !first[0]) {
         static struct bytes resolved;
@@ -206,6 +214,7 @@ int main(void) {
         g.options = once_in(16) ? state : 63 - (once_in(8) ? below(64) : 0);
         g.flag = below(3);
         g.mark = state;
+        g.column = once_in(32) ? state : once_in(4) ? LARK_MAX_COLUMN - below(4) : below(9);
         g.min = below(6);
         g.max = once_in(8) ? SIZE_MAX : below(6);
         g.out_length = once_in(3) ? below(400) : 4 + 8 * 400;
@@ -228,6 +237,7 @@ int main(void) {
             cases++;
             if ((answers[call][number] != 0) != can) printf("number %zu: ", number), fail("answers of it", answers[call][number], (size_t)can);
             if (line && number == 0 && !findings[call]) fail("findings", 0, 1);
+            if (line && number == 0 && call != HEADING && !cuts[call]) fail("cut tabs", 0, 1);
             if (line && number == 0 && findings[call] == answers[call][0]) fail("findings alone", 1, 0);
         }
     return report();

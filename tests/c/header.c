@@ -28,10 +28,10 @@ SILENT(lark_read(NULL, 0, 0, NULL, 0));
 SILENT(lark_resolve_attention(NULL, 0, 0, NULL, 0, NULL, 0));
 SILENT(lark_resolve_headings(NULL, 0, 0, NULL, 0, NULL, 0));
 SILENT(lark_resolve_lists(NULL, 0, 0, NULL, 0, NULL, 0));
-SILENT(lark_space_or_tab(NULL, 0, 0, 0, 0));
-SILENT(lark_list_item(NULL, 0, 0, 0));
-SILENT(lark_continuation(NULL, 0, 0, 0, 0, 0));
-SILENT(lark_heading(NULL, 0, 0, NULL, 0));
+SILENT(lark_space_or_tab(NULL, 0, 0, 0, 0, 0));
+SILENT(lark_list_item(NULL, 0, 0, 0, 0));
+SILENT(lark_continuation(NULL, 0, 0, 0, 0, 0, 0));
+SILENT(lark_heading(NULL, 0, 0, 0, NULL, 0));
 SILENT(lark_refusal_text(0));
 SILENT(lark_number_at(NULL));
 SILENT(lark_put_number(NULL, 0));
@@ -200,7 +200,7 @@ int main(void) {
                                    LARK_REFUSED_EVENT, LARK_REFUSED_SHAPE, LARK_REFUSED_RESULT, LARK_REFUSED_OUTPUT};
     static const char *const words[] = {"accepted",
                                         "the work memory is under 65,536 bytes",
-                                        "the options are over 63",
+                                        "the options are over 63, or the column over 16,384",
                                         "a length does not fit",
                                         "a carriage return",
                                         "an event is not sound",
@@ -217,8 +217,8 @@ int main(void) {
     holds("kinds", LARK_ENTER == 0 && LARK_EXIT == 1);
     holds("options", LARK_OPTION_ATTENTION == 1 && LARK_OPTION_STRIKETHROUGH == 2 && LARK_OPTION_SINGLE_TILDE == 4 &&
                          LARK_OPTION_HEADING == 8 && LARK_OPTION_LIST_ITEM == 16 && LARK_OPTION_CODE_INDENTED == 32 && LARK_MAX_OPTIONS == 63);
-    holds("limits", LARK_MAX_DOCUMENT == 16384 && LARK_MAX_LINE == 16384 && LARK_MAX_EVENTS == 2048 && LARK_MAX_DEPTH == 64 &&
-                        LARK_MAX_RESULT == 8000);
+    holds("limits", LARK_MAX_DOCUMENT == 16384 && LARK_MAX_LINE == 16384 && LARK_MAX_COLUMN == 16384 && LARK_MAX_EVENTS == 2048 &&
+                        LARK_MAX_DEPTH == 64 && LARK_MAX_RESULT == 8000);
     holds("sizes", LARK_WORK_BYTES == 65536 && LARK_OUT_BYTES == 64004 && LARK_RECORD_BYTES == 32776);
     holds("sizes as parts of something else", 2 * LARK_WORK_BYTES == 131072 && 2 * LARK_OUT_BYTES == 128008 && 2 * LARK_RECORD_BYTES == 65552);
     holds("options are unsigned", LARK_OPTION_ATTENTION - 64 > 63 && LARK_OPTION_STRIKETHROUGH - 64 > 63 && LARK_OPTION_SINGLE_TILDE - 64 > 63 &&
@@ -242,11 +242,11 @@ int main(void) {
     FIELD(lark_resolved, number, 0), FIELD(lark_resolved, place, 1), FIELD(lark_resolved, events, 2), FIELD(lark_resolved, groups, 3);
     FIELD(lark_resolved, tried, 4), FIELDS(lark_resolved, 5);
     FIELD(lark_spaces, number, 0), FIELD(lark_spaces, place, 1), FIELD(lark_spaces, found, 2), FIELD(lark_spaces, taken, 3);
-    FIELDS(lark_spaces, 4);
+    FIELD(lark_spaces, left, 4), FIELDS(lark_spaces, 5);
     FIELD(lark_item, number, 0), FIELD(lark_item, place, 1), FIELD(lark_item, found, 2), FIELD(lark_item, taken, 3);
-    FIELD(lark_item, size, 4), FIELD(lark_item, blank, 5), FIELD(lark_item, mark, 6), FIELDS(lark_item, 7);
+    FIELD(lark_item, left, 4), FIELD(lark_item, size, 5), FIELD(lark_item, blank, 6), FIELD(lark_item, mark, 7), FIELDS(lark_item, 8);
     FIELD(lark_going, number, 0), FIELD(lark_going, place, 1), FIELD(lark_going, found, 2), FIELD(lark_going, taken, 3);
-    FIELD(lark_going, blank, 4), FIELDS(lark_going, 5);
+    FIELD(lark_going, left, 4), FIELD(lark_going, blank, 5), FIELDS(lark_going, 6);
     FIELD(lark_event, kind, 0), FIELD(lark_event, name, 1), FIELD(lark_event, place, 2), FIELDS(lark_event, 3);
     FIELD(lark_headed, number, 0), FIELD(lark_headed, place, 1), FIELD(lark_headed, found, 2), FIELD(lark_headed, events, 3);
     FIELDS(lark_headed, 4);

@@ -1,10 +1,10 @@
-/* lark_heading: what is a heading and what is not, the events of its line, and numbers 2, 3, 4, 7 and 8. */
+/* lark_heading: what is a heading and what is not, at which column, the events of its line, and numbers 2, 3, 4, 7 and 8. */
 #include "check.h"
 
-static void heading_with(const char *text, size_t n, uint32_t options, size_t out_length, size_t number, size_t place, size_t found,
-                         size_t events, const struct bytes *result) {
+static void heading_with(const char *text, size_t n, uint32_t options, size_t column, size_t out_length, size_t number, size_t place,
+                         size_t found, size_t events, const struct bytes *result) {
     struct slice line = lend_bytes((const uint8_t *)text, n), out = lend(out_length);
-    struct lark_headed got = lark_heading(line.p, line.n, options, out.p, out.n);
+    struct lark_headed got = lark_heading(line.p, line.n, options, column, out.p, out.n);
     equal("number", got.number, number);
     equal("place", got.place, place);
     equal("found", got.found, found);
@@ -16,23 +16,28 @@ static void heading_with(const char *text, size_t n, uint32_t options, size_t ou
 }
 
 /* The section comes into ample output, and into output of just its length. 65,536 cut to 16 bits is 0. */
-static void gives(const char *text, size_t n, uint32_t options, const struct bytes *result) {
+static void gives(size_t column, const char *text, size_t n, uint32_t options, const struct bytes *result) {
     size_t events = (result->n - 4) / 8;
-    heading_with(text, n, options, LARK_OUT_BYTES, 0, 0, 1, events, result);
-    heading_with(text, n, options, result->n, 0, 0, 1, events, result);
-    heading_with(text, n, options, result->n + 1, 0, 0, 1, events, result);
-    heading_with(text, n, options, 65536, 0, 0, 1, events, result);
+    heading_with(text, n, options, column, LARK_OUT_BYTES, 0, 0, 1, events, result);
+    heading_with(text, n, options, column, result->n, 0, 0, 1, events, result);
+    heading_with(text, n, options, column, result->n + 1, 0, 0, 1, events, result);
+    heading_with(text, n, options, column, 65536, 0, 0, 1, events, result);
 }
-#define heading(text, options, result) gives(text, sizeof(text) - 1, options, section(result))
+#define heading_at(column, text, options, result) gives(column, text, sizeof(text) - 1, options, section(result))
+#define heading(text, options, result) heading_at(0, text, options, result)
 
-static void none(const char *text, size_t n, uint32_t options) {
-    heading_with(text, n, options, LARK_OUT_BYTES, 0, 0, 0, 0, NULL);
-    heading_with(text, n, options, 0, 0, 0, 0, 0, NULL);
+static void none(size_t column, const char *text, size_t n, uint32_t options) {
+    heading_with(text, n, options, column, LARK_OUT_BYTES, 0, 0, 0, 0, NULL);
+    heading_with(text, n, options, column, 0, 0, 0, 0, 0, NULL);
 }
-#define no_heading(text, options) none(text, sizeof(text) - 1, options)
+#define no_heading_at(column, text, options) none(column, text, sizeof(text) - 1, options)
+#define no_heading(text, options) no_heading_at(0, text, options)
 
+static void refused_at(size_t column, const char *text, size_t n, uint32_t options, size_t out_length, size_t number, size_t place) {
+    heading_with(text, n, options, column, out_length, number, place, 0, 0, NULL);
+}
 static void refused(const char *text, size_t n, uint32_t options, size_t out_length, size_t number, size_t place) {
-    heading_with(text, n, options, out_length, number, place, 0, 0, NULL);
+    refused_at(0, text, n, options, out_length, number, place);
 }
 
 static void found(void) {
@@ -52,16 +57,47 @@ static void found(void) {
     heading("#\na", 59, "+11@0 +12@0 -12@1 -11@1");
     begin("`#` and a tab");
     heading("#\ta", 59, "+11@0 +12@0 -12@1 +14@1 -14@2 +0@2 -0@3 -11@3");
-    begin("one or two spaces, or a tab, in front");
+    begin("one or two spaces in front");
     heading(" # a", 59, "+11@0 +14@0 -14@1 +12@1 -12@2 +14@2 -14@3 +0@3 -0@4 -11@4");
     heading("  # a", 59, "+11@0 +14@0 -14@2 +12@2 -12@3 +14@3 -14@4 +0@4 -0@5 -11@5");
-    heading("\t# a", 59, "+11@0 +14@0 -14@1 +12@1 -12@2 +14@2 -14@3 +0@3 -0@4 -11@4");
+    begin("a tab in front, which is 4 columns, without option 32");
+    heading("\t# a", 27, "+11@0 +14@0 -14@1 +12@1 -12@2 +14@2 -14@3 +0@3 -0@4 -11@4");
     begin("three spaces in front, and spaces behind");
     heading("   # a \t", 59, "+11@0 +14@0 -14@3 +12@3 -12@4 +14@4 -14@5 +0@5 -0@6 +14@6 -14@8 -11@8");
     begin("four spaces in front without option 32");
     heading("    # a", 27, "+11@0 +14@0 -14@4 +12@4 -12@5 +14@5 -14@6 +0@6 -0@7 -11@7");
     begin("zero bytes and bytes from 128 up are Data");
     heading("# \0\xc3\xa9", 59, "+11@0 +12@0 -12@1 +14@1 -14@2 +0@2 -0@5 -11@5");
+}
+
+/* A tab goes to the next stop, so that the column says whether what is in front is too much. Behind the `#` it does not matter, and places stay. */
+static void at_columns(void) {
+    static const char tabbed[] = "+11@0 +14@0 -14@1 +12@1 -12@2 +14@2 -14@3 +0@3 -0@4 -11@4";
+    size_t column;
+    begin("a tab in front is 4, 3, 2 and 1 columns");
+    no_heading_at(0, "\t# a", 59);
+    heading_at(1, "\t# a", 59, tabbed);
+    heading_at(2, "\t# a", 59, tabbed);
+    heading_at(3, "\t# a", 59, tabbed);
+    no_heading_at(4, "\t# a", 59);
+    heading_at(5, "\t# a", 59, tabbed);
+    no_heading_at(LARK_MAX_COLUMN, "\t# a", 59);
+    heading_at(LARK_MAX_COLUMN - 1, "\t# a", 59, tabbed);
+    begin("spaces and a tab in front");
+    heading_at(1, "  \t#", 59, "+11@0 +14@0 -14@3 +12@3 -12@4 -11@4");
+    heading_at(3, "\t  #", 59, "+11@0 +14@0 -14@3 +12@3 -12@4 -11@4");
+    no_heading_at(2, "  \t#", 59);
+    no_heading_at(2, "\t  #", 59);
+    no_heading_at(3, "\t\t#", 59);
+    begin("at every column: three spaces in front, four, and a tab without option 32");
+    for (column = 0; column <= 9; column++) {
+        heading_at(column, "   #", 59, "+11@0 +14@0 -14@3 +12@3 -12@4 -11@4");
+        no_heading_at(column, "    #", 59);
+        heading_at(column, "\t# a", 27, tabbed);
+        heading_at(column, "#\t\ta", 59, "+11@0 +12@0 -12@1 +14@1 -14@3 +0@3 -0@4 -11@4");
+    }
+    begin("the greatest column");
+    heading_at(LARK_MAX_COLUMN, "#", 59, "+11@0 +12@0 -12@1 -11@1");
 }
 
 /* Two to six `#` and a word; one has cases of its own. */
@@ -96,10 +132,10 @@ static void longest_line(void) {
     memset(line, 'a', sizeof line);
     memcpy(line, "# ", 2);
     begin("a line of 16,384 bytes");
-    gives(line, sizeof line, 63, section("+11@0 +12@0 -12@1 +14@1 -14@2 +0@2 -0@16384 -11@16384"));
+    gives(0, line, sizeof line, 63, section("+11@0 +12@0 -12@1 +14@1 -14@2 +0@2 -0@16384 -11@16384"));
     begin("a line of 16,383 bytes, which ends with a space");
     line[16382] = ' ';
-    gives(line, 16383, 63, section("+11@0 +12@0 -12@1 +14@1 -14@2 +0@2 -0@16382 +14@16382 -14@16383 -11@16383"));
+    gives(0, line, 16383, 63, section("+11@0 +12@0 -12@1 +14@1 -14@2 +0@2 -0@16382 +14@16382 -14@16383 -11@16383"));
 }
 
 static void not_found(void) {
@@ -131,6 +167,14 @@ static void refusals(void) {
     for (bit = 6; bit < 32; bit++) refused("# a", 3, (uint32_t)1 << bit, LARK_OUT_BYTES, 2, 0);
     refused("# a", 3, 65, LARK_OUT_BYTES, 2, 0);
     refused("# a", 3, 0xffffffffu, LARK_OUT_BYTES, 2, 0);
+    begin("2: a column over 16,384");
+    refused_at(LARK_MAX_COLUMN + 1, "# a", 3, 63, LARK_OUT_BYTES, 2, 0);
+    for (bit = 15; bit < 64; bit++) refused_at((size_t)1 << bit, "# a", 3, 63, LARK_OUT_BYTES, 2, 0);
+    refused_at(SIZE_MAX, "# a", 3, 63, 0, 2, 0);
+    begin("2, for the column, comes before 3, 4 and 8");
+    refused_at(LARK_MAX_COLUMN + 1, "\r", 1, 63, LARK_OUT_BYTES, 2, 0);
+    refused_at(LARK_MAX_COLUMN + 1, longer, 16385, 63, LARK_OUT_BYTES, 2, 0);
+    refused_at(LARK_MAX_COLUMN + 1, "#", 1, 63, 0, 2, 0);
     begin("2 comes before 3 and 4");
     refused("\r", 1, 64, LARK_OUT_BYTES, 2, 0);
     refused(longer, 16385, 64, LARK_OUT_BYTES, 2, 0);
@@ -174,7 +218,7 @@ static void longest(void) {
     put_event(&section_bytes, LARK_EXIT, 11, 3999);
     line[3999] = ' ';
     begin("8,000 events: the longest section");
-    gives(line, 3999, 63, &section_bytes);
+    gives(0, line, 3999, 63, &section_bytes);
     begin("8: the longest section, a byte short");
     refused(line, 3999, 63, LARK_OUT_BYTES - 1, 8, 0);
     begin("7: 8,002 events");
@@ -203,21 +247,22 @@ static void every_place(void) {
         line[0] = '#';
         line[n + 1] = 'a';
         sprintf(events, "+11@0 +12@0 -12@1 +14@1 -14@%zu +0@%zu -0@%zu -11@%zu", n + 1, n + 1, n + 2, n + 2);
-        gives(line, n + 2, 59, section(events));
+        gives(0, line, n + 2, 59, section(events));
         line[n + 1] = '\n';
         line[n + 2] = 'a';
         sprintf(events, "+11@0 +12@0 -12@1 +14@1 -14@%zu -11@%zu", n + 1, n + 1);
-        gives(line, n + 3, 59, section(events));
+        gives(0, line, n + 3, 59, section(events));
         begin("every place: spaces in front");
         memset(line, ' ', n);
         line[n] = '#';
         sprintf(events, "+11@0 +14@0 -14@%zu +12@%zu -12@%zu -11@%zu", n, n, n + 1, n + 1);
-        gives(line, n + 1, 27, section(events));
+        gives(0, line, n + 1, 27, section(events));
     }
 }
 
 static void all(void) {
     found();
+    at_columns();
     more_hashes();
     every_option();
     longest_line();

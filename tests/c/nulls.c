@@ -66,28 +66,36 @@ int main(void) {
     resolver_nulls("lark_resolve_lists", lark_resolve_lists);
 
     printf("lark_space_or_tab\n");
-    s = lark_space_or_tab(NULL, 0, 63, 0, 3);
-    holds("line, none asked for", s.number == 0 && s.place == 0 && s.found == 1 && s.taken == 0);
-    s = lark_space_or_tab(NULL, 0, 63, 1, 3);
-    holds("line, one asked for", s.number == 0 && s.place == 0 && s.found == 0 && s.taken == 0);
+    s = lark_space_or_tab(NULL, 0, 63, 0, 0, 3);
+    holds("line, none asked for", s.number == 0 && s.place == 0 && s.found == 1 && s.taken == 0 && s.left == 0);
+    s = lark_space_or_tab(NULL, 0, 63, 3, 1, 3);
+    holds("line, one asked for", s.number == 0 && s.place == 0 && s.found == 0 && s.taken == 0 && s.left == 0);
+    s = lark_space_or_tab(NULL, 0, 63, LARK_MAX_COLUMN + 1, 0, 3);
+    holds("line, column too large", s.number == 2 && s.place == 0 && s.found == 0 && s.taken == 0 && s.left == 0);
 
     printf("lark_list_item\n");
-    i = lark_list_item(NULL, 0, 63, 0);
-    holds("line", i.number == 0 && i.place == 0 && i.found == 0 && i.taken == 0 && i.size == 0 && i.blank == 0 && i.mark == 0);
+    i = lark_list_item(NULL, 0, 63, 0, 0);
+    holds("line", i.number == 0 && i.place == 0 && i.found == 0 && i.taken == 0 && i.left == 0 && i.size == 0 && i.blank == 0 && i.mark == 0);
+    i = lark_list_item(NULL, 0, 63, LARK_MAX_COLUMN + 1, 0);
+    holds("line, column too large", i.number == 2 && i.place == 0 && i.found == 0 && i.taken == 0 && i.left == 0 && i.size == 0);
 
     printf("lark_continuation\n");
-    g = lark_continuation(NULL, 0, 63, 2, 0, '-');
-    holds("line", g.number == 0 && g.place == 0 && g.found == 1 && g.taken == 0 && g.blank == 0);
-    g = lark_continuation(NULL, 0, 63, 2, 1, '-');
-    holds("line, flag set", g.number == 0 && g.place == 0 && g.found == 0 && g.taken == 0 && g.blank == 1);
+    g = lark_continuation(NULL, 0, 63, 0, 2, 0, '-');
+    holds("line", g.number == 0 && g.place == 0 && g.found == 1 && g.taken == 0 && g.left == 0 && g.blank == 0);
+    g = lark_continuation(NULL, 0, 63, 3, 2, 1, '-');
+    holds("line, flag set", g.number == 0 && g.place == 0 && g.found == 0 && g.taken == 0 && g.left == 0 && g.blank == 1);
+    g = lark_continuation(NULL, 0, 63, LARK_MAX_COLUMN + 1, 2, 1, '-');
+    holds("line, column too large", g.number == 2 && g.place == 0 && g.found == 0 && g.taken == 0 && g.left == 0 && g.blank == 0);
 
     printf("lark_heading\n");
-    h = lark_heading(NULL, 0, 63, out, sizeof out);
+    h = lark_heading(NULL, 0, 63, 0, out, sizeof out);
     holds("line", h.number == 0 && h.place == 0 && h.found == 0 && h.events == 0);
-    h = lark_heading(hash, sizeof hash, 63, NULL, 0);
+    h = lark_heading(hash, sizeof hash, 63, 0, NULL, 0);
     holds("output", h.number == 8 && h.place == 0 && h.found == 0 && h.events == 0);
-    h = lark_heading(NULL, 0, 63, NULL, 0);
+    h = lark_heading(NULL, 0, 63, 3, NULL, 0);
     holds("both", h.number == 0 && h.place == 0 && h.found == 0 && h.events == 0);
+    h = lark_heading(NULL, 0, 63, LARK_MAX_COLUMN + 1, NULL, 0);
+    holds("both, column too large", h.number == 2 && h.place == 0 && h.found == 0 && h.events == 0);
 
     printf("%u cases, %u failures\n", cases, failures);
     return failures != 0;

@@ -7,7 +7,7 @@
 
 #define ON_RECORD const uint8_t *record, size_t record_length, uint32_t options
 #define RESOLVER ON_RECORD, uint8_t *out, size_t out_length, uint8_t *work, size_t work_length
-#define ON_LINE const uint8_t *line, size_t line_length, uint32_t options
+#define ON_LINE const uint8_t *line, size_t line_length, uint32_t options, size_t column
 #define WRAPPED(answer, call, ...) \
     struct answer __real_##call(__VA_ARGS__); \
     struct answer __wrap_##call(__VA_ARGS__)
@@ -41,6 +41,39 @@ static inline const uint8_t *spaced(const uint8_t *line, size_t n, size_t at) {
     memcpy(copy, line, n);
     copy[at] = ' ';
     return copy;
+}
+
+/* How wide the tab is that stands behind so many bytes of a line. */
+static inline size_t tab_behind(const uint8_t *line, size_t n, size_t column) {
+    size_t i;
+    for (i = 0; i < n; i++) column += line[i] == '\t' ? 4 - column % 4 : 1;
+    return 4 - column % 4;
+}
+
+/* A line in which each tab in front is four spaces, wherever it stands. */
+static inline const uint8_t *in_fours(const uint8_t *line, size_t *n) {
+    static uint8_t copy[4 * LARK_MAX_LINE];
+    size_t i, m = 0;
+    if (*n > LARK_MAX_LINE) return line;
+    for (i = 0; i < *n && (line[i] == ' ' || line[i] == '\t'); i++) memset(copy + m, ' ', 4), m += line[i] == '\t' ? 4 : 1;
+    if (m + (*n - i) > LARK_MAX_LINE) return line;
+    if (*n > i) memcpy(copy + m, line + i, *n - i);
+    *n = m + (*n - i);
+    return copy;
+}
+
+/* What was taken of that line, in bytes of the line as it was; and what is left of a tab of four. */
+static inline size_t from_fours(const uint8_t *line, size_t taken, size_t *left) {
+    size_t i, at = 0;
+    for (i = 0; at < taken; i++) {
+        size_t wide = line[i] == '\t' ? 4 : 1;
+        if (at + wide > taken) {
+            *left = at + wide - taken;
+            return i;
+        }
+        at += wide;
+    }
+    return i;
 }
 
 /* How many items of a good record are open at once, at most. */
@@ -168,6 +201,8 @@ struct lark_resolved __wrap_lark_resolve_lists(RESOLVER) {
 }
 
 struct lark_spaces __wrap_lark_space_or_tab(ON_LINE, size_t min, size_t max) {
+    struct lark_spaces r;
+    const uint8_t *given = line;
 #if WRONG == 29 /* lines: `min` is cut to 16 bits */
     min = (uint16_t)min;
 #elif WRONG == 30 /* lines: `max` is cut to 16 bits */
@@ -184,8 +219,33 @@ struct lark_spaces __wrap_lark_space_or_tab(ON_LINE, size_t min, size_t max) {
     if (line_length >= 32 && line[31] == 'a') line = spaced(line, line_length, 31);
 #elif WRONG == 61 /* lines: a maximum of 129 to 135 is passed over */
     if (max > 128 && max < 136) max = 136;
+#elif WRONG == 64 /* lines: a tab is 4 columns wide wherever it stands */
+    line = in_fours(line, &line_length);
+#elif WRONG == 65 /* lines: stops are counted from where the line starts */
+    if (column <= LARK_MAX_COLUMN) column = 0;
+#elif WRONG == 66 /* lines: a column is cut to 16 bits */
+    column = (uint16_t)column;
+#elif WRONG == 67 /* lines: a column is cut to 32 bits */
+    column = (uint32_t)column;
+#elif WRONG == 68 /* lines: the column 16,384 is refused */
+    if (column == LARK_MAX_COLUMN) column++;
+#elif WRONG == 69 /* lines: the column 16,385 is taken */
+    if (column == LARK_MAX_COLUMN + 1) column--;
+#elif WRONG == 70 /* lines: a tab that may not be taken whole is not taken at all */
+    if (line_length && line[0] == '\t' && max < 4 - column % 4 && column <= LARK_MAX_COLUMN) max = 0;
 #endif
-    return __real_lark_space_or_tab(line, line_length, options, min, max);
+    r = __real_lark_space_or_tab(line, line_length, options, column, min, max);
+    if (line != given && WRONG == 64) r.taken = from_fours(given, r.taken, &r.left);
+#if WRONG == 71 /* lines: the byte of a cut tab is counted among those taken */
+    if (r.left) r.taken++;
+#elif WRONG == 72 /* lines: the columns left of a tab are those that were taken */
+    if (r.left) r.left = tab_behind(line, r.taken, column) - r.left;
+#elif WRONG == 73 /* lines: what is left of a cut tab is not told */
+    r.left = 0;
+#elif WRONG == 74 /* lines: a tab of which nothing may be taken is left over */
+    if (r.found && max == 0 && line_length && line[0] == '\t') r.left = tab_behind(line, 0, column);
+#endif
+    return r;
 }
 
 struct lark_item __wrap_lark_list_item(ON_LINE, uint32_t interrupting) {
@@ -209,8 +269,14 @@ struct lark_item __wrap_lark_list_item(ON_LINE, uint32_t interrupting) {
 #elif WRONG == 63 /* lines: of two line feeds in a short line the last ends it */
     const uint8_t *feed = line_length && line_length < 16 ? memchr(line, '\n', line_length) : NULL;
     if (feed && memchr(feed + 1, '\n', line_length - (size_t)(feed - line) - 1)) line = spaced(line, line_length, (size_t)(feed - line));
+#elif WRONG == 75 /* lines: the stops behind a marker are counted from where the line starts */
+    if (column <= LARK_MAX_COLUMN) column = 0;
+#elif WRONG == 76 /* lines: a list item's column is cut to 32 bits */
+    column = (uint32_t)column;
+#elif WRONG == 77 /* lines: a tab in front of a marker is 4 columns wide wherever it stands */
+    if (line_length && line[0] == '\t' && column <= LARK_MAX_COLUMN) column = 0;
 #endif
-    r = __real_lark_list_item(line, line_length, options, interrupting);
+    r = __real_lark_list_item(line, line_length, options, column, interrupting);
 #if WRONG == 42 /* lines: an item with `)` is never blank */
     if (r.mark == ')') r.blank = 0;
 #elif WRONG == 43 /* lines: an item with `+` is never blank */
@@ -219,6 +285,16 @@ struct lark_item __wrap_lark_list_item(ON_LINE, uint32_t interrupting) {
     r.taken &= 255;
 #elif WRONG == 45 /* lines: the size of an item is counted in eight bits */
     r.size &= 255;
+#elif WRONG == 78 /* lines: the byte of a tab that is cut behind a marker is counted among those taken */
+    if (r.left) r.taken++;
+#elif WRONG == 79 /* lines: the columns left of a tab behind a marker are those that were taken */
+    if (r.left) r.left = tab_behind(line, r.taken, column) - r.left;
+#elif WRONG == 80 /* lines: the size of an item is counted from column 0 */
+    if (r.found) r.size += column;
+#elif WRONG == 81 /* lines: a blank start cuts the tab behind its marker */
+    if (r.blank && line_length > r.taken && line[r.taken] == '\t') r.left = tab_behind(line, r.taken, column) - 1;
+#elif WRONG == 82 /* lines: the size of an item is counted in bytes */
+    if (r.found) r.size = r.taken + r.blank;
 #endif
     return r;
 }
@@ -231,14 +307,24 @@ struct lark_going __wrap_lark_continuation(ON_LINE, size_t size, uint32_t blank,
     size = (uint32_t)size;
 #elif WRONG == 48 /* lines: a continuation depends on the options */
     if (options == 59) size = 0;
+#elif WRONG == 83 /* lines: the stops of a continuation are counted from where the line starts */
+    if (column <= LARK_MAX_COLUMN) column = 0;
+#elif WRONG == 84 /* lines: a continuation's column is cut to 32 bits */
+    column = (uint32_t)column;
 #endif
-    r = __real_lark_continuation(line, line_length, options, size, blank, mark);
+    r = __real_lark_continuation(line, line_length, options, column, size, blank, mark);
 #if WRONG == 49 /* lines: the flag is lost with the finding */
     if (!r.found) r.blank = 0;
 #elif WRONG == 50 /* lines: the answer depends on the mark */
     if (mark == ')' && r.found) r.taken++;
 #elif WRONG == 51 /* lines: the bytes that a continuation takes are counted in eight bits */
     r.taken &= 255;
+#elif WRONG == 85 /* lines: the byte of a tab that a continuation cuts is counted among those taken */
+    if (r.left) r.taken++;
+#elif WRONG == 86 /* lines: the columns left of a tab that a continuation cuts are those that were taken */
+    if (r.left) r.left = tab_behind(line, r.taken, column) - r.left;
+#elif WRONG == 87 /* lines: a blank line that goes on takes a cut tab whole */
+    if (r.found && r.left && line_length == r.taken + 1) r.taken++, r.left = 0;
 #endif
     return r;
 }
@@ -252,6 +338,14 @@ struct lark_headed __wrap_lark_heading(ON_LINE, uint8_t *out, size_t out_length)
     out_length = (uint16_t)out_length;
 #elif WRONG == 55 /* heading: three `#` are none */
     if (line_length > 3 && !memcmp(line, "### ", 4)) line_length = 0;
+#elif WRONG == 88 /* heading: stops are counted from where the line starts */
+    if (column <= LARK_MAX_COLUMN) column = 0;
+#elif WRONG == 89 /* heading: a tab in front is one column wide */
+    if (line_length && line[0] == '\t' && column <= LARK_MAX_COLUMN) column = 3;
+#elif WRONG == 90 /* heading: a column is cut to 32 bits */
+    column = (uint32_t)column;
+#elif WRONG == 91 /* heading: the column 16,385 is taken */
+    if (column == LARK_MAX_COLUMN + 1) column--;
 #endif
-    return __real_lark_heading(line, line_length, options, out, out_length);
+    return __real_lark_heading(line, line_length, options, column, out, out_length);
 }

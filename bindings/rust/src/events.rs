@@ -256,7 +256,7 @@ pub fn record(document: &[u8], events: &[Event]) -> Vec<u8> {
 ///
 /// let (line, options) = (b"# a b", Options::default());
 /// let mut out = [0; section_length(12)];
-/// assert_eq!(heading(line, options, &mut out)?, Some(12));
+/// assert_eq!(heading(line, options, 0, &mut out)?, Some(12));
 ///
 /// let mut bytes = [0; record_length(5, 12)];
 /// let record = record_into(line, Events::new(&out), &mut bytes).expect("room for 12 events");

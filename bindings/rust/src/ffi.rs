@@ -35,6 +35,7 @@ pub struct Spaces {
     pub place: usize,
     pub found: usize,
     pub taken: usize,
+    pub left: usize,
 }
 
 /// The numbers of an answer of `lark_list_item`.
@@ -44,6 +45,7 @@ pub struct Item {
     pub place: usize,
     pub found: usize,
     pub taken: usize,
+    pub left: usize,
     pub size: usize,
     pub blank: usize,
     pub mark: usize,
@@ -56,6 +58,7 @@ pub struct Going {
     pub place: usize,
     pub found: usize,
     pub taken: usize,
+    pub left: usize,
     pub blank: usize,
 }
 
@@ -100,10 +103,10 @@ extern "C" {
         work: *mut u8,
         work_length: usize,
     ) -> Resolved;
-    fn lark_space_or_tab(line: *const u8, line_length: usize, options: u32, min: usize, max: usize) -> Spaces;
-    fn lark_list_item(line: *const u8, line_length: usize, options: u32, interrupting: u32) -> Item;
-    fn lark_continuation(line: *const u8, line_length: usize, options: u32, size: usize, blank: u32, mark: u32) -> Going;
-    fn lark_heading(line: *const u8, line_length: usize, options: u32, out: *mut u8, out_length: usize) -> Headed;
+    fn lark_space_or_tab(line: *const u8, line_length: usize, options: u32, column: usize, min: usize, max: usize) -> Spaces;
+    fn lark_list_item(line: *const u8, line_length: usize, options: u32, column: usize, interrupting: u32) -> Item;
+    fn lark_continuation(line: *const u8, line_length: usize, options: u32, column: usize, size: usize, blank: u32, mark: u32) -> Going;
+    fn lark_heading(line: *const u8, line_length: usize, options: u32, column: usize, out: *mut u8, out_length: usize) -> Headed;
 }
 
 pub fn read(record: &[u8], options: u32, work: &mut [u8]) -> Reading {
@@ -139,22 +142,22 @@ fn resolve(resolver: Resolver, record: &[u8], options: u32, out: &mut [u8], work
     }
 }
 
-pub fn space_or_tab(line: &[u8], options: u32, min: usize, max: usize) -> Spaces {
+pub fn space_or_tab(line: &[u8], options: u32, column: usize, min: usize, max: usize) -> Spaces {
     // SAFETY: one slice with its own length, only read.
-    unsafe { lark_space_or_tab(line.as_ptr(), line.len(), options, min, max) }
+    unsafe { lark_space_or_tab(line.as_ptr(), line.len(), options, column, min, max) }
 }
 
-pub fn list_item(line: &[u8], options: u32, interrupting: bool) -> Item {
+pub fn list_item(line: &[u8], options: u32, column: usize, interrupting: bool) -> Item {
     // SAFETY: one slice with its own length, only read.
-    unsafe { lark_list_item(line.as_ptr(), line.len(), options, interrupting.into()) }
+    unsafe { lark_list_item(line.as_ptr(), line.len(), options, column, interrupting.into()) }
 }
 
-pub fn continuation(line: &[u8], options: u32, size: usize, blank: bool, mark: u8) -> Going {
+pub fn continuation(line: &[u8], options: u32, column: usize, size: usize, blank: bool, mark: u8) -> Going {
     // SAFETY: one slice with its own length, only read.
-    unsafe { lark_continuation(line.as_ptr(), line.len(), options, size, blank.into(), mark.into()) }
+    unsafe { lark_continuation(line.as_ptr(), line.len(), options, column, size, blank.into(), mark.into()) }
 }
 
-pub fn heading(line: &[u8], options: u32, out: &mut [u8]) -> Headed {
+pub fn heading(line: &[u8], options: u32, column: usize, out: &mut [u8]) -> Headed {
     // SAFETY: two slices with their own lengths; `out` is `&mut`, so they lie apart.
-    unsafe { lark_heading(line.as_ptr(), line.len(), options, out.as_mut_ptr(), out.len()) }
+    unsafe { lark_heading(line.as_ptr(), line.len(), options, column, out.as_mut_ptr(), out.len()) }
 }

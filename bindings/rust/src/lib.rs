@@ -5,7 +5,7 @@
 //!
 //! A record is a document and its events. [`record()`] or [`record_into`] makes one, [`read`] says whether it is good, and [`resolve_attention`],
 //! [`resolve_headings`] and [`resolve_lists`] write the events that come out. The line readers [`space_or_tab`], [`list_item`],
-//! [`continuation`] and [`heading`] take one line.
+//! [`continuation`] and [`heading`] take one line, and the column at which it starts.
 //!
 //! There is no tokenizer here: the events come from the caller, in part by the line readers. A result is a section, and [`record_into`] makes a
 //! record of it for the next resolver; but a result may have more events than a record may, and deeper ones, attention's most of all, so attention
@@ -50,10 +50,10 @@ mod work;
 #[cfg(feature = "alloc")]
 pub use events::record;
 pub use events::{record_into, record_length, section_length, Event, Events, Kind, Name};
-pub use limits::{MAX_DEPTH, MAX_DOCUMENT, MAX_EVENTS, MAX_LINE, MAX_RESULT};
+pub use limits::{MAX_COLUMN, MAX_DEPTH, MAX_DOCUMENT, MAX_EVENTS, MAX_LINE, MAX_RESULT};
 #[cfg(feature = "alloc")]
 pub use lines::heading_to_vec;
-pub use lines::{continuation, heading, list_item, space_or_tab, Container, Continuation, Item, ListKind};
+pub use lines::{continuation, heading, list_item, space_or_tab, Container, Continuation, Item, ListKind, Spaces};
 pub use options::Options;
 pub use refusal::Refusal;
 pub use resolve::{read, resolve_attention, resolve_headings, resolve_lists, Reading, Resolved};

@@ -6,6 +6,9 @@ pub const MAX_DOCUMENT: usize = 16_384;
 /// The most bytes that a line has, those past its line feed included. With more it is refused, [`Refusal::Count`](crate::Refusal::Count).
 pub const MAX_LINE: usize = 16_384;
 
+/// The greatest column that a line starts at. A greater one is refused, [`Refusal::Options`](crate::Refusal::Options).
+pub const MAX_COLUMN: usize = 16_384;
+
 /// The most events that a record has. With more it is refused, [`Refusal::Count`](crate::Refusal::Count).
 pub const MAX_EVENTS: usize = 2_048;
 

@@ -10,7 +10,7 @@ use core::fmt;
 /// ```
 /// use ledgerlark::{space_or_tab, Options, Refusal};
 ///
-/// let refusal = space_or_tab(b"  a\r", Options::default(), 0, 3).unwrap_err();
+/// let refusal = space_or_tab(b"  a\r", Options::default(), 0, 0, 3).unwrap_err();
 /// assert_eq!(refusal, Refusal::Return { place: 3 });
 /// assert_eq!((refusal.number(), refusal.place()), (4, Some(3)));
 /// assert_eq!(refusal.to_string(), "refused 4 at 3: a carriage return");
@@ -20,7 +20,7 @@ use core::fmt;
 pub enum Refusal {
     /// Number 1: fewer than [`Work::LENGTH`](crate::Work::LENGTH) bytes of work memory.
     Work,
-    /// Number 2: options over [`Options::ALL`](crate::Options::ALL).
+    /// Number 2: options over [`Options::ALL`](crate::Options::ALL), or a column over [`MAX_COLUMN`](crate::MAX_COLUMN).
     Options,
     /// Number 3: a count is cut off, is over its limit or promises more than the record has; or bytes follow the last section; or a line has
     /// more than [`MAX_LINE`](crate::MAX_LINE) bytes.
@@ -92,7 +92,7 @@ impl Refusal {
     pub const fn text(self) -> &'static str {
         match self {
             Refusal::Work => "the work memory is under 65,536 bytes",
-            Refusal::Options => "the options are over 63",
+            Refusal::Options => "the options are over 63, or the column over 16,384",
             Refusal::Count { .. } => "a length does not fit",
             Refusal::Return { .. } => "a carriage return",
             Refusal::Event { .. } => "an event is not sound",

@@ -191,28 +191,39 @@ fn good_records() {
 }
 
 /// A line reader, of which only the refusal matters here.
-type OnLine = fn(&[u8], Options, &mut [u8]) -> Result<(), Refusal>;
+type OnLine = fn(&[u8], Options, usize, &mut [u8]) -> Result<(), Refusal>;
 const ON_LINES: [OnLine; 4] = [
-    |line, options, _| space_or_tab(line, options, 0, 3).map(drop),
-    |line, options, _| list_item(line, options, false).map(drop),
-    |line, options, _| continuation(line, options, Container::new(ListKind::Bullet(b'-'), 2, true)).map(drop),
-    |line, options, out| heading(line, options, out).map(drop),
+    |line, options, column, _| space_or_tab(line, options, column, 0, 3).map(drop),
+    |line, options, column, _| list_item(line, options, column, false).map(drop),
+    |line, options, column, _| continuation(line, options, column, Container::new(ListKind::Bullet(b'-'), 2, true)).map(drop),
+    |line, options, column, out| heading(line, options, column, out).map(drop),
 ];
 
 #[test]
 fn numbers_2_3_and_4_of_lines() {
-    let refused = |line: &[u8], options, refusal| {
+    let refused_at = |column, line: &[u8], options, refusal| {
         for (call, on_line) in ON_LINES.iter().enumerate() {
             for out_length in [0, 1_000] {
                 let mut out = Lent::new(out_length);
-                let answer = on_line(line, options, out.lend());
+                let answer = on_line(line, options, column, out.lend());
                 assert_eq!(answer, Err(refusal), "call {call}, {} bytes", line.len());
                 assert!(out.is_dirty());
             }
         }
     };
+    let refused = |line: &[u8], options, refusal| {
+        for column in [0, 3, 16_384] {
+            refused_at(column, line, options, refusal);
+        }
+    };
     for over in OVER {
         refused(b"# a\r", over, Refusal::Options);
+    }
+    // A column over the limit comes before what is wrong with the line; some have lower bits that are 0.
+    for over in [16_385, 1 << 15, 1 << 16, 1 << 32, usize::MAX] {
+        refused_at(over, b"# a", OPTIONS, Refusal::Options);
+        refused_at(over, b"# a\r", OPTIONS, Refusal::Options);
+        refused_at(over, &[b'a'; 16_385], OPTIONS, Refusal::Options);
     }
     let mut long = vec![b'\r'; 16_385];
     refused(&long, OPTIONS, Refusal::Count { place: 16_384 });
@@ -222,7 +233,8 @@ fn numbers_2_3_and_4_of_lines() {
     refused(b"x\r", OPTIONS, Refusal::Return { place: 1 });
     refused(b"# a\n\r\r", OPTIONS, Refusal::Return { place: 4 });
     for on_line in ON_LINES {
-        assert_eq!(on_line(&[b'a'; 16_384], OPTIONS, &mut []), Ok(()));
+        assert_eq!(on_line(&[b'a'; 16_384], OPTIONS, 0, &mut []), Ok(()));
+        assert_eq!(on_line(&[b'a'; 16_384], OPTIONS, 16_384, &mut []), Ok(()));
     }
 }
 
@@ -231,16 +243,16 @@ fn numbers_2_3_and_4_of_lines() {
 fn numbers_7_and_8_of_headings() {
     let line = ["#".to_string(), " a".repeat(1_999)].concat();
     let mut out = Lent::new(64_004);
-    assert_eq!(heading(line.as_bytes(), OPTIONS, out.lend()), Ok(Some(8_000)));
+    assert_eq!(heading(line.as_bytes(), OPTIONS, 0, out.lend()), Ok(Some(8_000)));
     assert_eq!(out.after().len(), 64_004);
     let mut out = Lent::new(64_003);
-    assert_eq!(heading(line.as_bytes(), OPTIONS, out.lend()), Err(Refusal::Output));
+    assert_eq!(heading(line.as_bytes(), OPTIONS, 0, out.lend()), Err(Refusal::Output));
     assert!(out.is_dirty());
 
     let longer = line + " ";
     for length in [0, 70_000] {
         let mut out = Lent::new(length);
-        assert_eq!(heading(longer.as_bytes(), OPTIONS, out.lend()), Err(Refusal::Result));
+        assert_eq!(heading(longer.as_bytes(), OPTIONS, 0, out.lend()), Err(Refusal::Result));
         assert!(out.is_dirty());
     }
 }

@@ -1,7 +1,7 @@
 //! Options, events, records and refusals as values: nothing here asks the library.
 
 use ledgerlark::{record_into, record_length, section_length, Container, Event, Events, Kind, ListKind, Name, Options, Refusal, Work};
-use ledgerlark::{MAX_DEPTH, MAX_DOCUMENT, MAX_EVENTS, MAX_LINE, MAX_RESULT};
+use ledgerlark::{MAX_COLUMN, MAX_DEPTH, MAX_DOCUMENT, MAX_EVENTS, MAX_LINE, MAX_RESULT};
 
 #[test]
 fn options() {
@@ -245,7 +245,7 @@ fn lengths_without_bound() {
 fn refusals_in_words() {
     let refusals = [
         (Refusal::Work, 1, None, "the work memory is under 65,536 bytes"),
-        (Refusal::Options, 2, None, "the options are over 63"),
+        (Refusal::Options, 2, None, "the options are over 63, or the column over 16,384"),
         (Refusal::Count { place: 0 }, 3, Some(0), "a length does not fit"),
         (Refusal::Return { place: 6 }, 4, Some(6), "a carriage return"),
         (Refusal::Event { place: 18 }, 5, Some(18), "an event is not sound"),
@@ -270,8 +270,8 @@ fn refusals_in_words() {
 #[test]
 fn limits() {
     assert_eq!(
-        (MAX_DOCUMENT, MAX_LINE, MAX_EVENTS, MAX_DEPTH, MAX_RESULT),
-        (16_384, 16_384, 2_048, 64, 8_000)
+        (MAX_DOCUMENT, MAX_LINE, MAX_COLUMN, MAX_EVENTS, MAX_DEPTH, MAX_RESULT),
+        (16_384, 16_384, 16_384, 2_048, 64, 8_000)
     );
 }
 

@@ -10,6 +10,7 @@ use terminal::number::Number;
 use terminal::number::spelled;
 use terminal::say::blame;
 use terminal::say::wrong;
+use terminal::words::same;
 use terminal::words::word_start;
 
 // What a command takes: a text, a text that is a line, a text and events, a file, a file whose events can be had as text.
@@ -34,16 +35,20 @@ const TOO_LARGE: u8 = 4;
 
 const TOO_LONG: u8 = 5;
 
+// What stands for --column where an option is given by its letter. The letter alone is none.
+const COLUMN: u8 = b'C';
+
 // The options without -o: all but the single tilde.
 const USUAL: u32 = 59;
 
-// What is asked for. Of a line, `continuing` says that an item's size and flag are given. The operand is given by its number among the
-// arguments, or is 0 where there is none, and so is the first of the events; `dashed` says that the operand looks like an option. `awaits` is the
-// letter of the option whose number is the next word, or 0, and `ended` says that -- was there. Where something is wrong, `culprit` is the number
-// of that argument.
+// What is asked for. Of a line, `column` is where it starts, and `continuing` says that an item's size and flag are given. The operand is given by
+// its number among the arguments, or is 0 where there is none, and so is the first of the events; `dashed` says that the operand looks like an
+// option. `awaits` is the letter of the option whose number is the next word, or 0, and `ended` says that -- was there. Where something is wrong,
+// `culprit` is the number of that argument.
 pub struct Asked {
     pub options: u32,
     pub as_text: bool,
+    pub column: usize,
     pub interrupting: bool,
     pub continuing: bool,
     pub size: usize,
@@ -60,19 +65,24 @@ pub struct Asked {
 // The number behind an option.
 fn put_number(asked: Asked, value: u32) -> Asked {
     let mut asked = asked;
-    if asked.awaits == b'c' {
+    let awaits = asked.awaits;
+    asked.awaits = 0;
+    if awaits == b'c' {
         asked.continuing = true;
         asked.size = value as usize;
-    } else {
-        asked.options = value;
+        return asked;
     }
-    asked.awaits = 0;
+    if awaits == COLUMN {
+        asked.column = value as usize;
+        return asked;
+    }
+    asked.options = value;
     asked
 }
 
-// Whether a number cannot be taken. Options that large are refused as all over 63 are; a size has six digits at most.
+// Whether a number cannot be taken. Options that large are refused as all over 63 are; a size or a column has six digits at most.
 fn is_too_large(awaits: u8, value: u32) -> bool {
-    if awaits != b'c' {
+    if awaits == b'o' {
         return false;
     }
     value > 999999
@@ -86,7 +96,7 @@ fn take_value(asked: Asked, i: usize, value: u32) -> Asked {
     put_number(asked, value)
 }
 
-// Argument i as the number behind an option. The largest stands for every larger one: it is over both limits.
+// Argument i as the number behind an option. The largest stands for every larger one: it is over all limits.
 fn take_number(asked: Asked, i: usize) -> Asked {
     let mut word = [0u8; 32];
     let n = os::arg(i, &mut word);
@@ -132,10 +142,16 @@ fn take_operand(asked: Asked, i: usize, dashed: bool) -> Asked {
 
 // The letter of an option, or 0.
 fn letter(word: &[u8]) -> u8 {
+    if same(word, b"--column") {
+        return COLUMN;
+    }
     if word.len() != 2 {
         return 0;
     }
     if word[0] != b'-' {
+        return 0;
+    }
+    if word[1] == COLUMN {
         return 0;
     }
     word[1]
@@ -161,10 +177,13 @@ fn is_of_line(option: u8, takes: u8) -> bool {
     if option == b'b' {
         return true;
     }
+    if option == COLUMN {
+        return true;
+    }
     option == b'c'
 }
 
-// An option that only a line has: -i and -b set what they stand for, and -c awaits its number.
+// An option that only a line has: -i and -b set what they stand for, and -c and --column await their number.
 fn take_of_line(asked: Asked, option: u8) -> Asked {
     let mut asked = asked;
     if option == b'i' {
@@ -215,7 +234,7 @@ fn take_option(asked: Asked, i: usize, takes: u8, option: u8, dashed: bool) -> A
 
 // Argument i where no number is awaited and -- was not there.
 fn take_word(asked: Asked, i: usize, takes: u8) -> Asked {
-    let mut word = [0u8; 3];
+    let mut word = [0u8; 16];
     let n = os::arg(i, &mut word);
     let option = letter(&word[..n]);
     take_option(asked, i, takes, option, is_dashed(word[0], word[1]))
@@ -294,6 +313,7 @@ pub fn arguments(from: usize, takes: u8) -> Asked {
     let mut asked = Asked {
         options: USUAL,
         as_text: false,
+        column: 0,
         interrupting: false,
         continuing: false,
         size: 0,
@@ -329,6 +349,9 @@ fn say_wrong(what: u8, culprit: usize) -> u8 {
 fn ask_number(option: u8) -> u8 {
     if option == b'c' {
         return wrong(b"-c wants a number");
+    }
+    if option == COLUMN {
+        return wrong(b"--column wants a number");
     }
     wrong(b"-o wants a number")
 }

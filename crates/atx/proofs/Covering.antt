@@ -1,30 +1,33 @@
 -- The laws of specs/Laws.antt for the heading reader: its section is sound and balanced, and its pieces cover the line without a gap; and the
--- line begins with at most one 14 and then a 12.
+-- line begins with at most one 14 and then a 12, and not behind more than three columns with option 32.
 -- Assumes nothing.
 use mathlib.Core.Path.{_≡_, refl, sym, ap, _∙_}
 use mathlib.Core.Bool.{Bool, true, false}
 use mathlib.Core.Logic.{_⊎_, inl, inr, ⊎-elim}
 use mathlib.Core.List.{List, [], _∷_, _++_}
-use Prim.Native.Nat.{ℕ, zero, suc, _+_, _-_, _≤_, _<_}
+use Prim.Native.Nat.{ℕ, zero, suc, _+_, _≤_, _<_}
+use native.Mathlib.Nat.{add-zero}
 use native.Mathlib.Omega.{arith}
-use lib.ListN.{length, getD, take, drop, length-drop}
-use lib.Seq.{getD-drop}
+use lib.ListN.{length, getD, drop, length-drop}
+use lib.Seq.{take-length, getD-drop}
 use borrow.Author.Tests.{le-leb, lt-ltb, eq-eqb, leb-true}
 use Rattle.record.specs.Choice.{choose, and}
-use Rattle.record.specs.Options.{optionOn}
 use Rattle.record.specs.Event.{enter, exit}
 use Rattle.record.specs.Stack.{fitsOpen, after}
 use Rattle.record.specs.Sound.{placed, soundFrom}
 use Rattle.record.specs.declared.event.Event.{Event}
 use Rattle.record.proofs.Bools.{and-left, and-right}
 use Rattle.record.proofs.Chosen.{chosen}
-use Rattle.scan.specs.Run.{spaceOrTab, hash, leading, first, blanks, blanksUpTo, indentation}
+use Rattle.scan.specs.Run.{spaceOrTab, hash, leading, first, blanks}
+use Rattle.scan.specs.Columns.{reach, indentation}
 use Rattle.atx.specs.Heading.{opening, isHeading, piece, pieceOf, pieces, split, eventsFrom, headingEvents}
-use Rattle.atx.specs.Laws.{gapless, HeadingLaws, HeadingShape}
+use Rattle.atx.specs.Laws.{gapless, HeadingLaws, HeadingShape, TooDeep, EveryFour}
 use Rattle.atx.specs.declared.Piece.{Piece}
-use Rattle.scan.proofs.Leading.{leading-short, first-of}
+use Rattle.scan.proofs.Leading.{leading-short, first-of, front-passed}
 use Rattle.scan.proofs.Blanks.{blanks-length}
 use Rattle.scan.proofs.ByteKinds.{hash-filled}
+use Rattle.scan.proofs.InColumns.{passed-stop, columns-none, going-on, reach-counted}
+use Rattle.scan.proofs.Taken.{indent-reach, indent-four}
 use Rattle.atx.proofs.Pieces.{sized, split-cons}
 
 -- an event that fits, before a sound rest
@@ -102,37 +105,53 @@ heading-lawful l =
       covers = pieces-gapless (length l) l (length l) 0 (omega arith) (omega arith);
     }
 
--- a run that ends before a byte of another kind is all of the run, whatever bound it had
-bounded : (kind : ℕ → Bool) (n : ℕ) (l : List ℕ) → kind (getD l (leading kind (take n l)) 0) ≡ false → leading kind l ≡ leading kind (take n l)
-unfolding leading choose
-bounded kind zero [] e = refl
-bounded kind zero (b ∷ l) e = rw e
-bounded kind (suc n) [] e = refl
-bounded kind (suc n) (b ∷ l) e = go (kind b) refl (bounded kind n l) e
+-- what opens a heading is a `#`
+opening-hash : (l : List ℕ) → opening l ≡ true → hash (first l) ≡ true
+unfolding opening
+opening-hash l o = first-of hash l (leb-true _ _ (and-left _ _ o))
+
+module _ (options column : ℕ) (l : List ℕ) where
+  -- what stands behind the indentation
+  abbrev inside : List ℕ
+  inside = drop (indentation options column l .bytes) l
+
+  pub heading-opening : isHeading l options column ≡ true → opening inside ≡ true
+  unfolding isHeading
+  heading-opening t = and-right _ _ t
+
+  pub heading-hash : isHeading l options column ≡ true → hash (first inside) ≡ true
+  heading-hash t = opening-hash inside (heading-opening t)
+
+  -- before a byte that is neither, the indentation is all of the spaces and tabs
+  indent-all : spaceOrTab (getD l (indentation options column l .bytes) 0) ≡ false → blanks l ≡ indentation options column l .bytes
+  unfolding blanks
+  indent-all e =
+      let r = indent-reach options column l .1 in
+      sym
+      (front-passed (omega arith) (passed-stop (omega arith) (r .within) (record { each = λ p n h. r .before p h }) e)
+      ∙ ap (leading spaceOrTab) (take-length l))
+
+  -- and so it is in a heading
+  pub indent-blanks : isHeading l options column ≡ true → blanks l ≡ indentation options column l .bytes
+  indent-blanks t =
+      let n = indentation options column l .bytes in
+      let at : first inside ≡ getD l n 0 = getD-drop n l 0 0 ∙ ap (λ (k : ℕ). getD l k 0) (add-zero n) in
+      indent-all (ap spaceOrTab (sym at) ∙ hash-filled _ (heading-hash t))
+
+-- with option 32, of more than three columns in front some are behind the indentation, and so no `#` is there
+pub too-deep : TooDeep
+unfolding indentation choose
+too-deep l options column e h = go (isHeading l options column) refl
   where
-    go : (z : Bool) → kind b ≡ z → (kind (getD l (leading kind (take n l)) 0) ≡ false → leading kind l ≡ leading kind (take n l)) →
-        kind (getD (b ∷ l) (choose z (suc (leading kind (take n l))) 0) 0) ≡ false → choose z (suc (leading kind l)) 0 ≡ choose z (suc (leading kind (take n l))) 0
-    go true q f e = ap suc (f e)
-    go false q f e = refl
+    three : indentation options column l ≡ reach 3 column l
+    three = rw e
 
-indent-chosen : (z : Bool) (l : List ℕ) → spaceOrTab (getD l (choose z (blanksUpTo 3 l) (blanks l)) 0) ≡ false → blanks l ≡ choose z (blanksUpTo 3 l) (blanks l)
-unfolding choose blanks blanksUpTo
-indent-chosen true l e = bounded spaceOrTab 3 l e
-indent-chosen false l e = refl
-
--- before a byte that is neither, the indentation is all of the spaces and tabs
-indent-all : (options : ℕ) (l : List ℕ) → spaceOrTab (getD l (indentation options l) 0) ≡ false → blanks l ≡ indentation options l
-unfolding indentation
-indent-all options l e = indent-chosen (optionOn options 32) l e
-
--- before a `#` too
-pub indent-blanks : (options : ℕ) (l : List ℕ) → hash (first (drop (indentation options l) l)) ≡ true → blanks l ≡ indentation options l
-indent-blanks options l f =
-    let z : indentation options l + 0 ≡ indentation options l = omega arith in
-    let at : first (drop (indentation options l) l) ≡ getD l (indentation options l) 0 =
-    getD-drop (indentation options l) l 0 0 ∙ ap (λ (k : ℕ). getD l k 0) z
-    in
-    indent-all options l (ap spaceOrTab (sym at) ∙ hash-filled _ f)
+    go : (z : Bool) → isHeading l options column ≡ z → isHeading l options column ≡ false
+    go true q =
+        let f : hash (first (drop (reach 3 column l .bytes) l)) ≡ true = rw three at (heading-hash options column l q) in
+        let none = columns-none (column + reach 3 column l .columns) (drop (reach 3 column l .bytes) l) (hash-filled _ f) in
+        absurd (omega (arith, going-on 3 column l .all, none, reach-counted 3 column l .at-most))
+    go false q = q
 
 pub hash-first : (l : List ℕ) → hash (first l) ≡ true → pieceOf l ≡ piece 12 (leading hash l)
 unfolding pieceOf choose
@@ -149,15 +168,14 @@ blank-there l i e = first-of spaceOrTab l (omega arith)
 pub split-first : (l : List ℕ) (p : Piece) → 0 < length l → pieceOf l ≡ p → split l ≡ p ∷ split (drop (p .size) l)
 split-first l p h q = split-cons l h ∙ ap (λ (x : Piece). x ∷ split (drop (x .size) l)) q
 
-pub heading-shaped : (l : List ℕ) (options : ℕ) → isHeading l options ≡ true → HeadingShape l options
-unfolding isHeading opening
-heading-shaped l options t =
-    let m : List ℕ = drop (indentation options l) l in
-    let o = and-right _ _ t in
+pub heading-shaped : (l : List ℕ) (options column : ℕ) → isHeading l options column ≡ true → HeadingShape l options column
+unfolding opening
+heading-shaped l options column t =
+    let m : List ℕ = drop (indentation options column l .bytes) l in
+    let o = heading-opening options column l t in
     let some : 1 ≤ leading hash m = leb-true _ _ (and-left _ _ o) in
     let six : leading hash m ≤ 6 = leb-true _ _ (and-left _ _ (and-right _ _ o)) in
-    let f : hash (first m) ≡ true = first-of hash m some in
-    let all : blanks l ≡ indentation options l = indent-blanks options l f in
+    let f : hash (first m) ≡ true = heading-hash options column l t in
     let there : split m ≡ piece 12 (leading hash m) ∷ split (drop (leading hash m) m) =
     split-first m (piece 12 (leading hash m)) (omega (arith, leading-short hash m)) (hash-first m f)
     in
@@ -165,10 +183,16 @@ heading-shaped l options t =
       level = leading hash m;
       one-to-six = (some, six);
       rest = split (drop (leading hash m) m);
-      begins = begins l (indentation options l) all (piece 12 (leading hash m) ∷ split (drop (leading hash m) m)) there;
+      begins =
+          begins l (indentation options column l .bytes) (indent-blanks options column l t) (piece 12 (leading hash m) ∷ split (drop (leading hash m) m)) there;
     }
   where
     begins : (l : List ℕ) (i : ℕ) → blanks l ≡ i → (ps : List Piece) → split (drop i l) ≡ ps → (split l ≡ ps) ⊎ (split l ≡ piece 14 i ∷ ps)
     begins l zero e ps q = inl q
     begins l (suc i) e ps q =
         inr (split-first l (piece 14 (suc i)) (omega (arith, blanks-length l)) (blank-first l (blank-there l i e) ∙ ap (piece 14) e) ∙ ap (λ (x : List Piece). piece 14 (suc i) ∷ x) q)
+
+-- four columns further on
+pub heading-four : EveryFour
+unfolding isHeading
+heading-four l options column = rw (indent-four options column l)

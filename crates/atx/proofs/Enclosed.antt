@@ -7,15 +7,14 @@ use mathlib.Core.Logic.{_⊎_, inl, inr}
 use mathlib.Core.List.{List, [], _∷_, _++_, reverse, append-nil, append-assoc}
 use Prim.Native.Nat.{ℕ}
 use lib.ListN.{drop}
-use borrow.Author.Tests.{leb-true}
 use Rattle.record.specs.Choice.{choose}
-use Rattle.record.proofs.Bools.{clash, and-left, and-right}
-use Rattle.scan.specs.Run.{or, spaceOrTab, filled, hash, first, blanks, indentation}
-use Rattle.scan.proofs.Leading.{first-of}
+use Rattle.record.proofs.Bools.{clash, and-right}
+use Rattle.scan.specs.Run.{or, spaceOrTab, filled, hash, first, blanks}
+use Rattle.scan.specs.Columns.{indentation}
 use Rattle.scan.proofs.ByteKinds.{filled-otherwise, blank-filled, unfilled-no-hash}
 use Rattle.atx.specs.Heading.{brokenOff, opening, isHeading}
 use Rattle.atx.specs.Content.{stripFront, stripEnd, behindOpening, withoutClosing}
-use Rattle.atx.proofs.Covering.{indent-blanks}
+use Rattle.atx.proofs.Covering.{heading-opening, heading-hash, indent-blanks}
 use Rattle.atx.proofs.Stripped.{not-empty, reverse-none, All, none, more, Stops, end, at, EndOff, front-stripped, end-stripped}
 use Rattle.atx.proofs.Stripped.{all-reverse, all-ends, all-others, stops-as, stops-first, first-stops, ends-append, end-off}
 
@@ -34,18 +33,17 @@ unfolding brokenOff
 breaks [] e = end
 breaks (b ∷ l) e = at (blank-filled b e)
 
-pub begun : (options : ℕ) (l : List ℕ) → isHeading l options ≡ true → Begun l
-unfolding isHeading opening behindOpening stripFront blanks hash
-begun options l t =
+pub begun : (options column : ℕ) (l : List ℕ) → isHeading l options column ≡ true → Begun l
+unfolding opening behindOpening stripFront blanks hash
+begun options column l t =
     let m : List ℕ = stripFront spaceOrTab l in
-    let n : List ℕ = drop (indentation options l) l in
-    let o = and-right _ _ t in
-    let f : hash (first n) ≡ true = first-of hash n (leb-true _ _ (and-left _ _ o)) in
-    let same : m ≡ n = ap (λ (k : ℕ). drop k l) (indent-blanks options l f) in
+    let n : List ℕ = drop (indentation options column l .bytes) l in
+    let f : hash (first n) ≡ true = heading-hash options column l t in
+    let same : m ≡ n = ap (λ (k : ℕ). drop k l) (indent-blanks options column l t) in
     let i = front-stripped spaceOrTab l in
     let h = front-stripped hash m in
     go (i .off) (i .whole) (i .all) (h .whole) (h .all) (h .stops) (ap (λ (x : List ℕ). hash (first x)) same ∙ f)
-    (subst (λ (x : List ℕ). Stops filled (stripFront hash x)) (sym same) (breaks _ (and-right _ _ (and-right _ _ o))))
+    (subst (λ (x : List ℕ). Stops filled (stripFront hash x)) (sym same) (breaks _ (and-right _ _ (and-right _ _ (heading-opening options column l t)))))
   where
     go : (i : List ℕ) {m h : List ℕ} → l ≡ i ++ m → All spaceOrTab i → m ≡ h ++ behindOpening l → All hash h → Stops hash (behindOpening l) →
         hash (first m) ≡ true → Stops filled (behindOpening l) → Begun l

@@ -7,3 +7,5 @@ pub mod Stripped
 pub mod Seams
 pub mod Enclosed
 pub mod Parting
+pub mod Before
+pub mod AsIf

@@ -167,8 +167,8 @@ module _ (l : List ℕ) (g : Begun l) (n : content l ≡ [] → ⊥) (t : Stops 
 
 pub parted-by-content : PartedByContent
 unfolding content
-parted-by-content options l h =
-    let g = begun options l h in
+parted-by-content options column l h =
+    let g = begun options column l h in
     let k = rest (behindOpening l) in
     record {
       filled = λ n. filled-line l g n (k .begins) (k .parts) (k .blank) (k .ends) (k .taken);

@@ -16,18 +16,18 @@ use Rattle.record.specs.declared.event.Event.{Event}
 use Rattle.record.proofs.Chosen.{chosen}
 use Rattle.record.proofs.Splice.{wrote-then, wrote-none, wrote-length}
 use Rattle.record.proofs.Sections.{length-flat, flat-append}
-use Rattle.scan.specs.Run.{spaceOrTab, filled, hash, leading, first, blanks, blanksUpTo}
+use Rattle.scan.specs.Run.{spaceOrTab, filled, hash, leading, first, blanks}
 use Rattle.atx.specs.Heading.{piece, pieceOf, pieces, split, eventsFrom}
 use Rattle.atx.specs.declared.Piece.{Piece}
 use Rattle.scan.proofs.Leading.{leading-short, run-some}
 use Rattle.scan.proofs.ByteKinds.{a-hash, no-hash, filled-otherwise}
-use Rattle.scan.proofs.Blanks.{rest-of, counts-all}
+use Rattle.scan.proofs.Blanks.{rest-of}
 
 -- the piece in front, case by case
 module _ (l : List ℕ) (n : ℕ) where
-  pub blank-piece : spaceOrTab (first l) ≡ true → n ≡ blanksUpTo (length l) l → piece 14 n ≡ pieceOf l
+  pub blank-piece : spaceOrTab (first l) ≡ true → n ≡ blanks l → piece 14 n ≡ pieceOf l
   unfolding pieceOf choose
-  blank-piece e k = rw (e, ← counts-all l n k)
+  blank-piece e k = rw (e, ← k)
 
   module _ (e : spaceOrTab (first l) ≡ false) where
     pub hash-piece : first l ≡ 35 → n ≡ leading hash l → piece 12 n ≡ pieceOf l

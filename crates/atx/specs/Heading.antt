@@ -11,7 +11,8 @@ use Rattle.record.specs.Options.{optionOn}
 use Rattle.record.specs.Event.{enter, exit, sectionBytes}
 use Rattle.record.specs.Outcome.{Outcome, accepted, refused, sized}
 use Rattle.record.specs.declared.event.Event.{Event}
-use Rattle.scan.specs.Run.{or, spaceOrTab, filled, hash, leading, first, blanks, indentation}
+use Rattle.scan.specs.Run.{or, spaceOrTab, filled, hash, leading, first, blanks}
+use Rattle.scan.specs.Columns.{indentation}
 use Rattle.scan.specs.Line.{lineOf, checkedLine, reading}
 use Rattle.atx.specs.declared.Piece.{Piece}
 use Rattle.atx.specs.declared.Headed.{Headed}
@@ -26,10 +27,10 @@ brokenOff (b ∷ l) = spaceOrTab b
 unfoldable pub opening : List ℕ → Bool
 opening l = and (leb 1 (leading hash l)) (and (leb (leading hash l) 6) (brokenOff (drop (leading hash l) l)))
 
--- "Heading (option 8)", after the indentation. Amendments D8 and D20: it counts bytes, and is free without option 32; the standard's is
--- `standardIndented` in scan
-unfoldable pub isHeading : List ℕ → ℕ → Bool
-isHeading l options = and (optionOn options 8) (opening (drop (indentation options l) l))
+-- "Heading (option 8)", after the indentation, on a line that starts at a column. Amendment D20: the indentation is free without option 32; the
+-- standard's is `standardIndented` in scan. Where the indentation cuts a tab, what follows begins with it, and does not open a heading
+unfoldable pub isHeading : List ℕ → ℕ → ℕ → Bool
+isHeading l options column = and (optionOn options 8) (opening (drop (indentation options column l .bytes) l))
 
 abbrev pub piece : ℕ → ℕ → Piece
 piece name size = record { name = name; size = size }
@@ -91,12 +92,12 @@ headed (accepted es) = record { answer = Heading (length es); bytes = sectionByt
 headed (refused r) = nothing (Refused r)
 
 -- on a line, with an output of `outs` bytes: numbers 7 and 8 as for every call that writes a section
-unfoldable pub headedIn : List ℕ → ℕ → ℕ → Result
-headedIn l options outs = choose (isHeading l options) (headed (sized (headingEvents l) outs)) (nothing NotHeading)
+unfoldable pub headedIn : List ℕ → ℕ → ℕ → ℕ → Result
+headedIn l options column outs = choose (isHeading l options column) (headed (sized (headingEvents l) outs)) (nothing NotHeading)
 
--- of the line, the options and the output's length alone
-unfoldable pub headedOf : List ℕ → ℕ → ℕ → Result
-headedOf s options outs = reading (checkedLine s options) (λ r. nothing (Refused r)) (headedIn (lineOf s) options outs)
+-- of the line, the options, the column and the output's length alone
+unfoldable pub headedOf : List ℕ → ℕ → ℕ → ℕ → Result
+headedOf s options column outs = reading (checkedLine s options column) (λ r. nothing (Refused r)) (headedIn (lineOf s) options column outs)
 
 -- number, place and values of each answer
 pub record Numbers : Type 0 where

@@ -1,7 +1,7 @@
 -- What a user reads the promise through: statements about a heading's events, proved in proofs/Covering.antt and proofs/Breaks.antt for every
 -- line.
 -- Assumes nothing.
-use Prim.Native.Nat.{ℕ, zero, suc, _≤_, _<_}
+use Prim.Native.Nat.{ℕ, zero, suc, _+_, _≤_, _<_}
 use mathlib.Core.Path.{_≡_}
 use mathlib.Core.Bool.{Bool, true, false}
 use mathlib.Core.Logic.{_⊎_}
@@ -9,12 +9,14 @@ use mathlib.Core.List.{List, [], _∷_}
 use lib.ListN.{length, getD}
 use lib.Dec.{ltb, eqb}
 use Rattle.record.specs.Choice.{and}
+use Rattle.record.specs.Options.{optionOn}
 use Rattle.record.specs.Event.{enter, exit}
 use Rattle.record.specs.Stack.{nth}
 use Rattle.record.specs.Sound.{sound}
 use Rattle.record.specs.declared.event.Event.{Event}
-use Rattle.scan.specs.Run.{spaceOrTab, hash, indentation}
-use Rattle.atx.specs.Heading.{split, eventsFrom, headingEvents, piece}
+use Rattle.scan.specs.Run.{spaceOrTab, hash}
+use Rattle.scan.specs.Columns.{columns, indentation}
+use Rattle.atx.specs.Heading.{isHeading, split, eventsFrom, headingEvents, piece}
 use Rattle.atx.specs.declared.Piece.{Piece}
 
 -- pairs of events that follow each other without a gap, each at least a byte long, from one place to another
@@ -30,11 +32,19 @@ pub record HeadingLaws (l : List ℕ) : Type 0 where
   pub covers : gapless 0 (length l) (eventsFrom 0 (split l)) ≡ true
 
 -- document 01's heading shape: "beginning with at most one 14 and then a 12", whose length is the heading's level
-pub record HeadingShape (l : List ℕ) (options : ℕ) : Type 0 where
+pub record HeadingShape (l : List ℕ) (options column : ℕ) : Type 0 where
   pub level : ℕ
   pub one-to-six : (1 ≤ level) × (level ≤ 6)
   pub rest : List Piece
-  pub begins : (split l ≡ piece 12 level ∷ rest) ⊎ (split l ≡ piece 14 (indentation options l) ∷ piece 12 level ∷ rest)
+  pub begins : (split l ≡ piece 12 level ∷ rest) ⊎ (split l ≡ piece 14 (indentation options column l .bytes) ∷ piece 12 level ∷ rest)
+
+-- with option 32, what is indented by more than three columns is no heading
+abbrev pub TooDeep : Type 0
+TooDeep = (l : List ℕ) (options column : ℕ) → optionOn options 32 ≡ true → 3 < columns column l → isHeading l options column ≡ false
+
+-- stops stand every four columns: a line that starts four columns further on is answered alike
+abbrev pub EveryFour : Type 0
+EveryFour = (l : List ℕ) (options column : ℕ) → isHeading l options (column + 4) ≡ isHeading l options column
 
 -- document 01: "`#` runs that follow a break". A break before a place: the line's beginning, or a space or tab
 unfoldable pub afterBreak : List ℕ → ℕ → Bool

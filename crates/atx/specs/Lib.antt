@@ -5,3 +5,5 @@ pub mod Rows
 pub mod Cases
 pub mod Content
 pub mod Parted
+pub mod Before
+pub mod AsIf

@@ -58,4 +58,4 @@ pub record Parted (l : List ℕ) : Type 0 where
   pub empty : content l ≡ [] → Empty l
 
 abbrev pub PartedByContent : Type 0
-PartedByContent = (options : ℕ) (l : List ℕ) → isHeading l options ≡ true → Parted l
+PartedByContent = (options column : ℕ) (l : List ℕ) → isHeading l options column ≡ true → Parted l

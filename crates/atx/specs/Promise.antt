@@ -9,11 +9,11 @@ use Rattle.atx.specs.Heading.{headedIn, headedOf}
 use Rattle.atx.specs.declared.Headed.{Headed}
 
 -- on a line: r is answered, and out′ is what the output then holds
-pub record HeadedIn (l : List ℕ) (options : ℕ) (out : List ℕ) (r : Headed) (out′ : List ℕ) : Type 0 where
-  pub answer : r ≡ headedIn l options (length out) .answer
-  pub output : out′ ≡ onto (headedIn l options (length out) .bytes) out
+pub record HeadedIn (l : List ℕ) (options column : ℕ) (out : List ℕ) (r : Headed) (out′ : List ℕ) : Type 0 where
+  pub answer : r ≡ headedIn l options column (length out) .answer
+  pub output : out′ ≡ onto (headedIn l options column (length out) .bytes) out
 
--- on a line as it is lent: of the line, the options and the output's length alone
-pub record HeadedBy (s : List ℕ) (options : ℕ) (out : List ℕ) (r : Headed) (out′ : List ℕ) : Type 0 where
-  pub answer : r ≡ headedOf s options (length out) .answer
-  pub output : out′ ≡ onto (headedOf s options (length out) .bytes) out
+-- on a line as it is lent: of the line, the options, the column and the output's length alone
+pub record HeadedBy (s : List ℕ) (options column : ℕ) (out : List ℕ) (r : Headed) (out′ : List ℕ) : Type 0 where
+  pub answer : r ≡ headedOf s options column (length out) .answer
+  pub output : out′ ≡ onto (headedOf s options column (length out) .bytes) out

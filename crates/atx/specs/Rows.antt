@@ -13,11 +13,11 @@ use Rattle.atx.specs.declared.Headed.{Headed}
 use Rattle.atx.specs.declared.Headed.the-variants.{Heading, NotHeading}
 
 -- with an output of `outs` bytes: "result over 8,000 events" (amendment D18: the standard sets no limit), "output shorter than 4 + 8 × result"
-pub data WritingRow (s : List ℕ) (options outs n p : ℕ) : Type 0 where
-  reading : Row s options n p → WritingRow s options outs n p
-  row-7 : isHeading (lineOf s) options ≡ true → 8000 < length (headingEvents (lineOf s)) → n ≡ 7 → p ≡ 0 → WritingRow s options outs n p
-  row-8 : isHeading (lineOf s) options ≡ true → outs < 4 + 8 * length (headingEvents (lineOf s)) → n ≡ 8 → p ≡ 0 → WritingRow s options outs n p
+pub data WritingRow (s : List ℕ) (options column outs n p : ℕ) : Type 0 where
+  reading : Row s options column n p → WritingRow s options column outs n p
+  row-7 : isHeading (lineOf s) options column ≡ true → 8000 < length (headingEvents (lineOf s)) → n ≡ 7 → p ≡ 0 → WritingRow s options column outs n p
+  row-8 : isHeading (lineOf s) options column ≡ true → outs < 4 + 8 * length (headingEvents (lineOf s)) → n ≡ 8 → p ≡ 0 → WritingRow s options column outs n p
 
 -- what the heading reader finds where no row holds
-abbrev pub headingFound : List ℕ → ℕ → Headed
-headingFound l options = choose (isHeading l options) (Heading (length (headingEvents l))) NotHeading
+abbrev pub headingFound : List ℕ → ℕ → ℕ → Headed
+headingFound l options column = choose (isHeading l options column) (Heading (length (headingEvents l))) NotHeading

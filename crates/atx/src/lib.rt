@@ -10,11 +10,11 @@ use record::limits::HEADING;
 use record::limits::HEADING_SEQUENCE;
 use record::limits::MAX_RESULT;
 use record::limits::SPACE_OR_TAB;
+use scan::columns::indented;
 use scan::line::Checked;
 use scan::line::check_line;
 use scan::run::gap;
 use scan::run::hashes;
-use scan::run::indented;
 use scan::run::is_blank;
 use scan::run::word;
 ghost use mathlib.Core.Path.{_≡_};
@@ -55,14 +55,15 @@ pub fn opens(rest: &[u8]) -> bool
     is_blank(rest[n])
 }
 
-// Whether a line is a heading.
-pub fn is_heading(line: &[u8], options: u32) -> bool
-    ensures { λ r. ⌜ r ≡ isHeading (now (line .entry)) options ⌝ }
+// Whether a line that starts at a column is a heading.
+pub fn is_heading(line: &[u8], options: u32, column: usize) -> bool
+    requires { ⌜ column + 4 * length (now line) ≤ 81920 ⌝ }
+    ensures { λ r. ⌜ r ≡ isHeading (now (line .entry)) options column ⌝ }
 {
     if options / 8 % 2 != 1 {
         return false;
     }
-    let indent = indented(line, options);
+    let indent = indented(line, options, column).bytes;
     opens(&line[indent..])
 }
 
@@ -125,11 +126,11 @@ pub fn put_pieces(out: &mut [u8], from: usize, line: &[u8])
 }
 
 // A heading's events, from enter to exit of 11.
-pub fn headed_in(line: &[u8], options: u32, out: &mut [u8]) -> Headed
-    requires { ⌜ length (now line) ≤ 16384 ⌝ }
-    ensures { λ r. ⌜ HeadedIn (now (line .entry)) options (now (out .entry)) r (now (out .exit)) ⌝ }
+pub fn headed_in(line: &[u8], options: u32, column: usize, out: &mut [u8]) -> Headed
+    requires { ⌜ (length (now line) ≤ 16384) × (column ≤ 16384) ⌝ }
+    ensures { λ r. ⌜ HeadedIn (now (line .entry)) options column (now (out .entry)) r (now (out .exit)) ⌝ }
 {
-    if !is_heading(line, options) {
+    if !is_heading(line, options, column) {
         return Headed::NotHeading;
     }
     let pieces = count_pieces(line);
@@ -154,15 +155,15 @@ pub fn headed_in(line: &[u8], options: u32, out: &mut [u8]) -> Headed
 }
 
 // The same of a line as it is lent.
-pub fn heading(line: &[u8], options: u32, out: &mut [u8]) -> Headed
-    ensures { λ r. ⌜ HeadedBy (now (line .entry)) options (now (out .entry)) r (now (out .exit)) ⌝ }
+pub fn heading(line: &[u8], options: u32, column: usize, out: &mut [u8]) -> Headed
+    ensures { λ r. ⌜ HeadedBy (now (line .entry)) options column (now (out .entry)) r (now (out .exit)) ⌝ }
 {
-    match check_line(line, options) {
+    match check_line(line, options, column) {
         Checked::Bad(refusal) => {
             return Headed::Refused(refusal);
         }
         Checked::Ends(end) => {
-            return headed_in(&line[0..end], options, out);
+            return headed_in(&line[0..end], options, column, out);
         }
     }
 }

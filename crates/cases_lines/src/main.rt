@@ -1,9 +1,9 @@
 // Asks the line readers each question of the script on standard input, and says what they answered.
 //
-// A line of the script: a label; which reader, `s` (space-or-tab), `i` (list item start), `c` (continuation) or `h` (heading); the options;
-// two numbers, which are minimum and maximum, whether a paragraph is interrupted and 0, size and flag, or the output's length and 0; and the
-// line's bytes in the notation of the crate `script`. `-` for a number is the largest there is. A line that begins with a space is passed
-// over. The output is filled with 0xa5 before each call and looked at whole after it.
+// A line of the script: a label; which reader, `s` (space-or-tab), `i` (list item start), `c` (continuation) or `h` (heading); the options; the
+// column that the line starts at; two numbers, which are minimum and maximum, whether a paragraph is interrupted and 0, size and flag, or the
+// output's length and 0; and the line's bytes in the notation of the crate `script`. `-` for a number is the largest there is. A line that begins
+// with a space is passed over. The output is filled with 0xa5 before each call and looked at whole after it.
 
 use atx::Headed;
 use atx::heading;
@@ -48,13 +48,18 @@ fn say_flag(blank: bool) {
     }
 }
 
-// What space-or-tab found: how many bytes it took, that there are too few, or a refusal.
+// The bytes taken, and the columns left of a cut tab.
+fn say_taken(taken: usize, left: usize) {
+    say(b"taken ");
+    say_number(taken);
+    say(b", left ");
+    say_number(left);
+}
+
+// What space-or-tab found: what it took, that there are too few, or a refusal.
 fn say_spaces(found: Spaces) {
     match found {
-        Spaces::Taken(n) => {
-            say(b"taken ");
-            say_number(n);
-        }
+        Spaces::Taken { taken, left } => say_taken(taken, left),
         Spaces::TooFew => say(b"too few"),
         Spaces::Refused(refusal) => say_refusal(refusal),
     }
@@ -74,12 +79,16 @@ fn say_kind(kind: Kind) {
     }
 }
 
-// What list item start found: the bytes taken and the container that opens, no list item, or a refusal.
+// What list item start found: what it took and the container that opens, no list item, or a refusal.
 fn say_start(found: Start) {
     match found {
-        Start::Item { taken, container } => {
-            say(b"item, taken ");
-            say_number(taken);
+        Start::Item {
+            taken,
+            left,
+            container,
+        } => {
+            say(b"item, ");
+            say_taken(taken, left);
             say(b", size ");
             say_number(container.size);
             say_flag(container.blank);
@@ -91,12 +100,16 @@ fn say_start(found: Start) {
     }
 }
 
-// What continuation found: the bytes taken, or no continuation, each with the flag as it then stands; or a refusal.
+// What continuation found: what it took, or no continuation, each with the flag as it then stands; or a refusal.
 fn say_going(found: Going) {
     match found {
-        Going::Goes { taken, container } => {
-            say(b"goes on, taken ");
-            say_number(taken);
+        Going::Goes {
+            taken,
+            left,
+            container,
+        } => {
+            say(b"goes on, ");
+            say_taken(taken, left);
             say_flag(container.blank);
         }
         Going::Stops { container } => {
@@ -169,26 +182,26 @@ fn say_headed(found: Headed, out: &[u8]) {
 }
 
 // The heading reader, lent so many bytes of the output. A question for more than there are is not asked.
-fn ask_heading(s: &[u8], options: u32, out: &mut [u8], lent: usize) {
+fn ask_heading(s: &[u8], options: u32, column: usize, out: &mut [u8], lent: usize) {
     if lent > out.len() {
         return;
     }
     script::flood(out, 0xa5);
-    let found = heading(s, options, &mut out[0..lent]);
+    let found = heading(s, options, column, &mut out[0..lent]);
     say_headed(found, out);
 }
 
 // The reader that a letter stands for, with what it takes of the two numbers; of any other letter nothing is said.
-fn ask(s: &[u8], reader: u8, options: u32, a: usize, b: usize, out: &mut [u8]) {
+fn ask(s: &[u8], reader: u8, options: u32, column: usize, a: usize, b: usize, out: &mut [u8]) {
     if reader == b'h' {
-        ask_heading(s, options, out, a);
+        ask_heading(s, options, column, out, a);
         return;
     }
     if reader == b's' {
-        say_spaces(space_or_tab(s, options, a, b));
+        say_spaces(space_or_tab(s, options, column, a, b));
     }
     if reader == b'i' {
-        say_start(list_item(s, options, a == 1));
+        say_start(list_item(s, options, column, a == 1));
     }
     if reader == b'c' {
         let held = Container {
@@ -196,7 +209,7 @@ fn ask(s: &[u8], reader: u8, options: u32, a: usize, b: usize, out: &mut [u8]) {
             size: a,
             blank: b == 1,
         };
-        say_going(continuation(s, options, held));
+        say_going(continuation(s, options, column, held));
     }
 }
 
@@ -227,15 +240,18 @@ fn line(s: &[u8], bytes: &mut [u8], out: &mut [u8]) {
     let second = script::find(s, reader, b' ');
     let options = script::skip(s, second);
     let third = script::find(s, options, b' ');
-    let a = script::skip(s, third);
-    let fourth = script::find(s, a, b' ');
-    let b = script::skip(s, fourth);
-    let fifth = script::find(s, b, b' ');
-    let n = script::spell(s, fifth, bytes);
+    let column = script::skip(s, third);
+    let fourth = script::find(s, column, b' ');
+    let a = script::skip(s, fourth);
+    let fifth = script::find(s, a, b' ');
+    let b = script::skip(s, fifth);
+    let sixth = script::find(s, b, b' ');
+    let n = script::spell(s, sixth, bytes);
     ask(
         &bytes[0..n],
         s[reader],
         (script::number(s, options) % 4294967296) as u32,
+        number(s, column),
         number(s, a),
         number(s, b),
         out,

@@ -173,23 +173,24 @@ unfolding lineOf
 line-short s = front-short (endOf s) s
 
 -- what the heading reader finds where it answers 1
-module _ (s : List ℕ) (options : ℕ) (out : List ℕ) (r : LarkHeaded) (out′ : List ℕ) (p : HeadedAs s options out r out′) (z : r .found ≡ 1) where
-  unrefused : (n q : ℕ) → WritingRow s options (length out) n q → ⊥
+module _ (s : List ℕ) (options column : ℕ) (out : List ℕ) (r : LarkHeaded) (out′ : List ℕ) (p : HeadedAs s options column out r out′) (z : r .found ≡ 1) where
+  unrefused : (n q : ℕ) → WritingRow s options column (length out) n q → ⊥
   unrefused =
-      heading-claim s options .exactly out r out′ p .none-holds
-      (ap (λ (x : LarkHeaded). x .number) (p .answer) ∙ found-zero (headedOf s options (length out) .answer) (sym (ap (λ (x : LarkHeaded). x .found) (p .answer)) ∙ z))
+      heading-claim s options column .exactly out r out′ p .none-holds
+      (ap (λ (x : LarkHeaded). x .number) (p .answer)
+      ∙ found-zero (headedOf s options column (length out) .answer) (sym (ap (λ (x : LarkHeaded). x .found) (p .answer)) ∙ z))
 
-  pub heading-found : isHeading (lineOf s) options ≡ true
+  pub heading-found : isHeading (lineOf s) options column ≡ true
   heading-found =
-      found-heading (isHeading (lineOf s) options) (length (headingEvents (lineOf s)))
-      (sym (ap (λ (x : LarkHeaded). x .found) (heading-claim s options .finds out r out′ p unrefused .0)) ∙ z)
+      found-heading (isHeading (lineOf s) options column) (length (headingEvents (lineOf s)))
+      (sym (ap (λ (x : LarkHeaded). x .found) (heading-claim s options column .finds out r out′ p unrefused .0)) ∙ z)
 
 pub heading-reads-back : HeadingReadsBack
 unfolding choose
-heading-reads-back s options out r out′ p z =
-    let none = unrefused s options out r out′ p z in
-    let found = heading-claim s options .finds out r out′ p none in
-    let is = heading-found s options out r out′ p z in
+heading-reads-back s options column out r out′ p z =
+    let none = unrefused s options column out r out′ p z in
+    let found = heading-claim s options column .finds out r out′ p none in
+    let is = heading-found s options column out r out′ p z in
     let short : length s ≤ 16384 = at-most (length s) 16384 (λ h. none 3 16384 (reading (row-3 h refl refl))) in
     let few : length (headingEvents (lineOf s)) ≤ 8000 =
     at-most (length (headingEvents (lineOf s))) 8000 (λ h. none 7 0 (heading-row-7 is h refl refl)) in

@@ -160,38 +160,40 @@ nothing : (l : List ℕ) → length l ≡ 0 → l ≡ []
 nothing [] h = refl
 nothing (b ∷ l) h = absurd (omega arith)
 
-inner-texted : (options at : ℕ) (l : List ℕ) → isHeading l options ≡ true → Texted (eventsFrom at (split l)) (inner at l)
+inner-texted : (options column at : ℕ) (l : List ℕ) → isHeading l options column ≡ true → Texted (eventsFrom at (split l)) (inner at l)
 unfolding inner choose
-inner-texted options at l h = go (eqb (length (content l)) 0) refl
+inner-texted options column at l h = go (eqb (length (content l)) 0) refl
   where
     go : (b : Bool) → eqb (length (content l)) 0 ≡ b →
         Texted (eventsFrom at (split l)) (choose b (eventsFrom at (split l)) (front at l ++ ((enter 13 (from at l) ∷ enter 0 (from at l) ∷ exit 0 (to at l) ∷ exit 13 (to at l) ∷ []) ++ back at l)))
-    go true e = empty-texted at l (parted-by-content options l h .empty (nothing (content l) (eqb-true _ _ e)))
-    go false e = filled-texted at l (parted-by-content options l h .filled (λ z. eqb-false _ _ e (ap length z)))
+    go true e = empty-texted at l (parted-by-content options column l h .empty (nothing (content l) (eqb-true _ _ e)))
+    go false e = filled-texted at l (parted-by-content options column l h .filled (λ z. eqb-false _ _ e (ap length z)))
 
 pub text-round-content : TextRoundContent
-text-round-content options at l h = sym (said-so (eventsFrom at (split l)) (inner at l) (inner-texted options at l h))
+text-round-content options column at l h = sym (said-so (eventsFrom at (split l)) (inner at l) (inner-texted options column at l h))
 
 pub reads-the-standard : ReadsTheStandard
 unfolding heading headingEvents
-reads-the-standard options l h =
-    result-as-said .alone (headingEvents l) (heading l) (a-heading 0 (length l) (eventsFrom 0 (split l)) (inner 0 l) [] [] (inner-texted options 0 l h) done)
+reads-the-standard options column l h =
+    result-as-said .alone (headingEvents l) (heading l)
+    (a-heading 0 (length l) (eventsFrom 0 (split l)) (inner 0 l) [] [] (inner-texted options column 0 l h) done)
 
 pub content-there : ContentThere
-content-there options l h = go (eqb (length (content l)) 0) refl
+content-there options column l h = go (eqb (length (content l)) 0) refl
   where
     go : (b : Bool) → eqb (length (content l)) 0 ≡ b → take (length (content l)) (drop (contentFrom l) l) ≡ content l
     go true e =
         let z = eqb-true _ _ e in
         ap (λ (k : ℕ). take k (drop (contentFrom l) l)) z ∙ sym (nothing (content l) z)
-    go false e = parted-by-content options l h .filled (λ z. eqb-false _ _ e (ap length z)) .there
+    go false e = parted-by-content options column l h .filled (λ z. eqb-false _ _ e (ap length z)) .there
 
 -- two results of one resolution
 same-result : (m : Resolution) (es rs : List Event) → m ≡ gives es → m ≡ gives rs → es ≡ rs
 same-result m es rs p q = cc
 
 -- the record of a line that the heading reader finds to be a heading, and of the section that it writes
-module _ (s : List ℕ) (options : ℕ) (out : List ℕ) (r : LarkHeaded) (out′ : List ℕ) (p : HeadedAs s options out r out′) (z : r .found ≡ 1) (few : r .events ≤ 2048) where
+module _ (s : List ℕ) (options column : ℕ) (out : List ℕ) (r : LarkHeaded) (out′ : List ℕ) (p : HeadedAs s options column out r out′) (z : r .found ≡ 1)
+    (few : r .events ≤ 2048) where
   abbrev whole : List ℕ
   whole = recordBytes (lineOf s) (sectionAt out′ 0)
 
@@ -199,12 +201,12 @@ module _ (s : List ℕ) (options : ℕ) (out : List ℕ) (r : LarkHeaded) (out�
   made = heading (lineOf s)
 
   again : ReadAgain (lineOf s) (sectionAt out′ 0)
-  again = heading-reads-back s options out r out′ p z .again few
+  again = heading-reads-back s options column out r out′ p z .again few
 
   resolves : headings (allEvents whole) ≡ gives made
   resolves =
-      ap headings (again .its-events ∙ heading-reads-back s options out r out′ p z .events)
-      ∙ reads-the-standard options (lineOf s) (heading-found s options out r out′ p z)
+      ap headings (again .its-events ∙ heading-reads-back s options column out r out′ p z .events)
+      ∙ reads-the-standard options column (lineOf s) (heading-found s options column out r out′ p z)
 
   -- the check finds nothing to refuse
   checked : (options₂ works n place : ℕ) → options₂ ≤ 63 → 65536 ≤ works → Row whole options₂ works n place → ⊥
@@ -220,7 +222,7 @@ module _ (s : List ℕ) (options : ℕ) (out : List ℕ) (r : LarkHeaded) (out�
   short =
       let es : List Event = allEvents whole in
       let n : length es ≤ 2048 =
-      omega (arith, ap length (again .its-events), length-eventsAt (u32At out′ 0) out′ 4, heading-reads-back s options out r out′ p z .count, few)
+      omega (arith, ap length (again .its-events), length-eventsAt (u32At out′ 0) out′ 4, heading-reads-back s options column out r out′ p z .count, few)
       in
       omega (arith, ap length (gives-is es made resolves .0), resolved-small 0 es (omega arith))
 
@@ -237,12 +239,13 @@ module _ (s : List ℕ) (options : ℕ) (out : List ℕ) (r : LarkHeaded) (out�
       omega arith
 
 pub calls-read-the-standard : CallsReadTheStandard
-calls-read-the-standard s options out r out′ p z few options₂ out₂ work r₂ out₂′ work′ ho hw fits q =
-    let rec : List ℕ = whole s options out r out′ p z few in
-    let events : List Event = made s options out r out′ p z few in
-    let resolves-so = resolves s options out r out′ p z few in
+calls-read-the-standard s options column out r out′ p z few options₂ out₂ work r₂ out₂′ work′ ho hw fits q =
+    let rec : List ℕ = whole s options column out r out′ p z few in
+    let events : List Event = made s options column out r out′ p z few in
+    let resolves-so = resolves s options column out r out′ p z few in
     let number : r₂ .number ≡ 0 =
-    headings-claim rec options₂ .exactly out₂ work r₂ out₂′ work′ q .accepted (no-row s options out r out′ p z few options₂ (length work) (length out₂) ho hw fits)
+    headings-claim rec options₂ .exactly out₂ work r₂ out₂′ work′ q .accepted
+    (no-row s options column out r out′ p z few options₂ (length work) (length out₂) ho hw fits)
     in
     let a = headings-claim rec options₂ .accepts out₂ work r₂ out₂′ work′ q number in
     let same : a .events ≡ events = same-result (headings (allEvents rec)) (a .events) events (a .made-so) resolves-so in

@@ -24,7 +24,8 @@ use Rattle.runs.specs.Pieces.{standing, outcome, groupName, closings, openings,
 use Rattle.runs.specs.Output.{closingEvents, openingEvents, leftoverEvents, runEvents, replaced, output}
 use Rattle.runs.specs.Cases.{stretchOf, nameOf, splitFrom, split}
 use Rattle.attention.specs.Attention.{attention}
-use Rattle.scan.specs.Run.{or, spaceOrTab, filled, digit, hash, leading, every, count, blank, blanks, blanksUpTo, indentation}
+use Rattle.scan.specs.Run.{or, spaceOrTab, filled, digit, hash, leading, every, count, blank, blanks}
+use Rattle.scan.specs.Columns.{columns, width, cut, reach, reachAll, indentation}
 use Rattle.scan.specs.Line.{noFeed, endOf, lineOf, checkedLine, reading}
 use Rattle.lines.specs.Item.{breakMark, isMark, markOrBlank, marksOnly, thematicBreak, bulletMark, orderedMark, startsWithOne, mayStart, orderedOf, markerOf, padding, filledStart, startAfter, startFrom, startAt, startIn, startOf, numbersOf}
 use Rattle.atx.specs.Heading.{brokenOff, opening, isHeading, pieceOf, pieces, eventsFrom, headingEvents}
@@ -64,8 +65,8 @@ shownBy pick (offends k) = []
 -- what the definitions answer, with options 59: of a text the record that a tokenizer makes of it, of a line the readers
 unfoldable pub reply : Question → String → Reply
 reply groups-of s = these (shownBy groupsAndData (attention crate 59 (bytes s) (split (bytes s))))
-reply size-of s = number (numbersOf (startOf (bytes s) 59 false) .size)
-reply text-of s = these (choose (isHeading (bytes s) 59) (shownBy headingTexts (headings (headingEvents (bytes s)))) [])
+reply size-of s = number (numbersOf (startOf (bytes s) 59 0 false) .size)
+reply text-of s = these (choose (isHeading (bytes s) 59 0) (shownBy headingTexts (headings (headingEvents (bytes s)))) [])
 
 pub record Case : Type 0 where
   pub text : String
@@ -94,7 +95,7 @@ table =
     ∷ []
 
 pub twelve-cases : map (λ (c : Case). reply (c .asked) (c .text)) table ≡ map (λ (c : Case). c .answer) table
-unfolding table reply groupsAndData headingTexts attention offender offenderFrom shaped runBetween leftAtOnce allAre allowed bytes split splitFrom stretchOf nameOf choose and after classOf standardClass amended whitespace punctuation optionOn byteAt byteBefore entersRun runsFrom runsOf isMarker classBeside leftFlanking rightFlanking besideMarker flanksLeft flanksRight canOpen canClose threes tildes ruleOver opener closer sameContainer candidate takes back look forth amount alter matched rounds total plain standing outcome groupName closings openings closed opened remains closingEvents openingEvents leftoverEvents runEvents replaced output startOf startIn startAt startFrom startAfter filledStart padding markerOf orderedOf mayStart startsWithOne orderedMark bulletMark thematicBreak marksOnly markOrBlank isMark breakMark blank blanks blanksUpTo indentation every count leading digit hash filled spaceOrTab or checkedLine reading lineOf endOf noFeed firstReturn brokenOff opening isHeading pieceOf pieces splitHeading eventsFrom headingEvents isOf beforeFirst throughLast innerOf leaf leaves startsWith headed shapedHeading throughOpening isDataOrRun beforeText toLast beforeClosing withoutClosing textEvents throughText withText resolvedFrom offending earliest headings
+unfolding table reply groupsAndData headingTexts attention offender offenderFrom shaped runBetween leftAtOnce allAre allowed bytes split splitFrom stretchOf nameOf choose and after classOf standardClass amended whitespace punctuation optionOn byteAt byteBefore entersRun runsFrom runsOf isMarker classBeside leftFlanking rightFlanking besideMarker flanksLeft flanksRight canOpen canClose threes tildes ruleOver opener closer sameContainer candidate takes back look forth amount alter matched rounds total plain standing outcome groupName closings openings closed opened remains closingEvents openingEvents leftoverEvents runEvents replaced output startOf startIn startAt startFrom startAfter filledStart padding markerOf orderedOf mayStart startsWithOne orderedMark bulletMark thematicBreak marksOnly markOrBlank isMark breakMark blank blanks indentation reachAll reach columns cut width every count leading digit hash filled spaceOrTab or checkedLine reading lineOf endOf noFeed firstReturn brokenOff opening isHeading pieceOf pieces splitHeading eventsFrom headingEvents isOf beforeFirst throughLast innerOf leaf leaves startsWith headed shapedHeading throughOpening isDataOrRun beforeText toLast beforeClosing withoutClosing textEvents throughText withText resolvedFrom offending earliest headings
 twelve-cases = refl
 
 -- "So `# #` is empty, `# ## #` reads `##`, `# a # #` reads `a #`"; and `# #a` reads `#a`: from the bytes of a line to the resolver's events

@@ -45,50 +45,51 @@ pub record LineClaim {A : Type 0} (number place : A → ℕ) (refusal : ℕ → 
 -- lark_space_or_tab
 
 abbrev pub spacesRefusal : ℕ → ℕ → LarkSpaces
-spacesRefusal n p = record { number = n; place = p; found = 0; taken = 0 }
+spacesRefusal n p = record { number = n; place = p; found = 0; taken = 0; left = 0 }
 
 -- what comes with number 0: "too few" has 0 in all fields
 abbrev pub spacesFound : Spaces → LarkSpaces
-spacesFound (Taken n) = record { number = 0; place = 0; found = 1; taken = n }
+spacesFound (Taken n left) = record { number = 0; place = 0; found = 1; taken = n; left = left }
 spacesFound TooFew = spacesRefusal 0 0
 spacesFound (SpacesRefused r) = spacesRefusal (r .number) (r .place)
 
-abbrev pub SpacesClaim : List ℕ → ℕ → ℕ → ℕ → Type 0
-SpacesClaim s options min max =
-    LineClaim (λ (x : LarkSpaces). x .number) (λ (x : LarkSpaces). x .place) spacesRefusal (SpacesAs s options min max) (Row s options)
-    (spacesFound (spacesIn (lineOf s) min max))
+abbrev pub SpacesClaim : List ℕ → ℕ → ℕ → ℕ → ℕ → Type 0
+SpacesClaim s options column min max =
+    LineClaim (λ (x : LarkSpaces). x .number) (λ (x : LarkSpaces). x .place) spacesRefusal (SpacesAs s options column min max) (Row s options column)
+    (spacesFound (spacesIn (lineOf s) column min max))
 
 -- lark_list_item
 
 abbrev pub itemRefusal : ℕ → ℕ → LarkItem
-itemRefusal n p = record { number = n; place = p; found = 0; taken = 0; size = 0; blank = 0; mark = 0 }
+itemRefusal n p = record { number = n; place = p; found = 0; taken = 0; left = 0; size = 0; blank = 0; mark = 0 }
 
--- an item: the bytes taken, its size, whether its start is blank, and its mark
+-- an item: the bytes taken, the columns left of a cut tab, its size, whether its start is blank, and its mark
 abbrev pub itemFound : Start → LarkItem
-itemFound (Item n held) = record { number = 0; place = 0; found = 1; taken = n; size = held .size; blank = flag (held .blank); mark = markOf (held .kind) }
+itemFound (Item n left held) =
+    record { number = 0; place = 0; found = 1; taken = n; left = left; size = held .size; blank = flag (held .blank); mark = markOf (held .kind) }
 itemFound NotItem = itemRefusal 0 0
 itemFound (StartRefused r) = itemRefusal (r .number) (r .place)
 
-abbrev pub ItemClaim : List ℕ → ℕ → ℕ → Type 0
-ItemClaim s options interrupting =
-    LineClaim (λ (x : LarkItem). x .number) (λ (x : LarkItem). x .place) itemRefusal (ItemAs s options interrupting) (Row s options)
-    (itemFound (startIn (lineOf s) options (flagged interrupting)))
+abbrev pub ItemClaim : List ℕ → ℕ → ℕ → ℕ → Type 0
+ItemClaim s options column interrupting =
+    LineClaim (λ (x : LarkItem). x .number) (λ (x : LarkItem). x .place) itemRefusal (ItemAs s options column interrupting) (Row s options column)
+    (itemFound (startIn (lineOf s) options column (flagged interrupting)))
 
 -- lark_continuation
 
 abbrev pub goingRefusal : ℕ → ℕ → LarkGoing
-goingRefusal n p = record { number = n; place = p; found = 0; taken = 0; blank = 0 }
+goingRefusal n p = record { number = n; place = p; found = 0; taken = 0; left = 0; blank = 0 }
 
 -- the container's flag as it then stands, also where the line does not go on
 abbrev pub goingFound : Going → LarkGoing
-goingFound (Goes n held) = record { number = 0; place = 0; found = 1; taken = n; blank = flag (held .blank) }
-goingFound (Stops held) = record { number = 0; place = 0; found = 0; taken = 0; blank = flag (held .blank) }
+goingFound (Goes n left held) = record { number = 0; place = 0; found = 1; taken = n; left = left; blank = flag (held .blank) }
+goingFound (Stops held) = record { number = 0; place = 0; found = 0; taken = 0; left = 0; blank = flag (held .blank) }
 goingFound (GoingRefused r) = goingRefusal (r .number) (r .place)
 
-abbrev pub GoingClaim : List ℕ → ℕ → ℕ → ℕ → ℕ → Type 0
-GoingClaim s options size blank mark =
-    LineClaim (λ (x : LarkGoing). x .number) (λ (x : LarkGoing). x .place) goingRefusal (GoingAs s options size blank mark) (Row s options)
-    (goingFound (goingIn (lineOf s) (containerOf size blank mark)))
+abbrev pub GoingClaim : List ℕ → ℕ → ℕ → ℕ → ℕ → ℕ → Type 0
+GoingClaim s options column size blank mark =
+    LineClaim (λ (x : LarkGoing). x .number) (λ (x : LarkGoing). x .place) goingRefusal (GoingAs s options column size blank mark) (Row s options column)
+    (goingFound (goingIn (lineOf s) column (containerOf size blank mark)))
 
 -- what goes in: a flag is set by any number but 0
 abbrev pub FlagsSet : Type 0
@@ -97,7 +98,7 @@ FlagsSet = (flagged 0 ≡ false) × ((n : ℕ) → flagged (suc n) ≡ true)
 -- the mark that goes in does not show in the answer
 abbrev pub MarkDoesNotShow : Type 0
 MarkDoesNotShow =
-    (s : List ℕ) (options size blank m₁ m₂ : ℕ) (r : LarkGoing) → GoingAs s options size blank m₁ r → GoingAs s options size blank m₂ r
+    (s : List ℕ) (options column size blank m₁ m₂ : ℕ) (r : LarkGoing) → GoingAs s options column size blank m₁ r → GoingAs s options column size blank m₂ r
 
 -- lark_heading
 
@@ -122,7 +123,7 @@ pub record WritingClaim (As : List ℕ → LarkHeaded → List ℕ → Type 0) (
   pub fits : (out : List ℕ) → length (bytes (length out)) ≤ length out
   pub only-a-heading-writes : (out : List ℕ) (r : LarkHeaded) (out′ : List ℕ) → As out r out′ → r .found ≡ 0 → out′ ≡ out
 
-abbrev pub HeadingClaim : List ℕ → ℕ → Type 0
-HeadingClaim s options =
-    WritingClaim (HeadedAs s options) (λ outs. headedOf s options outs .bytes) (WritingRow s options)
-    (headedFound (headingFound (lineOf s) options)) (choose (isHeading (lineOf s) options) (sectionBytes (headingEvents (lineOf s))) [])
+abbrev pub HeadingClaim : List ℕ → ℕ → ℕ → Type 0
+HeadingClaim s options column =
+    WritingClaim (HeadedAs s options column) (λ outs. headedOf s options column outs .bytes) (WritingRow s options column)
+    (headedFound (headingFound (lineOf s) options column)) (choose (isHeading (lineOf s) options column) (sectionBytes (headingEvents (lineOf s))) [])

@@ -63,4 +63,5 @@ pub record HeadedReadsBack (s : List ℕ) (r : LarkHeaded) (out′ : List ℕ) :
 
 abbrev pub HeadingReadsBack : Type 0
 HeadingReadsBack =
-    (s : List ℕ) (options : ℕ) (out : List ℕ) (r : LarkHeaded) (out′ : List ℕ) → HeadedAs s options out r out′ → r .found ≡ 1 → HeadedReadsBack s r out′
+    (s : List ℕ) (options column : ℕ) (out : List ℕ) (r : LarkHeaded) (out′ : List ℕ) → HeadedAs s options column out r out′ → r .found ≡ 1 →
+    HeadedReadsBack s r out′

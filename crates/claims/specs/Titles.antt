@@ -1,6 +1,6 @@
 -- What the heading reader and the heading resolver do together: a heading reads what CommonMark 0.31 §4.2 says. What it reads is `content` in
 -- crates/atx/specs/Content.antt, a definition over the bytes of the line alone. The statements are of every line that the reader finds to be a heading;
--- which lines these are is its own rule, with amendments D8 and D20 on the indentation. proofs/Titles.antt proves them.
+-- which lines these are is its own rule, with amendment D20 on the indentation. proofs/Titles.antt proves them.
 -- Assumes nothing.
 use Prim.Native.Nat.{ℕ, _+_, _*_, _≤_}
 use mathlib.Core.Path.{_≡_}
@@ -23,7 +23,7 @@ use Rattle.claims.specs.Records.{resolved}
 
 -- the content is what stands in the line between the two places that it is said to have
 abbrev pub ContentThere : Type 0
-ContentThere = (options : ℕ) (l : List ℕ) → isHeading l options ≡ true → take (length (content l)) (drop (contentFrom l) l) ≡ content l
+ContentThere = (options column : ℕ) (l : List ℕ) → isHeading l options column ≡ true → take (length (content l)) (drop (contentFrom l) l) ≡ content l
 
 -- the inner events of a heading whose line begins at a place of the document: a text round the content, with one Data pair in it, and before it and
 -- behind it what the reader makes of the line there. Where there is no content there is no text, and they are what the reader makes of the line
@@ -38,20 +38,20 @@ inner at l =
 
 -- the text rule on the reader's events, wherever in a document the line begins
 abbrev pub TextRoundContent : Type 0
-TextRoundContent = (options at : ℕ) (l : List ℕ) → isHeading l options ≡ true → withText (eventsFrom at (split l)) ≡ inner at l
+TextRoundContent = (options column at : ℕ) (l : List ℕ) → isHeading l options column ≡ true → withText (eventsFrom at (split l)) ≡ inner at l
 
 -- the resolver on the section that the reader writes: a heading from its enter to its exit
 unfoldable pub heading : List ℕ → List Event
 heading l = enter 11 0 ∷ (inner 0 l ++ (exit 11 (length l) ∷ []))
 
 abbrev pub ReadsTheStandard : Type 0
-ReadsTheStandard = (options : ℕ) (l : List ℕ) → isHeading l options ≡ true → headings (headingEvents l) ≡ gives (heading l)
+ReadsTheStandard = (options column : ℕ) (l : List ℕ) → isHeading l options column ≡ true → headings (headingEvents l) ≡ gives (heading l)
 
 -- the two calls: `lark_heading` finds a heading, of no more events than a record may have, and `lark_resolve_headings` is given the line with the section
 -- that was written as a record. With room for the heading it accepts, and the heading is what is read from its output
 abbrev pub CallsReadTheStandard : Type 0
 CallsReadTheStandard =
-    (s : List ℕ) (options : ℕ) (out : List ℕ) (r : LarkHeaded) (out′ : List ℕ) → HeadedAs s options out r out′ → r .found ≡ 1 → r .events ≤ 2048 →
+    (s : List ℕ) (options column : ℕ) (out : List ℕ) (r : LarkHeaded) (out′ : List ℕ) → HeadedAs s options column out r out′ → r .found ≡ 1 → r .events ≤ 2048 →
     (options₂ : ℕ) (out₂ work : List ℕ) (r₂ : LarkResolved) (out₂′ work′ : List ℕ) → options₂ ≤ 63 → 65536 ≤ length work →
     4 + 8 * length (heading (lineOf s)) ≤ length out₂ → HeadingsAs (recordBytes (lineOf s) (sectionAt out′ 0)) options₂ out₂ work r₂ out₂′ work′ →
     (r₂ ≡ resolved (length (heading (lineOf s))) 0 0) × (sectionAt out₂′ 0 ≡ heading (lineOf s))

@@ -34,26 +34,33 @@ pub fn resolve_lists(s: &[u8], options: u32, out: &mut [u8], work: &mut [u8]) ->
     ledgerlark::resolve::lark_resolve_lists(s, options, out, work)
 }
 
-pub fn space_or_tab(line: &[u8], options: u32, min: usize, max: usize) -> LarkSpaces
-    ensures { λ r. ⌜ SpacesAs (now (line .entry)) options min max r ⌝ }
+pub fn space_or_tab(line: &[u8], options: u32, column: usize, min: usize, max: usize) -> LarkSpaces
+    ensures { λ r. ⌜ SpacesAs (now (line .entry)) options column min max r ⌝ }
 {
-    ledgerlark::line::lark_space_or_tab(line, options, min, max)
+    ledgerlark::line::lark_space_or_tab(line, options, column, min, max)
 }
 
-pub fn list_item(line: &[u8], options: u32, interrupting: u32) -> LarkItem
-    ensures { λ r. ⌜ ItemAs (now (line .entry)) options interrupting r ⌝ }
+pub fn list_item(line: &[u8], options: u32, column: usize, interrupting: u32) -> LarkItem
+    ensures { λ r. ⌜ ItemAs (now (line .entry)) options column interrupting r ⌝ }
 {
-    ledgerlark::line::lark_list_item(line, options, interrupting)
+    ledgerlark::line::lark_list_item(line, options, column, interrupting)
 }
 
-pub fn continuation(line: &[u8], options: u32, size: usize, blank: u32, mark: u32) -> LarkGoing
-    ensures { λ r. ⌜ GoingAs (now (line .entry)) options size blank mark r ⌝ }
+pub fn continuation(
+    line: &[u8],
+    options: u32,
+    column: usize,
+    size: usize,
+    blank: u32,
+    mark: u32,
+) -> LarkGoing
+    ensures { λ r. ⌜ GoingAs (now (line .entry)) options column size blank mark r ⌝ }
 {
-    ledgerlark::line::lark_continuation(line, options, size, blank, mark)
+    ledgerlark::line::lark_continuation(line, options, column, size, blank, mark)
 }
 
-pub fn heading(line: &[u8], options: u32, out: &mut [u8]) -> LarkHeaded
-    ensures { λ r. ⌜ HeadedAs (now (line .entry)) options (now (out .entry)) r (now (out .exit)) ⌝ }
+pub fn heading(line: &[u8], options: u32, column: usize, out: &mut [u8]) -> LarkHeaded
+    ensures { λ r. ⌜ HeadedAs (now (line .entry)) options column (now (out .entry)) r (now (out .exit)) ⌝ }
 {
-    ledgerlark::line::lark_heading(line, options, out)
+    ledgerlark::line::lark_heading(line, options, column, out)
 }

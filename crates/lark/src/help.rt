@@ -53,7 +53,7 @@ pub fn wish_from(from: usize) -> u8 {
 
 // The version, which the header and the binding have too; whether it was written.
 pub fn say_version() -> bool {
-    write(STDOUT_FILENO, b"lark 0.4.0\n")
+    write(STDOUT_FILENO, b"lark 0.5.0\n")
 }
 
 // All of it, on a descriptor, as it stands on the terminal; whether it was written.
@@ -63,9 +63,10 @@ pub fn say_help(fd: i32) -> bool {
         b"lark: what Ledgerlark makes of a text, a line or a record
 
   lark show [-o N] [TEXT]            the groups that a text's attention runs form, as a tree
-  lark line [-o N] [-i] [-c SIZE [-b]] [TEXT]
-                                     what the line readers find in a line; -i: where it would interrupt a paragraph;
-                                     -c SIZE: as a further line of an item of that size, -b: whose flag is set
+  lark line [-o N] [--column COLUMN] [-i] [-c SIZE [-b]] [TEXT]
+                                     what the line readers find in a line; --column COLUMN: which starts at that column,
+                                     0 without it; -i: where it would interrupt a paragraph; -c SIZE: as a further line
+                                     of an item of that size, -b: whose flag is set
   lark record [-o N] [TEXT]          the record that show makes of a text
   lark record [-o N] TEXT EVENT..    the record of a text and of these events
   lark attention [-o N] [-t] [FILE]  a record's events with the attention runs resolved; -t: as text
@@ -87,6 +88,9 @@ and --version is an EVENT. The words for 0 to 24, in capitals or small letters:
   GfmStrikethrough GfmStrikethroughSequence GfmStrikethroughText HeadingAtx HeadingAtxSequence HeadingAtxText
   SpaceOrTab ListItem ListItemPrefix ListItemMarker ListItemValue ListOrdered ListUnordered LineEnding
   BlankLineEnding BlockQuotePrefix OtherContainer
+
+A tab goes to the next column that is a multiple of 4; a SIZE means columns too. What is taken of a line is said in
+bytes. Where line says left, a tab is cut: its byte is not taken, and so many of its columns are left.
 
 N is a sum: 1 attention, 2 strikethrough, 4 single tilde, 8 heading, 16 list item, 32 code indented; 59 without -o.
 Exit status: 0 answered; 1 refused, with the refusal on standard error; 2 bad arguments, or a file that fails. The place

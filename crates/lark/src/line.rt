@@ -35,6 +35,9 @@ use terminal::words::copy_in;
 ghost use Prim.Native.Nat.{_≤_};
 ghost use lib.ListN.{length};
 
+// As many columns as the spaces and tabs of a line can have: 16,384 tabs of four.
+const ALL: usize = 65536;
+
 // What a line is as a heading: its events with the text resolved, none, or a refusal.
 enum Title {
     Events(usize),
@@ -89,21 +92,21 @@ fn find_events(line: &[u8], options: u32, section: &mut [u8], events: usize) -> 
     resolve_title(&rec[0..n], options, section)
 }
 
-// The resolved events of a line, put into the section.
-fn find_title(line: &[u8], options: u32, section: &mut [u8]) -> Title {
-    match heading(line, options, section) {
+// The resolved events of a line that starts at a column, put into the section.
+fn find_title(line: &[u8], options: u32, column: usize, section: &mut [u8]) -> Title {
+    match heading(line, options, column, section) {
         Headed::NotHeading => Title::NotHeading,
         Headed::Refused(refusal) => Title::Refused(refusal),
         Headed::Heading { events } => find_events(line, options, section, events),
     }
 }
 
-// What is found of the spaces and tabs in front, on a line.
+// What is found of the spaces and tabs in front, on a line. All of them are taken, so that none is cut.
 fn say_leading(spaces: Spaces) {
     say(b"leading spaces and tabs: ");
     match spaces {
-        Spaces::Taken(n) => {
-            say_number(n);
+        Spaces::Taken { taken, left: _ } => {
+            say_number(taken);
         }
         Spaces::TooFew => {
             say(b"too few");
@@ -150,9 +153,17 @@ fn say_blank(blank: bool) {
     }
 }
 
-// The bytes that a list item takes, and its container: the size, the kind and the flag.
-fn say_item(taken: usize, container: Container) {
+// The bytes taken, and the columns left of a tab; where none is cut nothing is said of that.
+fn say_taken(taken: usize, left: usize) {
     say_with(b"taken ", taken);
+    if left != 0 {
+        say_with(b", left ", left);
+    }
+}
+
+// What a list item takes, and its container: the size, the kind and the flag.
+fn say_item(taken: usize, left: usize, container: Container) {
+    say_taken(taken, left);
     say_with(b", size ", container.size);
     let kind = container.kind;
     say_kind(kind);
@@ -163,8 +174,12 @@ fn say_item(taken: usize, container: Container) {
 fn say_start(start: Start) -> bool {
     say(b"list item: ");
     match start {
-        Start::Item { taken, container } => {
-            say_item(taken, container);
+        Start::Item {
+            taken,
+            left,
+            container,
+        } => {
+            say_item(taken, left, container);
         }
         Start::NotItem => {
             say(b"no");
@@ -176,11 +191,16 @@ fn say_start(start: Start) -> bool {
     end_line()
 }
 
-// What is found of a further line: the bytes taken, or no, each with the flag as it then stands; or that it is refused.
+// What is found of a further line: what is taken, or no, each with the flag as it then stands; or that it is refused.
 fn say_going(going: Going) {
     match going {
-        Going::Goes { taken, container } => {
-            say_with(b": taken ", taken);
+        Going::Goes {
+            taken,
+            left,
+            container,
+        } => {
+            say(b": ");
+            say_taken(taken, left);
             say_blank(container.blank);
         }
         Going::Stops { container } => {
@@ -194,30 +214,30 @@ fn say_going(going: Going) {
 }
 
 // What is found of a further line of an item whose size and flag are given; whether it was written. The item's mark does not matter.
-fn read_further(line: &[u8], options: u32, size: usize, blank: bool) -> bool {
+fn read_further(line: &[u8], options: u32, column: usize, size: usize, blank: bool) -> bool {
     let held = Container {
         kind: Kind::Bullet(b'-'),
         size,
         blank,
     };
     say_with(b"continuation of size ", size);
-    say_going(continuation(line, options, held));
+    say_going(continuation(line, options, column, held));
     end_line()
 }
 
 // What the readers find beside a heading. They have nothing to refuse once the heading has answered, since all refuse a line for the same
 // reasons, but for the heading's own.
 fn read_others(line: &[u8], asked: Asked) -> bool {
-    let written = say_start(list_item(line, asked.options, asked.interrupting));
+    let written = say_start(list_item(line, asked.options, asked.column, asked.interrupting));
     if asked.continuing {
-        return read_further(line, asked.options, asked.size, asked.blank);
+        return read_further(line, asked.options, asked.column, asked.size, asked.blank);
     }
     written
 }
 
 // The answer on a line that is not refused.
 fn answer(line: &[u8], asked: Asked, section: &[u8], title: Title) -> u8 {
-    say_leading(space_or_tab(line, asked.options, 0, 16384));
+    say_leading(space_or_tab(line, asked.options, asked.column, 0, ALL));
     if let Title::Events(events) = title {
         say_heading(section, events);
     } else {
@@ -229,7 +249,7 @@ fn answer(line: &[u8], asked: Asked, section: &[u8], title: Title) -> u8 {
 // The answer on any line. The heading comes first: all that can be refused shows there, before a word is written.
 pub fn read_line(line: &[u8], asked: Asked) -> u8 {
     let mut section = memory();
-    let title = find_title(line, asked.options, &mut section);
+    let title = find_title(line, asked.options, asked.column, &mut section);
     if let Title::Refused(refusal) = title {
         return refuse_line(line, refusal);
     }

@@ -25,11 +25,12 @@ pub written-on : {A : Type 0} (comes : ℕ → ℕ → Outcome) (answers : Outco
     Writes comes (λ (o : Outcome). numbers (answers o)) out work r out′ work′
 written-on comes answers numbers out work a r out′ work′ p e = record { answer = e ∙ ap numbers (p .answer); output = p .output; wiped = p .wiped }
 
-pub headed-on : (s : List ℕ) (options : ℕ) (out : List ℕ) (a : Headed) (r : LarkHeaded) (out′ : List ℕ) →
-    HeadedBy s options out a out′ → r ≡ larkHeaded a → HeadedAs s options out r out′
-headed-on s options out a r out′ p e = record { answer = e ∙ ap larkHeaded (p .answer); output = p .output }
+pub headed-on : (s : List ℕ) (options column : ℕ) (out : List ℕ) (a : Headed) (r : LarkHeaded) (out′ : List ℕ) →
+    HeadedBy s options column out a out′ → r ≡ larkHeaded a → HeadedAs s options column out r out′
+headed-on s options column out a r out′ p e = record { answer = e ∙ ap larkHeaded (p .answer); output = p .output }
 
 -- the container that is passed on has the kind that its mark stands for
-pub held-kind : (s : List ℕ) (options size : ℕ) (blank : Bool) (kind : Kind) (mark : ℕ) → kind ≡ kindOf mark →
-    goingOf s options (record { kind = kind; size = size; blank = blank }) ≡ goingOf s options (record { kind = kindOf mark; size = size; blank = blank })
-held-kind s options size blank kind mark e = ap (λ (k : Kind). goingOf s options (record { kind = k; size = size; blank = blank })) e
+pub held-kind : (s : List ℕ) (options column size : ℕ) (blank : Bool) (kind : Kind) (mark : ℕ) → kind ≡ kindOf mark →
+    goingOf s options column (record { kind = kind; size = size; blank = blank })
+    ≡ goingOf s options column (record { kind = kindOf mark; size = size; blank = blank })
+held-kind s options column size blank kind mark e = ap (λ (k : Kind). goingOf s options column (record { kind = k; size = size; blank = blank })) e

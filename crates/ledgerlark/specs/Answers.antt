@@ -67,7 +67,13 @@ larkLists r = record { number = list.numbersOf r .number; place = list.numbersOf
 
 abbrev pub larkSpaces : Spaces → LarkSpaces
 larkSpaces r =
-    record { number = spaces.numbersOf r .number; place = spaces.numbersOf r .place; found = spaces.numbersOf r .found; taken = spaces.numbersOf r .taken }
+    record {
+      number = spaces.numbersOf r .number;
+      place = spaces.numbersOf r .place;
+      found = spaces.numbersOf r .found;
+      taken = spaces.numbersOf r .taken;
+      left = spaces.numbersOf r .left;
+    }
 
 abbrev pub larkItem : Start → LarkItem
 larkItem r =
@@ -76,6 +82,7 @@ larkItem r =
       place = item.numbersOf r .place;
       found = item.numbersOf r .found;
       taken = item.numbersOf r .taken;
+      left = item.numbersOf r .left;
       size = item.numbersOf r .size;
       blank = item.numbersOf r .blank;
       mark = item.numbersOf r .mark;
@@ -88,6 +95,7 @@ larkGoing r =
       place = going.numbersOf r .place;
       found = going.numbersOf r .found;
       taken = going.numbersOf r .taken;
+      left = going.numbersOf r .left;
       blank = going.numbersOf r .blank;
     }
 
@@ -124,15 +132,15 @@ HeadingsAs s options out work r out′ work′ =
 abbrev pub ListsAs : List ℕ → ℕ → List ℕ → List ℕ → LarkResolved → List ℕ → List ℕ → Type 0
 ListsAs s options out work r out′ work′ = Writes (list.outcomeOf s options) (λ (o : Outcome). larkLists (list.answerOf o)) out work r out′ work′
 
-abbrev pub SpacesAs : List ℕ → ℕ → ℕ → ℕ → LarkSpaces → Type 0
-SpacesAs s options min max r = r ≡ larkSpaces (spacesOf s options min max)
+abbrev pub SpacesAs : List ℕ → ℕ → ℕ → ℕ → ℕ → LarkSpaces → Type 0
+SpacesAs s options column min max r = r ≡ larkSpaces (spacesOf s options column min max)
 
-abbrev pub ItemAs : List ℕ → ℕ → ℕ → LarkItem → Type 0
-ItemAs s options interrupting r = r ≡ larkItem (startOf s options (flagged interrupting))
+abbrev pub ItemAs : List ℕ → ℕ → ℕ → ℕ → LarkItem → Type 0
+ItemAs s options column interrupting r = r ≡ larkItem (startOf s options column (flagged interrupting))
 
-abbrev pub GoingAs : List ℕ → ℕ → ℕ → ℕ → ℕ → LarkGoing → Type 0
-GoingAs s options size blank mark r = r ≡ larkGoing (goingOf s options (containerOf size blank mark))
+abbrev pub GoingAs : List ℕ → ℕ → ℕ → ℕ → ℕ → ℕ → LarkGoing → Type 0
+GoingAs s options column size blank mark r = r ≡ larkGoing (goingOf s options column (containerOf size blank mark))
 
-pub record HeadedAs (s : List ℕ) (options : ℕ) (out : List ℕ) (r : LarkHeaded) (out′ : List ℕ) : Type 0 where
-  pub answer : r ≡ larkHeaded (headedOf s options (length out) .answer)
-  pub output : out′ ≡ onto (headedOf s options (length out) .bytes) out
+pub record HeadedAs (s : List ℕ) (options column : ℕ) (out : List ℕ) (r : LarkHeaded) (out′ : List ℕ) : Type 0 where
+  pub answer : r ≡ larkHeaded (headedOf s options column (length out) .answer)
+  pub output : out′ ≡ onto (headedOf s options column (length out) .bytes) out

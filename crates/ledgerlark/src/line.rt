@@ -17,6 +17,7 @@ pub struct LarkSpaces {
     pub place: usize,
     pub found: usize,
     pub taken: usize,
+    pub left: usize,
 }
 
 #[repr(C)]
@@ -25,6 +26,7 @@ pub struct LarkItem {
     pub place: usize,
     pub found: usize,
     pub taken: usize,
+    pub left: usize,
     pub size: usize,
     pub blank: usize,
     pub mark: usize,
@@ -36,6 +38,7 @@ pub struct LarkGoing {
     pub place: usize,
     pub found: usize,
     pub taken: usize,
+    pub left: usize,
     pub blank: usize,
 }
 
@@ -89,12 +92,13 @@ fn spaces_of(found: Spaces) -> LarkSpaces
     ensures { λ r. ⌜ r ≡ larkSpaces found ⌝ }
 {
     match found {
-        Spaces::Taken(taken) => {
+        Spaces::Taken { taken, left } => {
             return LarkSpaces {
                 number: 0,
                 place: 0,
                 found: 1,
                 taken,
+                left,
             };
         }
         Spaces::TooFew => {
@@ -103,6 +107,7 @@ fn spaces_of(found: Spaces) -> LarkSpaces
                 place: 0,
                 found: 0,
                 taken: 0,
+                left: 0,
             };
         }
         Spaces::Refused(refusal) => {
@@ -111,6 +116,7 @@ fn spaces_of(found: Spaces) -> LarkSpaces
                 place: refusal.place,
                 found: 0,
                 taken: 0,
+                left: 0,
             };
         }
     }
@@ -121,13 +127,18 @@ fn item_of(found: Start) -> LarkItem
     ensures { λ r. ⌜ r ≡ larkItem found ⌝ }
 {
     match found {
-        Start::Item { taken, container } => {
+        Start::Item {
+            taken,
+            left,
+            container,
+        } => {
             let kind = container.kind;
             return LarkItem {
                 number: 0,
                 place: 0,
                 found: 1,
                 taken,
+                left,
                 size: container.size,
                 blank: flag_of(container.blank),
                 mark: mark_of(kind),
@@ -139,6 +150,7 @@ fn item_of(found: Start) -> LarkItem
                 place: 0,
                 found: 0,
                 taken: 0,
+                left: 0,
                 size: 0,
                 blank: 0,
                 mark: 0,
@@ -150,6 +162,7 @@ fn item_of(found: Start) -> LarkItem
                 place: refusal.place,
                 found: 0,
                 taken: 0,
+                left: 0,
                 size: 0,
                 blank: 0,
                 mark: 0,
@@ -163,12 +176,17 @@ fn going_of(found: Going) -> LarkGoing
     ensures { λ r. ⌜ r ≡ larkGoing found ⌝ }
 {
     match found {
-        Going::Goes { taken, container } => {
+        Going::Goes {
+            taken,
+            left,
+            container,
+        } => {
             return LarkGoing {
                 number: 0,
                 place: 0,
                 found: 1,
                 taken,
+                left,
                 blank: flag_of(container.blank),
             };
         }
@@ -178,6 +196,7 @@ fn going_of(found: Going) -> LarkGoing
                 place: 0,
                 found: 0,
                 taken: 0,
+                left: 0,
                 blank: flag_of(container.blank),
             };
         }
@@ -187,6 +206,7 @@ fn going_of(found: Going) -> LarkGoing
                 place: refusal.place,
                 found: 0,
                 taken: 0,
+                left: 0,
                 blank: 0,
             };
         }
@@ -225,20 +245,31 @@ fn headed_of(found: Headed) -> LarkHeaded
     }
 }
 
-// The spaces and tabs in front of a line.
+// The spaces and tabs in front of a line that starts at a column; and so below.
 #[no_mangle]
-pub extern "C" fn lark_space_or_tab(line: &[u8], options: u32, min: usize, max: usize) -> LarkSpaces
-    ensures { λ r. ⌜ SpacesAs (now (line .entry)) options min max r ⌝ }
+pub extern "C" fn lark_space_or_tab(
+    line: &[u8],
+    options: u32,
+    column: usize,
+    min: usize,
+    max: usize,
+) -> LarkSpaces
+    ensures { λ r. ⌜ SpacesAs (now (line .entry)) options column min max r ⌝ }
 {
-    spaces_of(lines::spaces::space_or_tab(line, options, min, max))
+    spaces_of(lines::spaces::space_or_tab(line, options, column, min, max))
 }
 
 // A list item that starts on a line.
 #[no_mangle]
-pub extern "C" fn lark_list_item(line: &[u8], options: u32, interrupting: u32) -> LarkItem
-    ensures { λ r. ⌜ ItemAs (now (line .entry)) options interrupting r ⌝ }
+pub extern "C" fn lark_list_item(
+    line: &[u8],
+    options: u32,
+    column: usize,
+    interrupting: u32,
+) -> LarkItem
+    ensures { λ r. ⌜ ItemAs (now (line .entry)) options column interrupting r ⌝ }
 {
-    item_of(lines::item::list_item(line, options, interrupting != 0))
+    item_of(lines::item::list_item(line, options, column, interrupting != 0))
 }
 
 // Whether a line goes on with a list item.
@@ -246,11 +277,12 @@ pub extern "C" fn lark_list_item(line: &[u8], options: u32, interrupting: u32) -
 pub extern "C" fn lark_continuation(
     line: &[u8],
     options: u32,
+    column: usize,
     size: usize,
     blank: u32,
     mark: u32,
 ) -> LarkGoing
-    ensures { λ r. ⌜ GoingAs (now (line .entry)) options size blank mark r ⌝ }
+    ensures { λ r. ⌜ GoingAs (now (line .entry)) options column size blank mark r ⌝ }
 {
     let kind = kind_of(mark);
     let held = Container {
@@ -258,13 +290,18 @@ pub extern "C" fn lark_continuation(
         size,
         blank: blank != 0,
     };
-    going_of(lines::going::continuation(line, options, held))
+    going_of(lines::going::continuation(line, options, column, held))
 }
 
 // A heading's events, not yet resolved.
 #[no_mangle]
-pub extern "C" fn lark_heading(line: &[u8], options: u32, out: &mut [u8]) -> LarkHeaded
-    ensures { λ r. ⌜ HeadedAs (now (line .entry)) options (now (out .entry)) r (now (out .exit)) ⌝ }
+pub extern "C" fn lark_heading(
+    line: &[u8],
+    options: u32,
+    column: usize,
+    out: &mut [u8],
+) -> LarkHeaded
+    ensures { λ r. ⌜ HeadedAs (now (line .entry)) options column (now (out .entry)) r (now (out .exit)) ⌝ }
 {
-    headed_of(atx::heading(line, options, out))
+    headed_of(atx::heading(line, options, column, out))
 }

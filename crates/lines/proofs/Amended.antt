@@ -1,26 +1,17 @@
--- The three statements of specs/Standard.antt: what amendments D8, D9 and D14 make of the standard's rules is what the definitions have.
+-- The statement of specs/Standard.antt: what amendment D9 makes of the standard's rule is what the definition has.
 -- Assumes nothing.
 use mathlib.Core.Path.{_≡_, refl, sym, ap, _∙_}
 use mathlib.Core.Bool.{Bool, true, false}
 use mathlib.Core.List.{List, [], _∷_}
 use Prim.Native.Nat.{ℕ, suc, _+_, _-_, _*_, _≤_}
 use native.Mathlib.Omega.{arith}
-use lib.Dec.{leb, eqb}
+use lib.Dec.{eqb}
 use borrow.Author.Tests.{eq-eqb, ne-eqb, eqb-true, eqb-false, leb-true}
 use Rattle.record.specs.Choice.{choose, and}
 use Rattle.record.proofs.Bools.{and-left}
 use Rattle.scan.specs.Run.{digit, leading}
-use Rattle.scan.proofs.Counted.{counted-in-bytes}
-use Rattle.lines.specs.Item.{startsWithOne, padding}
-use Rattle.lines.specs.Standard.{numberFrom, standardStartsWithOne, OneDigit, sizeBy, SizeInBytes, enoughBy, EnoughInBytes}
-
-pub size-in-bytes : SizeInBytes
-unfolding sizeBy
-size-in-bytes w rest = ap (λ (n : ℕ). w + padding n) (counted-in-bytes w rest)
-
-pub enough-in-bytes : EnoughInBytes
-unfolding enoughBy
-enough-in-bytes n l = ap (leb n) (counted-in-bytes 0 l)
+use Rattle.lines.specs.Item.{startsWithOne}
+use Rattle.lines.specs.Standard.{numberFrom, standardStartsWithOne, OneDigit}
 
 -- where no digit stands in front, nothing more is said
 none-more : (z : Bool) (m n k : ℕ) → choose z (suc k) 0 ≡ 0 → choose z m n ≡ n

@@ -166,10 +166,10 @@ pub record Told (z : Bool) (l : List ℕ) (width : ℕ) : Type 0 where
   pub fits : width ≤ length l
   pub no-break : thematicBreak l ≡ false
 
-unmarked-not : (kind : Kind) (width : ℕ) → Marked kind width ≡ Unmarked → ⊥
+pub unmarked-not : (kind : Kind) (width : ℕ) → Marked kind width ≡ Unmarked → ⊥
 unmarked-not kind width q = let x : _≡_ {A = ℕ} 0 1 = cc in omega arith
 
-marked-width : (k₁ k₂ : Kind) (m n : ℕ) → Marked k₁ m ≡ Marked k₂ n → m ≡ n
+pub marked-width : (k₁ k₂ : Kind) (m n : ℕ) → Marked k₁ m ≡ Marked k₂ n → m ≡ n
 marked-width k₁ k₂ m n q = cc
 
 -- a byte that is not the 0 that stands for nothing is there

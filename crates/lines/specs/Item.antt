@@ -1,4 +1,4 @@
--- List item start. CommonMark 0.31 §5.2, rules 1 to 3, and §4.1.
+-- List item start. CommonMark 0.31 §5.2, rules 1 to 4, and §4.1; what is counted there in spaces is counted in columns (§2.2).
 -- Assumes nothing.
 use Prim.Native.Nat.{ℕ, _+_}
 use mathlib.Core.Bool.{Bool, true, false, not}
@@ -7,8 +7,10 @@ use lib.ListN.{getD, drop}
 use lib.Dec.{leb, eqb}
 use Rattle.record.specs.Choice.{choose, and}
 use Rattle.record.specs.Options.{optionOn}
-use Rattle.scan.specs.Run.{or, spaceOrTab, digit, leading, every, count, first, blank, blanks, indentation}
+use Rattle.scan.specs.Run.{or, spaceOrTab, digit, leading, every, count, first, blank}
+use Rattle.scan.specs.Columns.{columns, reach, indentation}
 use Rattle.scan.specs.Line.{lineOf, checkedLine, reading, flag}
+use Rattle.scan.specs.declared.columns.Reach.{Reach}
 use Rattle.lines.specs.declared.container.Kind.{Kind}
 use Rattle.lines.specs.declared.container.Kind.the-variants.{Bullet, Ordered}
 use Rattle.lines.specs.declared.container.Container.{Container}
@@ -79,53 +81,65 @@ container kind size blank = record { kind = kind; size = size; blank = blank }
 unfoldable pub padding : ℕ → ℕ
 padding n = choose (leb n 4) n 1
 
--- a filled rest with n spaces and tabs in front, after the bytes up to the marker's end.
--- Amendment D14: n counts bytes; the standard's N counts columns (`standardSize` in specs/Standard.antt).
-unfoldable pub filledStart : Kind → ℕ → ℕ → Start
-filledStart kind before n =
-    choose (eqb n 0) NotItem (Item (before + padding n) (container kind (before + padding n) false))
+-- what is taken up to the marker's end: the indentation and a marker of so many bytes, each of one column
+abbrev pub upToMarker : Reach → ℕ → Reach
+upToMarker indent width = record { bytes = indent .bytes + width; columns = indent .columns + width; left = 0 }
 
--- rule 3, a blank start: "preceding subsequent lines of Ls by W + 1 spaces of indentation"; and it may not interrupt a paragraph
-unfoldable pub startAfter : Bool → Kind → ℕ → List ℕ → Start
-startAfter interrupting kind before rest =
+-- with a filled rest, of which so much is taken: rule 1, further lines are indented by "W + N spaces"; rule 4, and by what the marker is indented
+abbrev pub itemWith : Kind → Reach → Reach → Start
+itemWith kind before r = Item (before .bytes + r .bytes) (r .left) (container kind (before .columns + r .columns) false)
+
+-- A filled rest, at column c, after what is taken up to the marker's end. Its spaces and tabs have N columns, of which the item takes its padding; a tab
+-- may be cut there
+unfoldable pub filledStart : Kind → Reach → ℕ → List ℕ → Start
+filledStart kind before c rest =
+    choose (eqb (columns c rest) 0) NotItem (itemWith kind before (reach (padding (columns c rest)) c rest))
+
+-- rule 3, a blank start: "preceding subsequent lines of Ls by W + 1 spaces of indentation"; and it may not interrupt a paragraph. The item ends with its
+-- marker: of what is behind it nothing is taken, and no tab is cut
+unfoldable pub startAfter : Bool → Kind → Reach → ℕ → List ℕ → Start
+startAfter interrupting kind before c rest =
     choose (blank rest)
-    (choose interrupting NotItem (Item before (container kind (before + 1) true)))
-    (filledStart kind before (blanks rest))
+    (choose interrupting NotItem (Item (before .bytes) 0 (container kind (before .columns + 1) true)))
+    (filledStart kind before c rest)
 
--- l is what follows the indentation, which is `indent` bytes
-unfoldable pub startFrom : Bool → ℕ → Marker → List ℕ → Start
-startFrom interrupting indent Unmarked l = NotItem
-startFrom interrupting indent (Marked kind width) l = startAfter interrupting kind (indent + width) (drop width l)
+-- l is what follows the indentation, on a line that starts at a column
+unfoldable pub startFrom : Bool → ℕ → Reach → Marker → List ℕ → Start
+startFrom interrupting column indent Unmarked l = NotItem
+startFrom interrupting column indent (Marked kind width) l =
+    startAfter interrupting kind (upToMarker indent width) (column + (indent .columns + width)) (drop width l)
 
-unfoldable pub startAt : Bool → ℕ → List ℕ → Start
-startAt interrupting indent l = startFrom interrupting indent (markerOf interrupting l) l
+unfoldable pub startAt : Bool → ℕ → Reach → List ℕ → Start
+startAt interrupting column indent l = startFrom interrupting column indent (markerOf interrupting l) l
 
--- on a line. Document 01: "None without option 16." Amendments D8 and D20: the indentation counts bytes, and is free without option 32; the
--- standard's is `standardIndented` in scan
-unfoldable pub startIn : List ℕ → ℕ → Bool → Start
-startIn l options interrupting =
-    choose (optionOn options 16) (startAt interrupting (indentation options l) (drop (indentation options l) l)) NotItem
+-- on a line. Document 01: "None without option 16." Amendment D20: the indentation is free without option 32; the standard's is `standardIndented` in
+-- scan. Where the indentation cuts a tab, what follows begins with it, and is no marker
+unfoldable pub startIn : List ℕ → ℕ → ℕ → Bool → Start
+startIn l options column interrupting =
+    let indent = indentation options column l in
+    choose (optionOn options 16) (startAt interrupting column indent (drop (indent .bytes) l)) NotItem
 
-unfoldable pub startOf : List ℕ → ℕ → Bool → Start
-startOf s options interrupting = reading (checkedLine s options) Refused (startIn (lineOf s) options interrupting)
+unfoldable pub startOf : List ℕ → ℕ → ℕ → Bool → Start
+startOf s options column interrupting = reading (checkedLine s options column) Refused (startIn (lineOf s) options column interrupting)
 
 -- the mark: the marker's byte, `.` or `)` where it is ordered
 abbrev pub markOf : Kind → ℕ
 markOf (Bullet mark) = mark
 markOf (Ordered mark) = mark
 
--- "Answered: bytes taken .., size, flag, mark."
+-- "Answered: bytes taken .., size, flag, mark.", and the columns left of a cut tab
 pub record Numbers : Type 0 where
   pub number : ℕ
   pub place : ℕ
   pub found : ℕ
   pub taken : ℕ
+  pub left : ℕ
   pub size : ℕ
   pub blank : ℕ
   pub mark : ℕ
 
 abbrev pub numbersOf : Start → Numbers
-numbersOf (Item taken held) =
-    record { number = 0; place = 0; found = 1; taken = taken; size = held .size; blank = flag (held .blank); mark = markOf (held .kind) }
-numbersOf NotItem = record { number = 0; place = 0; found = 0; taken = 0; size = 0; blank = 0; mark = 0 }
-numbersOf (Refused r) = record { number = r .number; place = r .place; found = 0; taken = 0; size = 0; blank = 0; mark = 0 }
+numbersOf (Item taken left held) =
+    record { number = 0; place = 0; found = 1; taken = taken; left = left; size = held .size; blank = flag (held .blank); mark = markOf (held .kind) }
+numbersOf NotItem = record { number = 0; place = 0; found = 0; taken = 0; left = 0; size = 0; blank = 0; mark = 0 }
+numbersOf (Refused r) = record { number = r .number; place = r .place; found = 0; taken = 0; left = 0; size = 0; blank = 0; mark = 0 }

@@ -3,17 +3,19 @@
 use crate::container::Container;
 use crate::container::Kind;
 use record::check::Refusal;
+use scan::columns::Reach;
+use scan::columns::indented;
+use scan::columns::reached;
 use scan::line::Checked;
 use scan::line::check_line;
-use scan::run::blanks;
 use scan::run::byte_at;
 use scan::run::digits;
-use scan::run::indented;
 use scan::run::is_blank;
+use scan::run::is_blank_line;
 ghost use mathlib.Core.Path.{_≡_};
-ghost use Prim.Native.Nat.{_+_, _≤_};
+ghost use Prim.Native.Nat.{_+_, _*_, _≤_};
 ghost use lib.ListN.{length};
-ghost use Rattle.lines.specs.Item.{breakMark, marksOnly, thematicBreak, bulletMark, orderedMark, mayStart, orderedOf, markerOf, startAfter, startIn, startOf};
+ghost use Rattle.lines.specs.Item.{breakMark, marksOnly, thematicBreak, bulletMark, orderedMark, mayStart, orderedOf, markerOf, itemWith, startAfter, startIn, startOf};
 
 // A list marker and its width, if there is one.
 pub enum Marker {
@@ -21,9 +23,13 @@ pub enum Marker {
     Unmarked,
 }
 
-// The bytes taken and the container that opens, the finding "not a list item", or a refusal.
+// The bytes taken, the columns left of a cut tab and the container that opens, the finding "not a list item", or a refusal.
 pub enum Start {
-    Item { taken: usize, container: Container },
+    Item {
+        taken: usize,
+        left: usize,
+        container: Container,
+    },
     NotItem,
     Refused(Refusal),
 }
@@ -164,78 +170,101 @@ pub fn marker_in(rest: &[u8], interrupting: bool) -> Marker
     }
 }
 
-// What follows the marker, which ends after `before` bytes.
-pub fn start_after(rest: &[u8], interrupting: bool, kind: Kind, before: usize) -> Start
-    requires { ⌜ before + length (now rest) ≤ 16384 ⌝ }
-    ensures { λ r. ⌜ r ≡ startAfter interrupting kind before (now (rest .entry)) ⌝ }
+// An item with a filled rest: what is taken up to the marker's end, and of the spaces and tabs behind it.
+fn filled_item(kind: Kind, before: Reach, padding: Reach) -> Start
+    requires { ⌜ (before .bytes + padding .bytes ≤ 16384) × (before .columns + padding .columns ≤ 81920) ⌝ }
+    ensures { λ r. ⌜ r ≡ itemWith kind before padding ⌝ }
 {
-    let n = blanks(rest, rest.len());
-    if n == rest.len() {
-        if interrupting {
-            return Start::NotItem;
-        }
-        return Start::Item {
-            taken: before,
-            container: Container {
-                kind,
-                size: before + 1,
-                blank: true,
-            },
-        };
-    }
-    if n == 0 {
-        return Start::NotItem;
-    }
-    if n > 4 {
-        return Start::Item {
-            taken: before + 1,
-            container: Container {
-                kind,
-                size: before + 1,
-                blank: false,
-            },
-        };
-    }
     Start::Item {
-        taken: before + n,
+        taken: before.bytes + padding.bytes,
+        left: padding.left,
         container: Container {
             kind,
-            size: before + n,
+            size: before.columns + padding.columns,
             blank: false,
         },
     }
 }
 
-// A list item that starts on a line.
-pub fn start_in(line: &[u8], options: u32, interrupting: bool) -> Start
-    requires { ⌜ length (now line) ≤ 16384 ⌝ }
-    ensures { λ r. ⌜ r ≡ startIn (now (line .entry)) options interrupting ⌝ }
+// What follows the marker, at a column, after what is taken up to the marker's end. Five of its columns say how many the item takes, and mostly end
+// where it is seen not to be blank.
+pub fn start_after(
+    rest: &[u8],
+    column: usize,
+    interrupting: bool,
+    kind: Kind,
+    before: Reach,
+) -> Start
+    requires { ⌜ (column + 4 * length (now rest) ≤ 81920) × (before .columns ≤ 65546) × (before .bytes + length (now rest) ≤ 16384) ⌝ }
+    ensures { λ r. ⌜ r ≡ startAfter interrupting kind before column (now (rest .entry)) ⌝ }
+{
+    let five = reached(rest, column, 5);
+    if is_blank_line(rest, five.bytes) {
+        if interrupting {
+            return Start::NotItem;
+        }
+        let size = before.columns + 1;
+        return Start::Item {
+            taken: before.bytes,
+            left: 0,
+            container: Container {
+                kind,
+                size,
+                blank: true,
+            },
+        };
+    }
+    if five.columns == 0 {
+        return Start::NotItem;
+    }
+    if five.columns == 5 {
+        return filled_item(kind, before, reached(rest, column, 1));
+    }
+    filled_item(kind, before, five)
+}
+
+// A list item that starts on a line that starts at a column.
+pub fn start_in(line: &[u8], options: u32, column: usize, interrupting: bool) -> Start
+    requires { ⌜ (length (now line) ≤ 16384) × (column ≤ 16384) ⌝ }
+    ensures { λ r. ⌜ r ≡ startIn (now (line .entry)) options column interrupting ⌝ }
 {
     if options / 16 % 2 != 1 {
         return Start::NotItem;
     }
-    let indent = indented(line, options);
-    let rest = &line[indent..];
+    let indent = indented(line, options, column);
+    let bytes = indent.bytes;
+    let rest = &line[bytes..];
     match marker_in(rest, interrupting) {
         Marker::Unmarked => {
             return Start::NotItem;
         }
         Marker::Marked { kind, width } => {
-            return start_after(&rest[width..], interrupting, kind, indent + width);
+            let before = Reach {
+                bytes: bytes + width,
+                columns: indent.columns + width,
+                left: 0,
+            };
+            return start_after(
+                &rest[width..],
+                column + before.columns,
+                interrupting,
+                kind,
+                before,
+            );
         }
     }
 }
 
 // The same of a line as it is lent.
-pub fn list_item(line: &[u8], options: u32, interrupting: bool) -> Start
-    ensures { λ r. ⌜ r ≡ startOf (now (line .entry)) options interrupting ⌝ }
+pub fn list_item(line: &[u8], options: u32, column: usize, interrupting: bool) -> Start
+    ensures { λ r. ⌜ r ≡ startOf (now (line .entry)) options column interrupting ⌝ }
 {
-    match check_line(line, options) {
+    match check_line(line, options, column) {
         Checked::Bad(refusal) => {
             return Start::Refused(refusal);
         }
         Checked::Ends(end) => {
-            return start_in(&line[0..end], options, interrupting);
+            return start_in(&line[0..end], options, column, interrupting);
         }
     }
 }

@@ -1,6 +1,7 @@
-// Our calls, each with its answer in the numbers of the list.
+// Our calls, each with its answer in the numbers of the list. A line is read from column 0: the list has whole lines.
 //
-// How many groups attention made and how many candidates it tried is no answer of the crate's, and is left out.
+// How many groups attention made and how many candidates it tried is no answer of the crate's, and is left out. So is what is left of a cut tab, for
+// which the list has no number.
 
 use crate::entry::ATTENTION;
 use crate::entry::CONTINUATION;
@@ -100,7 +101,7 @@ pub fn ask_resolver(question: Question, s: &[u8], out: &mut [u8], work: &mut [u8
 
 // The heading reader, the one reader that writes.
 pub fn ask_heading(question: Question, s: &[u8], out: &mut [u8]) -> Reply {
-    match heading(s, question.options, out) {
+    match heading(s, question.options, 0, out) {
         Headed::Heading { events } => Reply::Answer(Numbers {
             first: 1,
             second: events,
@@ -116,8 +117,8 @@ pub fn ask_heading(question: Question, s: &[u8], out: &mut [u8]) -> Reply {
 
 // The space-or-tab reader, with a minimum and a maximum: whether there are enough, and the bytes taken.
 fn ask_spaces(question: Question, s: &[u8]) -> Reply {
-    match space_or_tab(s, question.options, question.a, question.b) {
-        Spaces::Taken(n) => unwritten(1, n, 0, 0, 0),
+    match space_or_tab(s, question.options, 0, question.a, question.b) {
+        Spaces::Taken { taken, left: _ } => unwritten(1, taken, 0, 0, 0),
         Spaces::TooFew => unwritten(0, 0, 0, 0, 0),
         Spaces::Refused(refusal) => Reply::Refused(refusal),
     }
@@ -133,8 +134,12 @@ fn mark_of(kind: Kind) -> usize {
 
 // The list item reader: whether one starts here, the bytes taken, and its size, flag and mark.
 fn ask_item(question: Question, s: &[u8]) -> Reply {
-    match list_item(s, question.options, question.a == 1) {
-        Start::Item { taken, container } => {
+    match list_item(s, question.options, 0, question.a == 1) {
+        Start::Item {
+            taken,
+            left: _,
+            container,
+        } => {
             let kind = container.kind;
             unwritten(
                 1,
@@ -168,8 +173,12 @@ fn ask_going(question: Question, s: &[u8]) -> Reply {
         size: question.a,
         blank: question.b == 1,
     };
-    match continuation(s, question.options, held) {
-        Going::Goes { taken, container } => unwritten(1, taken, flag(container.blank), 0, 0),
+    match continuation(s, question.options, 0, held) {
+        Going::Goes {
+            taken,
+            left: _,
+            container,
+        } => unwritten(1, taken, flag(container.blank), 0, 0),
         Going::Stops { container } => unwritten(0, 0, flag(container.blank), 0, 0),
         Going::Refused(refusal) => Reply::Refused(refusal),
     }

@@ -5,7 +5,7 @@
 //     call         0 attention, 1 headings, 2 lists, on a record; 3 space_or_tab, 4 list_item, 5 continuation, 6 heading, on a line
 //     options
 //     a b c        space_or_tab: minimum, maximum, 0; list_item: interrupting, 0, 0; continuation: size, flag, mark; else 0, 0, 0
-//     length       of the record or line, whose bytes follow
+//     length       of the record or line, whose bytes follow; a line starts at column 0
 //     five numbers attention, headings, lists: events; space_or_tab: found, taken; list_item: found, taken, size, flag, mark;
 //                  continuation: found, taken, flag; heading: found, events; the rest 0
 //     length       of the section that is written, whose bytes follow; 0 where nothing is written

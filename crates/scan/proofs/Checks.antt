@@ -1,20 +1,21 @@
 -- The check of a line, case by case, and what a line that passes it tells.
 -- Assumes nothing.
 use mathlib.Core.Path.{_≡_, refl, ap, _∙_}
-use mathlib.Core.Bool.{Bool, true, false, not}
+use mathlib.Core.Bool.{Bool, true, false, not, _||_}
 use mathlib.Core.List.{List}
-use Prim.Native.Nat.{ℕ, suc, _+_, _-_, _≤_, _<_}
+use Prim.Native.Nat.{ℕ, suc, _+_, _*_, _-_, _≤_, _<_}
 use native.Mathlib.Numerals.{add-one}
 use native.Mathlib.Omega.{arith}
 use lib.ListN.{length, getD, take, drop, length-take, drop-of-length-le}
 use lib.Seq.{take-length}
-use lib.Dec.{eqb}
+use lib.Dec.{ltb, eqb}
 use borrow.Author.Tests.{lt-ltb, le-ltb, ltb-false, eqb-true, eqb-false, not-true, not-false}
 use Rattle.record.specs.Choice.{choose}
 use Rattle.record.specs.Check.{firstReturn}
 use Rattle.record.specs.Stretch.{isNot, Passed}
 use Rattle.record.specs.declared.check.Refusal.{Refusal}
 use Rattle.record.proofs.Stretch.{passed-as}
+use Rattle.record.proofs.Bools.{clash as bools-clash}
 use Rattle.scan.specs.Run.{leading}
 use Rattle.scan.specs.Line.{endOf, EndsBeforeFeed, LineEnds, lineOf, refusal, checkedLine, reading, noFeed}
 use Rattle.scan.specs.declared.line.Checked.{Checked}
@@ -52,29 +53,45 @@ line-ends s =
     let e : endOf s ≡ length (take (endOf s) s) = omega (arith, length-take (endOf s) s) in
     (rw (← e) (ends-before s), ap (λ (n : ℕ). take n s) e, e)
 
-module _ (s : List ℕ) (options : ℕ) where
-  pub options-over : 63 < options → Bad (refusal 2 0) ≡ checkedLine s options
-  unfolding checkedLine choose
-  options-over h = rw (lt-ltb _ _ h)
+-- number 2: one of the two is over its limit; neither is
+neither-true : (y z : Bool) → (y || z) ≡ false → (y ≡ false) × (z ≡ false)
+neither-true true z e = absurd (bools-clash refl e)
+neither-true false z e = (refl, e)
 
-  module _ (o : options ≤ 63) where
-    pub too-long : 16384 < length s → Bad (refusal 3 16384) ≡ checkedLine s options
+module _ (s : List ℕ) (options column : ℕ) where
+  pub either-over : (ltb 63 options || ltb 16384 column) ≡ true → Bad (refusal 2 0) ≡ checkedLine s options column
+  unfolding checkedLine choose
+  either-over h = go (ltb 63 options) refl (ltb 16384 column) refl h
+    where
+      go : (y : Bool) → ltb 63 options ≡ y → (z : Bool) → ltb 16384 column ≡ z → (y || z) ≡ true → Bad (refusal 2 0) ≡ checkedLine s options column
+      go true p z q e = rw p
+      go false p true q e = rw (p, q)
+      go false p false q e = absurd (bools-clash e refl)
+
+  module _ (e : (ltb 63 options || ltb 16384 column) ≡ false) where
+    o : ltb 63 options ≡ false
+    o = neither-true (ltb 63 options) (ltb 16384 column) e .0
+
+    c : ltb 16384 column ≡ false
+    c = neither-true (ltb 63 options) (ltb 16384 column) e .1
+
+    pub too-long : 16384 < length s → Bad (refusal 3 16384) ≡ checkedLine s options column
     unfolding checkedLine choose
-    too-long h = rw (le-ltb _ _ o, lt-ltb _ _ h)
+    too-long h = rw (o, c, lt-ltb _ _ h)
 
     module _ (m : length s ≤ 16384) (r : ℕ) (k : r ≡ firstReturn (length s) s 0) where
-      pub returned : r < length s → Bad (refusal 4 r) ≡ checkedLine s options
+      pub returned : r < length s → Bad (refusal 4 r) ≡ checkedLine s options column
       unfolding checkedLine choose
-      returned h = rw (le-ltb _ _ o, le-ltb _ _ m, ← k, lt-ltb _ _ h)
+      returned h = rw (o, c, le-ltb _ _ m, ← k, lt-ltb _ _ h)
 
-      pub passed : length s ≤ r → (n : ℕ) → n ≡ endOf s → Ends n ≡ checkedLine s options
+      pub passed : length s ≤ r → (n : ℕ) → n ≡ endOf s → Ends n ≡ checkedLine s options column
       unfolding checkedLine choose
-      passed h n e = rw (le-ltb _ _ o, le-ltb _ _ m, ← k, le-ltb _ _ h, e)
+      passed h n q = rw (o, c, le-ltb _ _ m, ← k, le-ltb _ _ h, q)
 
--- up to 63 the options play no part
-pub options-none : (s : List ℕ) (options : ℕ) → options ≤ 63 → checkedLine s 0 ≡ checkedLine s options
-unfolding checkedLine choose
-options-none s options o = rw (le-ltb _ _ o)
+    -- then options and column play no part
+    pub neither-over : checkedLine s 0 0 ≡ checkedLine s options column
+    unfolding checkedLine choose
+    neither-over = rw (o, c)
 
 -- the invariant of the loop from the last byte to the first: of what lies from a place on, where its first line feed and its first carriage return stand
 pub record Looking (s : List ℕ) (n feed back : ℕ) : Type 0 where
@@ -120,22 +137,24 @@ module _ {s : List ℕ} {n feed back : ℕ} (i : Looking s n feed back) (all : n
   unfolding endOf
   first-feed = let q : feed ≡ 0 + leading noFeed s = rw all at (i .feeds) in omega arith
 
-  pub return-seen : back < length s → Bad (refusal 4 back) ≡ checkedLine s 0
-  return-seen l = returned s 0 (omega arith) short back first-back l
+  pub return-seen : back < length s → Bad (refusal 4 back) ≡ checkedLine s 0 0
+  return-seen l = returned s 0 0 refl short back first-back l
 
-  pub none-seen : length s ≤ back → Ends feed ≡ checkedLine s 0
-  none-seen l = passed s 0 (omega arith) short back first-back l feed first-feed
+  pub none-seen : length s ≤ back → Ends feed ≡ checkedLine s 0 0
+  none-seen l = passed s 0 0 refl short back first-back l feed first-feed
 
 -- a reader's answer after a refusal
-pub refused-by : {A : Type 0} (s : List ℕ) (options : ℕ) (bad : Refusal → A) (found : A) (r : Refusal) → Bad r ≡ checkedLine s options → bad r ≡ reading (checkedLine s options) bad found
+pub refused-by : {A : Type 0} (s : List ℕ) (options column : ℕ) (bad : Refusal → A) (found : A) (r : Refusal) → Bad r ≡ checkedLine s options column →
+    bad r ≡ reading (checkedLine s options column) bad found
 unfolding reading
-refused-by s options bad found r q = rw (← q)
+refused-by s options column bad found r q = rw (← q)
 
 -- what it tells
-pub record Lined (s : List ℕ) (n : ℕ) : Type 0 where
+pub record Lined (s : List ℕ) (column n : ℕ) : Type 0 where
   pub end : n ≡ endOf s
   pub within : n ≤ length s
   pub short : length s ≤ 16384
+  pub near : column ≤ 16384
   pub part : take (n - 0) (drop 0 s) ≡ lineOf s
 
 clash : (r : Refusal) (n : ℕ) → Ends n ≡ Bad r → ⊥
@@ -155,17 +174,27 @@ beyond false r x n q = q
 same-end : (m n : ℕ) → Ends n ≡ Ends m → n ≡ m
 same-end m n q = cc
 
-pub lined : (s : List ℕ) (options n : ℕ) → Ends n ≡ checkedLine s options → Lined s n
+pub lined : (s : List ℕ) (options column n : ℕ) → Ends n ≡ checkedLine s options column → Lined s column n
 unfolding checkedLine lineOf endOf
-lined s options n q =
+lined s options column n q =
     let t = beyond _ _ _ _ q in
-    let short : length s ≤ 16384 = ltb-false _ _ (past _ _ _ _ t) in
-    let e : n ≡ endOf s = same-end _ _ (beyond _ _ _ _ (beyond _ _ _ _ t)) in
+    let u = beyond _ _ _ _ t in
+    let near : column ≤ 16384 = ltb-false _ _ (past _ _ _ _ t) in
+    let short : length s ≤ 16384 = ltb-false _ _ (past _ _ _ _ u) in
+    let e : n ≡ endOf s = same-end _ _ (beyond _ _ _ _ (beyond _ _ _ _ u)) in
     let z : n - 0 ≡ endOf s = omega arith in
-    record { end = e; within = omega (arith, leading-short noFeed s); short = short; part = ap (λ (k : ℕ). take k s) z }
+    record { end = e; within = omega (arith, leading-short noFeed s); short = short; near = near; part = ap (λ (k : ℕ). take k s) z }
 
 -- what is found on the line, as the part of the slice before its end
-pub found-by : {A : Type 0} (s : List ℕ) (options : ℕ) (bad : Refusal → A) (found : List ℕ → A) (n : ℕ) (r : A) →
-    Ends n ≡ checkedLine s options → r ≡ found (take (n - 0) (drop 0 s)) → r ≡ reading (checkedLine s options) bad (found (lineOf s))
+pub found-by : {A : Type 0} (s : List ℕ) (options column : ℕ) (bad : Refusal → A) (found : List ℕ → A) (n : ℕ) (r : A) →
+    Ends n ≡ checkedLine s options column → r ≡ found (take (n - 0) (drop 0 s)) → r ≡ reading (checkedLine s options column) bad (found (lineOf s))
 unfolding reading
-found-by s options bad found n r q e = rw (← q) (e ∙ ap found (lined s options n q .part))
+found-by s options column bad found n r q e = rw (← q) (e ∙ ap found (lined s options column n q .part))
+
+-- the line fits into the columns that a reader counts
+pub lined-fits : (s : List ℕ) (column n : ℕ) → Lined s column n → column + 4 * length (take (n - 0) (drop 0 s)) ≤ 81920
+lined-fits s column n l =
+    let a = l .near in
+    let b = l .short in
+    let c = l .within in
+    omega (arith, length-take (n - 0) (drop 0 s))

@@ -2,7 +2,6 @@
 -- Assumes nothing.
 use mathlib.Core.Path.{_≡_, refl, ap, _∙_}
 use mathlib.Core.Bool.{Bool, true, false}
-use mathlib.Core.Logic.{_⊎_, ⊎-elim}
 use mathlib.Core.List.{List, [], _∷_}
 use Prim.Native.Nat.{ℕ, zero, suc, _+_, _≤_, _<_}
 use native.Mathlib.Nat.{zero-add}
@@ -131,32 +130,6 @@ module _ {kind : ℕ → Bool} {l : List ℕ} {n : ℕ} (i : Counting kind l n) 
 
   pub ended : length l ≤ n → n ≡ leading kind l
   ended h = omega (arith, run-none kind l n h, i .rest)
-
--- the same up to a maximum
-pub record CountingTo (kind : ℕ → Bool) (l : List ℕ) (max n : ℕ) : Type 0 where
-  pub low : n ≤ length l
-  pub counted : Counting kind (take max l) n
-
-pub start-to : (kind : ℕ → Bool) (l : List ℕ) (max : ℕ) → CountingTo kind l max 0
-start-to kind l max = record { low = omega arith; counted = start kind (take max l) }
-
-module _ {kind : ℕ → Bool} {l : List ℕ} {max n : ℕ} (i : CountingTo kind l max n) where
-  pub turn-to : n < length l → n < max → kind (getD l n 0) ≡ true → CountingTo kind l max (n + 1)
-  turn-to h m e =
-      record { low = omega arith; counted = turn (i .counted) (omega (arith, length-take max l)) (ap kind (getD-take max l n 0 m) ∙ e) }
-
-  pub stopped-to : n < length l → n < max → kind (getD l n 0) ≡ false → n ≡ leading kind (take max l)
-  stopped-to h m e = stopped (i .counted) (omega (arith, length-take max l)) (ap kind (getD-take max l n 0 m) ∙ e)
-
-  full-to : max ≤ n → n ≡ leading kind (take max l)
-  full-to h = ended (i .counted) (omega (arith, length-take max l))
-
-  ended-to : length l ≤ n → n ≡ leading kind (take max l)
-  ended-to h = ended (i .counted) (omega (arith, length-take max l))
-
-  -- at the end of the first bytes, where there are no more than these before the list's end and the maximum
-  pub done-to : {end near most : ℕ} → (length l ≤ end) ⊎ (max ≤ end) → (end ≤ near) ⊎ (most ≤ near) → near < most → near ≤ n → n ≡ leading kind (take max l)
-  done-to e m h k = ⊎-elim (λ a. ⊎-elim (λ b. ended-to (omega arith)) (λ b. full-to (omega arith)) e) (λ a. absurd (omega arith)) m
 
 -- a run that is passed to its last byte, before an end: what is passed and what is left of it there make up the whole
 pub run-passed : {kind : ℕ → Bool} {l : List ℕ} {from end r : ℕ} (n : ℕ) → end ≡ from + n → end ≤ length l → Passed kind l from end 1 r →

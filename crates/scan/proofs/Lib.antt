@@ -1,6 +1,10 @@
 pub mod Leading
-pub mod Counted
+pub mod Before
 pub mod ByteKinds
 pub mod Checks
 pub mod Blanks
 pub mod ExactlyChecked
+pub mod InColumns
+pub mod Taken
+pub mod OneReach
+pub mod AsIf

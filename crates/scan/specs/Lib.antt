@@ -2,3 +2,5 @@ pub mod Run
 pub mod Columns
 pub mod Line
 pub mod Rows
+pub mod Before
+pub mod AsIf

@@ -38,13 +38,15 @@ LineEnds = (s : List ℕ) → EndsBeforeFeed s (length (lineOf s)) × (lineOf s 
 abbrev pub refusal : ℕ → ℕ → Refusal
 refusal number place = record { number = number; place = place }
 
--- "options over 63", "a line over 16,384 bytes" (amendment D18), "a carriage return in the .. line"; "3 and 4 look past" the line feed
-unfoldable pub checkedLine : List ℕ → ℕ → Checked
-checkedLine s options =
+-- "options over 63"; document 02: "2 also when a starting column is over 16,384" (amendment D18: the standard sets no limit); "a line over 16,384 bytes"
+-- (D18), "a carriage return in the .. line"; "3 and 4 look past" the line feed
+unfoldable pub checkedLine : List ℕ → ℕ → ℕ → Checked
+checkedLine s options column =
     choose (ltb 63 options) (Bad (refusal 2 0))
+    (choose (ltb 16384 column) (Bad (refusal 2 0))
     (choose (ltb 16384 (length s)) (Bad (refusal 3 16384))
     (choose (ltb (firstReturn (length s) s 0) (length s)) (Bad (refusal 4 (firstReturn (length s) s 0)))
-    (Ends (endOf s))))
+    (Ends (endOf s)))))
 
 -- Numbers given back: a flag is 0 or 1
 abbrev pub flag : Bool → ℕ

@@ -9,12 +9,13 @@ use Rattle.record.specs.Order.{Least}
 use Rattle.record.specs.declared.check.Refusal.{Refusal}
 use Rattle.scan.specs.Line.{refusal}
 
--- the rows of every line reader: "options over 63"; "a line over 16,384 bytes", at 16,384; "a carriage return in the .. line", at its offset.
--- Amendment D18: the standard sets no limit to a line
-pub data Row (s : List ℕ) (options n p : ℕ) : Type 0 where
-  row-2 : 63 < options → n ≡ 2 → p ≡ 0 → Row s options n p
-  row-3 : 16384 < length s → n ≡ 3 → p ≡ 16384 → Row s options n p
-  row-4 : p < length s → getD s p 0 ≡ 13 → n ≡ 4 → Row s options n p
+-- the rows of every line reader: "options over 63", and document 02's "2 also when a starting column is over 16,384"; "a line over 16,384 bytes", at
+-- 16,384; "a carriage return in the .. line", at its offset. Amendment D18: the standard sets no limit to a line or a column
+pub data Row (s : List ℕ) (options column n p : ℕ) : Type 0 where
+  row-2 : 63 < options → n ≡ 2 → p ≡ 0 → Row s options column n p
+  row-2-column : 16384 < column → n ≡ 2 → p ≡ 0 → Row s options column n p
+  row-3 : 16384 < length s → n ≡ 3 → p ≡ 16384 → Row s options column n p
+  row-4 : p < length s → getD s p 0 ≡ 13 → n ≡ 4 → Row s options column n p
 
 -- "Given exactly when": an answer is the refusal n at p just where (n, p) is the least row that holds, and where none does it is what is
 -- found; where it is no refusal none does. Proved of each reader in its crate, for every line and all arguments

@@ -4,10 +4,9 @@ use Prim.Native.Nat.{ℕ, suc, _≤_, _<_}
 use mathlib.Core.Path.{_≡_}
 use mathlib.Core.Bool.{Bool, true, false, not}
 use mathlib.Core.List.{List, [], _∷_}
-use lib.ListN.{length, getD, take}
+use lib.ListN.{length, getD}
 use lib.Dec.{leb, eqb}
 use Rattle.record.specs.Choice.{choose, and}
-use Rattle.record.specs.Options.{optionOn}
 
 unfoldable pub or : Bool → Bool → Bool
 or true b = true
@@ -27,6 +26,10 @@ digit b = and (leb 48 b) (leb b 57)
 
 unfoldable pub hash : ℕ → Bool
 hash b = eqb b 35
+
+-- one byte and no other
+unfoldable pub same : ℕ → ℕ → Bool
+same what b = eqb b what
 
 -- the length of the run at the front whose bytes are all of a kind
 unfoldable pub leading : (ℕ → Bool) → List ℕ → ℕ
@@ -51,37 +54,16 @@ first l = getD l 0 0
 unfoldable pub blank : List ℕ → Bool
 blank l = every spaceOrTab l
 
--- Document 01: "the spaces and tabs that stand there, counted in bytes, up to a maximum".
--- Amendments D8 and D14, to §2.2, where a tab counts as the columns up to the next tab stop: here it counts as one. specs/Columns.antt has both.
-unfoldable pub blanksUpTo : ℕ → List ℕ → ℕ
-blanksUpTo max l = leading spaceOrTab (take max l)
-
--- all of them
+-- how many spaces and tabs stand in front. How wide they are is specs/Columns.antt's
 unfoldable pub blanks : List ℕ → ℕ
 blanks l = leading spaceOrTab l
 
--- §5.2, rule 4: "up to three spaces of indentation"; §4.2: "The opening `#` character may be preceded by up to three spaces of indentation."
-abbrev pub upToThree : List ℕ → ℕ
-upToThree l = blanksUpTo 3 l
-
--- Document 01: "Indentation is at most 3, or free without option 32."
--- Amendment D20: the standard's rule holds with option 32; without it, all spaces and tabs in front are indentation.
-unfoldable pub indentation : ℕ → List ℕ → ℕ
-indentation options l = choose (optionOn options 32) (upToThree l) (blanks l)
-
--- Said a second time, by places: no more than the maximum and than there are; each byte before is a space or a tab; and the next one is not, unless the
--- maximum is reached or nothing is left. Proved: proofs/Blanks.antt
-pub record BlanksTo (max : ℕ) (l : List ℕ) (n : ℕ) : Type 0 where
-  pub at-most : n ≤ max
+-- Said a second time, by places: no more than there are bytes; each byte before is a space or a tab; and the next one is not, unless nothing is left.
+-- Proved: proofs/Blanks.antt
+pub record BlanksTo (l : List ℕ) (n : ℕ) : Type 0 where
   pub within : n ≤ length l
   pub before : (p : ℕ) → p < n → spaceOrTab (getD l p 0) ≡ true
-  pub stops : n < max → n < length l → spaceOrTab (getD l n 0) ≡ false
+  pub stops : n < length l → spaceOrTab (getD l n 0) ≡ false
 
 abbrev pub BlanksCounted : Type 0
-BlanksCounted = (max : ℕ) (l : List ℕ) → BlanksTo max l (blanksUpTo max l)
-
--- the indentation: up to three with option 32, all of them without it
-abbrev pub IndentationCounted : Type 0
-IndentationCounted =
-    (options : ℕ) (l : List ℕ) →
-    (optionOn options 32 ≡ true → BlanksTo 3 l (indentation options l)) × (optionOn options 32 ≡ false → BlanksTo (length l) l (indentation options l))
+BlanksCounted = (l : List ℕ) → BlanksTo l (blanks l)

@@ -14,6 +14,9 @@ ghost use Rattle.scan.specs.Line.{endOf, checkedLine};
 // The longest line.
 pub const MAX_LINE: usize = 16384;
 
+// The last column that a line may start at.
+pub const MAX_COLUMN: usize = 16384;
+
 // Lines shorter than this go by the byte, where blocks would cost two calls. No answer depends on it. A loop over eight bytes or fewer the compiler writes
 // out byte for byte, which makes `check_line` too large to be put into its callers.
 const SHORT: usize = 10;
@@ -45,7 +48,7 @@ fn here_or(byte: u8, what: u8, at: usize, held: usize) -> usize
 // carriage return are held. The compiler puts this into its caller, and `find` not: so a short line is spared two calls.
 fn check_short(s: &[u8]) -> Checked
     requires { ⌜ length (now s) ≤ 16384 ⌝ }
-    ensures { λ r. ⌜ r ≡ checkedLine (now (s .entry)) 0 ⌝ }
+    ensures { λ r. ⌜ r ≡ checkedLine (now (s .entry)) 0 0 ⌝ }
 {
     let mut feed = s.len();
     let mut back = s.len();
@@ -65,10 +68,10 @@ fn check_short(s: &[u8]) -> Checked
 }
 
 // Numbers 2, 3 and 4, the lowest first, or where the line ends.
-pub fn check_line(s: &[u8], options: u32) -> Checked
-    ensures { λ r. ⌜ r ≡ checkedLine (now (s .entry)) options ⌝ }
+pub fn check_line(s: &[u8], options: u32, column: usize) -> Checked
+    ensures { λ r. ⌜ r ≡ checkedLine (now (s .entry)) options column ⌝ }
 {
-    if options > MAX_OPTIONS {
+    if (options > MAX_OPTIONS) | (column > MAX_COLUMN) {
         return Checked::Bad(Refusal {
             number: 2,
             place: 0,

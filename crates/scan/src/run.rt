@@ -14,7 +14,7 @@ ghost use mathlib.Core.Logic.{_⊎_};
 ghost use Prim.Native.Nat.{ℕ, _≤_};
 ghost use lib.ListN.{length, getD};
 ghost use Rattle.record.specs.Stretch.{ofKind};
-ghost use Rattle.scan.specs.Run.{spaceOrTab, leading, digit, hash, filled, blanksUpTo, blanks, indentation};
+ghost use Rattle.scan.specs.Run.{spaceOrTab, leading, digit, hash, filled, blank, blanks};
 
 // How many spaces and tabs go one by one before blocks are tried, which cost a call. No answer depends on it.
 const FEW: usize = 16;
@@ -66,20 +66,19 @@ fn blank_kind() -> ByteKind
     }
 }
 
-// How many spaces and tabs stand in front, before a place, in blocks.
-fn blanks_by_block(rest: &[u8], end: usize) -> usize
-    requires { ⌜ end ≤ length (now rest) ⌝ }
-    ensures { λ r. ⌜ r ≡ blanksUpTo end (now (rest .entry)) ⌝ }
+// How many spaces and tabs stand in front, in blocks.
+fn blanks_by_block(rest: &[u8]) -> usize
+    ensures { λ r. ⌜ r ≡ blanks (now (rest .entry)) ⌝ }
 {
     let kind = blank_kind();
-    let wide = pass_blocks(rest, 0, end, WIDE, kind);
-    let middle = pass_blocks(rest, wide, end, MIDDLE, kind);
-    let narrow = pass_blocks(rest, middle, end, NARROW, kind);
-    pass_blocks(rest, narrow, end, 1, kind)
+    let wide = pass_blocks(rest, 0, rest.len(), WIDE, kind);
+    let middle = pass_blocks(rest, wide, rest.len(), MIDDLE, kind);
+    let narrow = pass_blocks(rest, middle, rest.len(), NARROW, kind);
+    pass_blocks(rest, narrow, rest.len(), 1, kind)
 }
 
 // The lesser of two numbers.
-fn lesser(a: usize, b: usize) -> usize
+pub fn lesser(a: usize, b: usize) -> usize
     ensures { λ r. ⌜ (r ≤ a) × (r ≤ b) × ((a ≤ r) ⊎ (b ≤ r)) ⌝ }
 {
     if a < b {
@@ -88,13 +87,11 @@ fn lesser(a: usize, b: usize) -> usize
     b
 }
 
-// How many spaces and tabs stand in front, up to a maximum. Mostly they are few: so the first bytes go one by one, and blocks follow only where all
-// of these are such.
-pub fn blanks(rest: &[u8], max: usize) -> usize
-    ensures { λ r. ⌜ r ≡ blanksUpTo max (now (rest .entry)) ⌝ }
+// How many spaces and tabs stand in front. Mostly they are few: so the first bytes go one by one, and blocks follow only where all of these are such.
+fn blanks(rest: &[u8]) -> usize
+    ensures { λ r. ⌜ r ≡ blanks (now (rest .entry)) ⌝ }
 {
-    let end = lesser(rest.len(), max);
-    let near = lesser(end, FEW);
+    let near = lesser(rest.len(), FEW);
     let mut n = 0;
     while n < near {
         if !is_blank(rest[n]) {
@@ -105,11 +102,19 @@ pub fn blanks(rest: &[u8], max: usize) -> usize
     if near < FEW {
         return n;
     }
-    // Two calls, and not one with `end`: what is called once the compiler puts into its caller, and `blanks` would then be too large for its own.
-    if max < rest.len() {
-        return blanks_by_block(rest, max);
+    blanks_by_block(rest)
+}
+
+// Whether a line is blank. Its byte at a place is looked at first, any place: mostly a reader came to one that is neither a space nor a tab.
+pub fn is_blank_line(line: &[u8], place: usize) -> bool
+    ensures { λ r. ⌜ r ≡ blank (now (line .entry)) ⌝ }
+{
+    if place < line.len() {
+        if !is_blank(line[place]) {
+            return false;
+        }
     }
-    blanks_by_block(rest, rest.len())
+    blanks(line) == line.len()
 }
 
 // How many spaces and tabs stand in front, one by one: for the gaps of a heading, each of which is a scan, and mostly of one byte.
@@ -166,14 +171,4 @@ pub fn word(rest: &[u8]) -> usize
         n += 1;
     }
     n
-}
-
-// The indentation that a list item or a heading may have: at most 3, or free without option 32.
-pub fn indented(line: &[u8], options: u32) -> usize
-    ensures { λ r. ⌜ r ≡ indentation options (now (line .entry)) ⌝ }
-{
-    if options / 32 % 2 == 1 {
-        return blanks(line, 3);
-    }
-    blanks(line, line.len())
 }

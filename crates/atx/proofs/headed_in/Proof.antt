@@ -18,7 +18,7 @@ is-heading-requires : tie.Need-is-heading-requires
 is-heading-requires c κs = search needs
 
 returns : tie.Need-returns
-returns c = answers-no _ _ _ (sym (c .before .is-heading .ensures) ∙ not-true (c .before .is-heading .result) (c .if1 .taken))
+returns c = answers-no _ _ _ _ (sym (c .before .is-heading .ensures) ∙ not-true (c .before .is-heading .result) (c .if1 .taken))
 
 count-pieces-requires : tie.Need-count-pieces-requires
 count-pieces-requires c κs = search needs
@@ -30,7 +30,7 @@ add-events : tie.Need-add-events
 add-events c = search needs
 
 returns-2 : tie.Need-returns-2
-returns-2 c = answers-seven _ _ _ (sym (c .before .before .before .is-heading .ensures) ∙ not-false (c .before .before .before .is-heading .result) (c .before .before .if1 .left)) _ (c .before .count-pieces .ensures .0) (search needs)
+returns-2 c = answers-seven _ _ _ _ (sym (c .before .before .before .is-heading .ensures) ∙ not-false (c .before .before .before .is-heading .result) (c .before .before .if1 .left)) _ (c .before .count-pieces .ensures .0) (search needs)
 
 mul-if3 : tie.Need-mul-if3
 mul-if3 c = search needs
@@ -39,7 +39,7 @@ add-if3 : tie.Need-add-if3
 add-if3 c = search needs
 
 returns-3 : tie.Need-returns-3
-returns-3 c = answers-eight _ _ _ (sym (c .before .before .before .before .is-heading .ensures) ∙ not-false (c .before .before .before .before .is-heading .result) (c .before .before .before .if1 .left)) _ (c .before .before .count-pieces .ensures .0) (search needs) (search needs)
+returns-3 c = answers-eight _ _ _ _ (sym (c .before .before .before .before .is-heading .ensures) ∙ not-false (c .before .before .before .before .is-heading .result) (c .before .before .before .if1 .left)) _ (c .before .before .count-pieces .ensures .0) (search needs) (search needs)
 
 put-u32-requires : tie.Need-put-u32-requires
 put-u32-requires c κs = search needs
@@ -63,7 +63,7 @@ same-length : tie.Need-same-length
 same-length c = search needs
 
 returns-4 : tie.Need-returns-4
-returns-4 c = answers-heading _ _ _ (sym (c .before .before .before .before .before .before .before .before .before .before .before .before .before .before .before .before .before .before .before .before .is-heading .ensures) ∙ not-false (c .before .before .before .before .before .before .before .before .before .before .before .before .before .before .before .before .before .before .before .before .is-heading .result) (c .before .before .before .before .before .before .before .before .before .before .before .before .before .before .before .before .before .before .before .if1 .left)) _ (c .before .before .before .before .before .before .before .before .before .before .before .before .before .before .before .before .before .before .count-pieces .ensures .0) (search needs) (search needs) _ _ _ _ (c .before .before .before .before .before .before .before .before .before .before .before .before .before .before .put-u32 .ensures) (c .before .before .before .before .before .before .before .before .before .before .put-event .ensures) (c .before .before .before .before .before .before .put-pieces .ensures) (c .before .before .put-event2 .ensures)
+returns-4 c = answers-heading _ _ _ _ (sym (c .before .before .before .before .before .before .before .before .before .before .before .before .before .before .before .before .before .before .before .before .is-heading .ensures) ∙ not-false (c .before .before .before .before .before .before .before .before .before .before .before .before .before .before .before .before .before .before .before .before .is-heading .result) (c .before .before .before .before .before .before .before .before .before .before .before .before .before .before .before .before .before .before .before .if1 .left)) _ (c .before .before .before .before .before .before .before .before .before .before .before .before .before .before .before .before .before .before .count-pieces .ensures .0) (search needs) (search needs) _ _ _ _ (c .before .before .before .before .before .before .before .before .before .before .before .before .before .before .put-u32 .ensures) (c .before .before .before .before .before .before .before .before .before .before .put-event .ensures) (c .before .before .before .before .before .before .put-pieces .ensures) (c .before .before .put-event2 .ensures)
 
 pub headed-in-spec : {M : Type 1} → statement M
 headed-in-spec =

@@ -18,7 +18,7 @@ enum-known-refusal : tie.Need-enum-known-refusal
 enum-known-refusal c = search needs
 
 returns : tie.Need-returns
-returns c = heading-refused _ _ _ _ (sym (c .before .refusal .given .1) ∙ c .before .before .before .check-line .ensures)
+returns c = heading-refused _ _ _ _ _ (sym (c .before .refusal .given .1) ∙ c .before .before .before .check-line .ensures)
 
 enum-known-end : tie.Need-enum-known-end
 enum-known-end c = search needs
@@ -30,16 +30,19 @@ part-headed-in-start : tie.Need-part-headed-in-start
 part-headed-in-start c = search needs
 
 part-headed-in-end : tie.Need-part-headed-in-end
-part-headed-in-end c = let t = lined _ _ _ (sym (c .before .end .given .1) ∙ c .before .before .before .check-line .ensures) in search needs
+part-headed-in-end c = let t = lined _ _ _ _ (sym (c .before .end .given .1) ∙ c .before .before .before .check-line .ensures) in search needs
 
 headed-in-requires : tie.Need-headed-in-requires
-headed-in-requires c κs = let t = lined _ _ _ (sym (c .before .before .before .end .given .1) ∙ c .before .before .before .before .before .check-line .ensures) in search needs
+headed-in-requires c κs = let t = lined _ _ _ _ (sym (c .before .before .before .end .given .1) ∙ c .before .before .before .before .before .check-line .ensures) in
+    let n = t .near in
+    let s = t .short in
+    search needs
 
 same-length : tie.Need-same-length
 same-length c = search needs
 
 returns-2 : tie.Need-returns-2
-returns-2 c = heading-found _ _ _ _ (sym (c .before .before .before .before .before .before .end .given .1) ∙ c .before .before .before .before .before .before .before .before .check-line .ensures) _ _ (c .before .before .headed-in .ensures)
+returns-2 c = heading-found _ _ _ _ _ (sym (c .before .before .before .before .before .before .end .given .1) ∙ c .before .before .before .before .before .before .before .before .check-line .ensures) _ _ (c .before .before .headed-in .ensures)
 
 pub heading-spec : {M : Type 1} → statement M
 heading-spec =

@@ -2,7 +2,6 @@
 -- Assumes nothing.
 use mathlib.Core.Path.{sym, _∙_}
 use Rattle.atx.proofs.Pieces.{blank-piece, hash-piece, data-piece}
-use Rattle.scan.proofs.Blanks.{upTo-all}
 use borrow.Author.Needs.{needs}
 use Rattle.atx.proofs.next_piece.Statement.{statement}
 use Rattle.atx.proofs.next_piece.Tie as tie
@@ -23,7 +22,7 @@ gap-requires : tie.Need-gap-requires
 gap-requires c κs = search needs
 
 returns : tie.Need-returns
-returns c = blank-piece _ _ (sym (c .before .before .is-blank .ensures) ∙ c .before .if1 .taken) (c .gap .ensures ∙ sym (upTo-all _))
+returns c = blank-piece _ _ (sym (c .before .before .is-blank .ensures) ∙ c .before .if1 .taken) (c .gap .ensures)
 
 shared-slice-read-if2 : tie.Need-shared-slice-read-if2
 shared-slice-read-if2 c = search needs

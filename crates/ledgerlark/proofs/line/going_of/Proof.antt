@@ -16,7 +16,7 @@ flag-of-requires : tie.Need-flag-of-requires
 flag-of-requires c κs = search needs
 
 returns : tie.Need-returns
-returns c = sym (goes-on _ _ _ _ (c .before .before .found .given .1) (c .flag-of .ensures))
+returns c = sym (goes-on _ _ _ _ _ (c .before .before .found .given .1) (c .flag-of .ensures))
 
 enum-known-found-2 : tie.Need-enum-known-found-2
 enum-known-found-2 c = search needs

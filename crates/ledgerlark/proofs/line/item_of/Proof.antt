@@ -20,7 +20,7 @@ mark-of-requires : tie.Need-mark-of-requires
 mark-of-requires c κs = search needs
 
 returns : tie.Need-returns
-returns c = sym (an-item _ _ _ _ _ (c .before .before .before .found .given .1) (c .before .flag-of .ensures) (c .mark-of .ensures))
+returns c = sym (an-item _ _ _ _ _ _ (c .before .before .before .found .given .1) (c .before .flag-of .ensures) (c .mark-of .ensures))
 
 enum-told : tie.Need-enum-told
 enum-told c = search needs

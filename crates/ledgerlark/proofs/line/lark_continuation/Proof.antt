@@ -23,7 +23,9 @@ going-of-requires : tie.Need-going-of-requires
 going-of-requires c κs = search needs
 
 returns : tie.Need-returns
-returns c = c .going-of .ensures ∙ ap (λ (x : Going). larkGoing x) (c .before .continuation .ensures ∙ held-kind _ _ _ _ _ _ (c .before .before .kind-of .ensures))
+returns c =
+    c .going-of .ensures
+    ∙ ap (λ (x : Going). larkGoing x) (c .before .continuation .ensures ∙ held-kind _ _ _ _ _ _ _ (c .before .before .kind-of .ensures))
 
 pub lark-continuation-spec : {M : Type 1} → statement M
 lark-continuation-spec =

@@ -19,7 +19,7 @@ same-length : tie.Need-same-length
 same-length c = search needs
 
 returns : tie.Need-returns
-returns c = headed-on _ _ _ _ _ _ (c .before .before .before .heading .ensures) (c .headed-of .ensures)
+returns c = headed-on _ _ _ _ _ _ _ (c .before .before .before .heading .ensures) (c .headed-of .ensures)
 
 pub lark-heading-spec : {M : Type 1} → statement M
 lark-heading-spec = tie.close (tie.spec heading-requires headed-of-requires same-length returns)

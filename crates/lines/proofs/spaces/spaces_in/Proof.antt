@@ -6,16 +6,16 @@ use Rattle.lines.proofs.spaces.spaces_in.Statement.{statement}
 use Rattle.lines.proofs.spaces.spaces_in.Tie as tie
 use Rattle.lines.proofs.spaces.spaces_in.Reads as reads
 use Rattle.lines.proofs.spaces.spaces_in.Lts as lts
-use Rattle.scan.proofs.run.blanks.Reads as blanks-reads
+use Rattle.scan.proofs.columns.reached.Reads as reached-reads
 
-blanks-requires : tie.Need-blanks-requires
-blanks-requires c κs = search needs
+reached-requires : tie.Need-reached-requires
+reached-requires c κs = search needs
 
 returns : tie.Need-returns
-returns c = too-few _ _ _ _ (c .before .blanks .ensures) (search needs)
+returns c = too-few _ _ _ _ _ (c .before .before .reached .ensures) (search needs)
 
 returns-2 : tie.Need-returns-2
-returns-2 c = enough _ _ _ _ (c .before .blanks .ensures) (search needs)
+returns-2 c = enough _ _ _ _ _ (c .before .before .reached .ensures) (search needs)
 
 pub spaces-in-spec : {M : Type 1} → statement M
-spaces-in-spec = tie.close (tie.spec blanks-requires returns returns-2)
+spaces-in-spec = tie.close (tie.spec reached-requires returns returns-2)

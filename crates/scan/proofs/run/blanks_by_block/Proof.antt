@@ -1,7 +1,7 @@
 -- `scan::run::blanks_by_block` meets its contract: narrower blocks go on where wider ones came to, at last by the byte.
 -- Assumes nothing.
 use Rattle.record.proofs.Stretch.{passed-on}
-use Rattle.scan.proofs.Blanks.{upTo-passed}
+use Rattle.scan.proofs.Blanks.{all-passed}
 use borrow.Author.Needs.{needs}
 use Rattle.scan.proofs.run.blanks_by_block.Statement.{statement}
 use Rattle.scan.proofs.run.blanks_by_block.Tie as tie
@@ -27,8 +27,7 @@ pass-blocks-requires-4 c κs = search needs
 
 returns : tie.Need-returns
 returns c =
-    upTo-passed
-    (search needs)
+    all-passed
     (c .before .before .before .before .blank-kind .ensures)
     (passed-on (c .before .before .before .pass-blocks .ensures) (passed-on (c .before .before .pass-blocks2 .ensures) (passed-on (c .before .pass-blocks3 .ensures) (c .pass-blocks4 .ensures))))
 
