@@ -36,13 +36,16 @@ impl Call {
         match self {
             Call::Read => &["number", "place", "document", "events"],
             Call::Attention | Call::Headings | Call::Lists => &["number", "place", "events", "groups", "tried"],
-            Call::SpaceOrTab => &["number", "place", "found", "taken"],
-            Call::ListItem => &["number", "place", "found", "taken", "size", "blank", "mark"],
-            Call::Continuation => &["number", "place", "found", "taken", "blank"],
+            Call::SpaceOrTab => &["number", "place", "found", "taken", "left"],
+            Call::ListItem => &["number", "place", "found", "taken", "left", "size", "blank", "mark"],
+            Call::Continuation => &["number", "place", "found", "taken", "left", "blank"],
             Call::Heading => &["number", "place", "found", "events"],
         }
     }
 }
+
+/// Where the size of a list item stands among the numbers of its answer.
+pub const SIZE: usize = 5;
 
 /// What is asked: a call with the bytes, the options and the other arguments.
 #[derive(Clone, Debug)]
@@ -51,19 +54,31 @@ pub struct Question {
     /// The record or the line.
     pub input: Vec<u8>,
     pub options: u32,
+    /// The column at which a line starts; of a record 0.
+    pub column: usize,
     /// space-or-tab: minimum, maximum; list item: interrupting; continuation: size, flag, mark.
     pub arguments: [usize; 3],
 }
 
+impl Question {
+    /// A question on a record, or on a line that starts at column 0 and needs no more.
+    pub fn new(call: Call, input: Vec<u8>, options: u32) -> Question {
+        Question { call, input, options, column: 0, arguments: [0; 3] }
+    }
+}
+
+/// As many numbers as the longest answer has.
+pub type Numbers = [usize; 8];
+
 #[derive(Clone, Debug, PartialEq, Eq, Default)]
 pub struct Answer {
-    pub numbers: [usize; 7],
+    pub numbers: Numbers,
     pub section: Vec<u8>,
 }
 
 impl Answer {
     pub fn refused(number: usize, place: usize) -> Answer {
-        Answer { numbers: [number, place, 0, 0, 0, 0, 0], section: vec![] }
+        Answer { numbers: [number, place, 0, 0, 0, 0, 0, 0], section: vec![] }
     }
 
     pub fn of(values: &[usize]) -> Answer {
@@ -102,6 +117,9 @@ pub fn show_answer(call: Call, answer: &Answer) -> String {
 impl fmt::Display for Question {
     fn fmt(&self, f: &mut fmt::Formatter<'_>) -> fmt::Result {
         write!(f, "{} options {}", self.call.name(), self.options)?;
+        if matches!(self.call, Call::SpaceOrTab | Call::ListItem | Call::Continuation | Call::Heading) {
+            write!(f, " column {}", self.column)?;
+        }
         match self.call {
             Call::SpaceOrTab => write!(f, " min {} max {}", self.arguments[0], self.arguments[1])?,
             Call::ListItem => write!(f, " interrupting {}", self.arguments[0])?,

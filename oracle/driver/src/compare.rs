@@ -3,13 +3,13 @@
 use std::fmt;
 use std::panic::{catch_unwind, AssertUnwindSafe};
 
-use crate::answer::{show_answer, Answer, Call, Question};
+use crate::answer::{show_answer, Answer, Call, Question, SIZE};
 use crate::content;
 use crate::domain;
 use crate::library::{self, Lent, OUTPUT, WORK};
 use crate::paper;
 use crate::tally::{Difference, Source, Tally};
-use crate_side::{Event, Resolver, Seen, Settings};
+use crate_side::{Event, Read, Resolver, Seen, Settings, Start, Taken};
 
 /// The crate's parser does not get through a document: nothing of it can be compared.
 pub const PANIC: &str = "the crate's own parser panics";
@@ -77,23 +77,48 @@ pub fn resolved(call: Call, before: &[Event], after: &[Event], tried: usize) -> 
     Answer { section, ..Answer::of(&[after.len(), groups, tried]) }
 }
 
-/// The crate's answer to a line.
-pub fn crate_line(question: &Question, settings: &Settings) -> Answer {
-    let Question { call, input, arguments: [a, b, _], .. } = question;
+/// The crate's heading as an answer.
+fn headed(events: &[Event]) -> Answer {
+    let mut section = vec![];
+    crate_side::write_section(events, &mut section);
+    Answer { section, ..Answer::of(&[1, events.len()]) }
+}
+
+/// The crate's answer to a line. So many columns of the tab in front, if one stands there, lie behind the starting column.
+pub fn crate_line(question: &Question, settings: &Settings, within: usize) -> Answer {
+    let Question { call, input, column, arguments: [a, b, _], .. } = question;
+    let start = Start { column: *column, within };
     match call {
-        Call::SpaceOrTab => crate_side::space_or_tab(input, settings, *a, *b).map_or_else(Answer::default, |taken| Answer::of(&[1, taken])),
-        Call::ListItem => crate_side::list_item(input, settings, *a != 0)
-            .map_or_else(Answer::default, |item| Answer::of(&[1, item.taken, item.size, usize::from(item.blank), usize::from(item.mark)])),
-        Call::Continuation => {
-            let going = crate_side::continuation(input, settings, *a, *b != 0);
-            Answer::of(&[usize::from(going.taken.is_some()), going.taken.unwrap_or(0), usize::from(going.blank)])
-        }
-        _ => crate_side::heading(input, settings).map_or_else(Answer::default, |events| {
-            let mut section = vec![];
-            crate_side::write_section(&events, &mut section);
-            Answer { section, ..Answer::of(&[1, events.len()]) }
+        Call::SpaceOrTab => crate_side::space_or_tab(input, settings, start, *a, *b)
+            .map_or_else(Answer::default, |Taken { bytes, left }| Answer::of(&[1, bytes, left])),
+        Call::ListItem => crate_side::list_item(input, settings, start, *a != 0).map_or_else(Answer::default, |item| {
+            Answer::of(&[1, item.taken.bytes, item.taken.left, item.size, usize::from(item.blank), usize::from(item.mark)])
         }),
+        Call::Continuation => {
+            let going = crate_side::continuation(input, settings, start, *a, *b != 0);
+            let Taken { bytes, left } = going.taken.unwrap_or(Taken { bytes: 0, left: 0 });
+            Answer::of(&[usize::from(going.taken.is_some()), bytes, left, usize::from(going.blank)])
+        }
+        _ => crate_side::heading(input, settings, start).map_or_else(Answer::default, |events| headed(&events)),
     }
+}
+
+/// An item's size as the crate has it, where ours is another, and why. Ours counts columns. The crate counts bytes and those columns that it took of a
+/// cut tab, so that a tab that is taken whole is one; and where the line starts within a tab, it counts four columns for that tab less those behind,
+/// which is right only if the tab began at a stop. All else is the same, and where no such tab is taken, so is the size.
+pub fn crate_size(question: &Question, answer: &Answer, within: usize) -> Option<(usize, &'static str)> {
+    let [0, _, 1, taken, _, ours, ..] = answer.numbers else { return None };
+    let (mut column, mut more, mut less, mut cause) = (question.column, 0, 0, WHOLE);
+    for (i, byte) in question.input.iter().enumerate().take(taken) {
+        let wide = if *byte == b'\t' { 4 - column % 4 } else { 1 };
+        let counted = if i == 0 && within > 0 { 4 - within } else { 1 };
+        if i == 0 && within > 0 && counted != wide {
+            cause = BEGUN;
+        }
+        (column, more, less) = (column + wide, more + counted, less + wide);
+    }
+    let size = (ours + more).saturating_sub(less);
+    (question.call == Call::ListItem && size != ours).then_some((size, cause))
 }
 
 /// The document and the events of a record that document 01 accepts.
@@ -143,6 +168,8 @@ pub const CROSSED: &str = "lists that cross, since an item stood right behind an
 pub const FALLING: &str = "an exit before the exit within it";
 pub const BACK: &str = "Data that goes back to the `^` of a footnote's label";
 pub const UNPAIRED: &str = "events that do not pair, since frontmatter was looked for";
+pub const WHOLE: &str = "a tab that is taken whole is one in an item's size";
+pub const BEGUN: &str = "a tab within which an item's line starts counts in its size as if it had begun at a stop";
 
 /// The same events with no place below the one before.
 fn raised(events: &[Event]) -> Vec<Event> {
@@ -156,7 +183,8 @@ fn raised(events: &[Event]) -> Vec<Event> {
 
 /// A number that comes from the question alone, so that its buffers are the same in every run, on whichever thread it is put.
 fn turn_of(question: &Question) -> usize {
-    let numbers = question.arguments.iter().map(|argument| *argument as u64).chain([question.call as u64, u64::from(question.options)]);
+    let more = [question.call as u64, u64::from(question.options), question.column as u64];
+    let numbers = question.arguments.iter().map(|argument| *argument as u64).chain(more);
     let mix = |sum: u64, value: u64| (sum ^ value).wrapping_mul(0x0000_0100_0000_01b3);
     let sum = question.input.iter().map(|byte| u64::from(*byte)).chain(numbers).fold(0xcbf2_9ce4_8422_2325, mix);
     (sum >> 16) as usize
@@ -177,7 +205,7 @@ fn line_read<'a>(document: &'a [u8], heading: &[Event]) -> Option<&'a [u8]> {
     let (from, to) = (heading.first()?.place, heading.last()?.place);
     let line = &document[from as usize..to as usize];
     // The option for headings alone: indentation is free then.
-    let question = Question { call: Call::Heading, input: line.to_vec(), options: 8, arguments: [0; 3] };
+    let question = Question::new(Call::Heading, line.to_vec(), 8);
     let moved: Vec<Event> = heading.iter().map(|event| Event { place: event.place - from, ..*event }).collect();
     let mut section = vec![];
     crate_side::write_section(&moved, &mut section);
@@ -215,7 +243,7 @@ impl Bench {
         let settings = self.settings(question.options);
         if takes_record(question.call) {
             let (document, before) = parts_of(&question.input);
-            if let Some(reason) = domain::document_outside(document) {
+            if let Some(reason) = domain::bytes_outside(document) {
                 return Word::Outside(reason);
             }
             if let Some(reason) = domain::departs(question.call, &before) {
@@ -229,10 +257,10 @@ impl Bench {
             return catch_unwind(AssertUnwindSafe(run))
                 .map_or(Word::Panics, |after| Word::Says(resolved(question.call, &before, &after, paper.numbers[4])));
         }
-        if let Some(reason) = domain::line_outside(question.call, &question.input) {
+        if let Some(reason) = domain::bytes_outside(&question.input) {
             return Word::Outside(reason);
         }
-        catch_unwind(AssertUnwindSafe(|| crate_line(question, settings))).map_or(Word::Panics, Word::Says)
+        catch_unwind(AssertUnwindSafe(|| crate_line(question, settings, 0))).map_or(Word::Panics, Word::Says)
     }
 
     fn differ(&mut self, kind: &str, question: &Question, source: Source, ours: &str, theirs: &str, document: Option<Markdown>) {
@@ -275,15 +303,25 @@ impl Bench {
         if question.call == Call::Headings {
             self.hold_contents(question, source, &ours, document);
         }
+        if let Some(mut seen) = known.clone().filter(|_| !takes_record(question.call)) {
+            // The events of a document do not show an item's size and flag.
+            if question.call == Call::ListItem {
+                seen.numbers[SIZE..SIZE + 2].copy_from_slice(&ours.numbers[SIZE..SIZE + 2]);
+            }
+            self.tally.read += 1;
+            if seen != ours {
+                let (us, it) = (show_answer(question.call, &ours), show_answer(question.call, &seen));
+                self.differ("not as the crate reads it in a document", question, source, &us, &format!("crate: {it}"), document);
+            }
+        }
         let word = self.ask_crate(question, &paper, known);
         if let Word::Says(_) = word {
             *self.tally.answered.entry(question.call).or_default() += 1;
         }
         match word {
-            Word::Says(answer) if answer == ours => (),
             Word::Says(answer) => {
-                let (us, it) = (show_answer(question.call, &ours), show_answer(question.call, &answer));
-                self.differ("not as the crate", question, source, &us, &format!("crate: {it}"), document);
+                self.hold(question, source, &ours, &answer, 0, document);
+                self.ask_within(question, source, &ours, document);
             }
             Word::Outside(reason) => {
                 *self.tally.skipped.entry((question.call, reason)).or_default() += 1;
@@ -291,6 +329,41 @@ impl Bench {
             }
             Word::Departs(reason) => *self.tally.skipped.entry((question.call, reason)).or_default() += 1,
             Word::Panics => *self.tally.panics.entry((question.call, source)).or_default() += 1,
+        }
+    }
+
+    /// Hold the crate's answer against ours. An item's size may be another, by as much as it has to be and no more.
+    fn hold(&mut self, question: &Question, source: Source, ours: &Answer, theirs: &Answer, within: usize, document: Option<Markdown>) {
+        let counted = crate_size(question, ours, within);
+        let mut wanted = ours.clone();
+        if let Some((size, _)) = counted {
+            wanted.numbers[SIZE] = size;
+        }
+        let kind = match counted {
+            _ if *theirs != wanted => "not as the crate",
+            Some((_, cause)) => cause,
+            None => return,
+        };
+        let (us, it) = (show_answer(question.call, ours), show_answer(question.call, theirs));
+        let where_it_starts = if within > 0 { format!(", {within} columns into the tab") } else { String::new() };
+        self.differ(kind, question, source, &us, &format!("crate{where_it_starts}: {it}"), document);
+    }
+
+    /// A line that begins with a tab and starts between two stops may start within that tab: a container took its first columns. The library is not
+    /// told; the crate is asked as it then stands, once for each column at which the tab can have begun.
+    fn ask_within(&mut self, question: &Question, source: Source, ours: &Answer, document: Option<Markdown>) {
+        if takes_record(question.call) || question.input.first() != Some(&b'\t') {
+            return;
+        }
+        for within in 1..=question.column % 4 {
+            let run = || crate_line(question, self.settings(question.options), within);
+            match catch_unwind(AssertUnwindSafe(run)) {
+                Ok(answer) => {
+                    self.tally.within += 1;
+                    self.hold(question, source, ours, &answer, within, document);
+                }
+                Err(_) => *self.tally.panics.entry((question.call, source)).or_default() += 1,
+            }
         }
     }
 
@@ -344,12 +417,29 @@ impl Bench {
 
     /// Put a line to the heading reader, and what the library reads there to its resolver.
     pub fn read_and_resolve(&mut self, line: Vec<u8>, options: u32, source: Source) {
-        let record = library::heading_record(&line, options, &mut self.lent);
-        self.ask(&Question { call: Call::Heading, input: line, options, arguments: [0; 3] }, source);
+        let record = library::heading_record(&line, options, 0, &mut self.lent);
+        self.ask(&Question::new(Call::Heading, line, options), source);
         // What it may have done to the buffers instead is told by the first of the two.
         if let Ok(Some(question)) = record {
             self.ask(&question, source);
         }
+    }
+
+    /// Put what the crate read in a document to the library's reader: the rest of the line, at the column where the crate stood. Without a column and a
+    /// tab it is a line like all others.
+    fn ask_read(&mut self, read: &Read, options: u32, source: Source, markdown: Markdown) {
+        let (call, place, start, known) = match read {
+            Read::Item { place, start, taken, mark } => {
+                (Call::ListItem, *place, *start, Answer::of(&[1, taken.bytes, taken.left, 0, 0, usize::from(*mark)]))
+            }
+            Read::Heading { place, start, events } => (Call::Heading, *place, *start, headed(events)),
+        };
+        let line: Vec<u8> = markdown.bytes[place..].iter().copied().take_while(|byte| *byte != b'\n').collect();
+        if start.column == 0 && !line.contains(&b'\t') || domain::bytes_outside(&line).is_some() {
+            return;
+        }
+        let question = Question { column: start.column, ..Question::new(call, line, options) };
+        self.ask_known(&question, source, Some(known), Some(markdown));
     }
 
     /// Everything the crate's resolvers were seen to do with a document, or with text alone.
@@ -366,22 +456,22 @@ impl Bench {
                 return self.tally.differ(format!("{PANIC}{}", if more { ", with math and frontmatter" } else { "" }), found);
             }
         };
-        for Seen { which, before, after, within_tab, edits_before } in seen {
+        for Seen { which, before, after, within_tab, edits_before, read } in seen {
             let call = call_of(which);
+            read.iter().for_each(|one| self.ask_read(one, options, source, markdown));
             let reason = if document.len() > 16_384 || before.len() > 2_048 || depth_of(&before) > 64 {
                 Some("captured, over the record's limits")
             } else if edits_before {
                 Some("captured, with edits of another resolver")
-            } else if within_tab {
-                Some("captured, with an event within a tab")
             } else {
-                domain::document_outside(document)
+                domain::bytes_outside(document)
             };
             if let Some(reason) = reason {
                 *self.tally.skipped.entry((call, reason)).or_default() += 1;
                 continue;
             }
-            let question = Question { call, input: crate_side::write_record(document, &before), options, arguments: [0; 3] };
+            let question = Question::new(call, crate_side::write_record(document, &before), options);
+            self.tally.captured_within += u64::from(within_tab);
             let known = resolved(call, &before, &after, 0);
             self.ask_known(&question, source, Some(known), Some(markdown));
             // Where places fall, the resolvers are compared on the events with those places raised.

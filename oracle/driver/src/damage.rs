@@ -125,7 +125,7 @@ pub fn record(chance: &mut Chance) -> (Question, usize, usize) {
 /// A line with bytes and lengths that no document of the domain has.
 pub fn line(chance: &mut Chance) -> (Question, usize) {
     let call = *chance.pick(&[Call::SpaceOrTab, Call::ListItem, Call::Continuation, Call::Heading]);
-    let mut question = lines::line(call, chance);
+    let mut question = if chance.once_in(2) { lines::tabbed(call, chance) } else { lines::line(call, chance) };
     for _ in 0..chance.below(3) {
         let at = chance.below(question.input.len() + 1);
         question.input.insert(at, if chance.once_in(3) { *chance.pick(b"\r\n\t\x0b\x80") } else { chance.below(256) as u8 });
@@ -135,6 +135,9 @@ pub fn line(chance: &mut Chance) -> (Question, usize) {
         question.input.resize(to, *chance.pick(b" a#\r\n"));
     }
     question.options = options(chance, question.options);
+    if chance.once_in(20) {
+        question.column = *chance.pick(&[16_383, 16_384, 16_385, 16_386, u32::MAX as usize, usize::MAX - 1, usize::MAX]);
+    }
     let output = if chance.once_in(4) { chance.below(100) } else { OUTPUT };
     (question, output)
 }

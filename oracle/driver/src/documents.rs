@@ -86,24 +86,41 @@ fn string(letters: &mut Chars) -> Option<String> {
     }
 }
 
-/// A document brought into the domain: no carriage return or vertical tab, tabs that lead a line as spaces, and a letter for all beyond ASCII.
+/// A document brought into the domain: no carriage return or vertical tab, and a letter for all beyond ASCII.
 fn tamed(text: &str) -> Vec<u8> {
     let mut out = vec![];
-    for line in text.split('\n') {
-        let mut leading = true;
-        for letter in line.chars() {
-            leading &= matches!(letter, ' ' | '\t' | '>' | '*' | '+' | '-' | '0'..='9' | '.' | ')');
-            match letter {
-                '\r' => (),
-                '\x0b' => out.push(b' '),
-                '\t' if leading => out.extend_from_slice(b"    "),
-                _ if letter.is_ascii() => out.push(letter as u8),
-                _ => out.push(b'x'),
-            }
+    for letter in text.chars() {
+        match letter {
+            '\r' => (),
+            '\x0b' => out.push(b' '),
+            _ if letter.is_ascii() => out.push(letter as u8),
+            _ => out.push(b'x'),
         }
-        out.push(b'\n');
     }
-    out.pop();
+    out
+}
+
+/// A document with tabs among what leads its lines: for runs of spaces, as an editor puts them, or for any space.
+pub fn tabbed(document: &[u8], chance: &mut Chance) -> Vec<u8> {
+    let leads = |byte: u8| matches!(byte, b' ' | b'\t' | b'>' | b'*' | b'+' | b'-' | b'0'..=b'9' | b'.' | b')' | b'#');
+    let often = 2 + chance.below(6);
+    let mut out = vec![];
+    let (mut leading, mut column) = (true, 0);
+    for byte in document {
+        leading = *byte == b'\n' || leading && leads(*byte);
+        if *byte == b' ' && leading && chance.once_in(often) {
+            // At times the tab stands for the spaces before it too, so that the columns stay what they were.
+            while out.last() == Some(&b' ') && column % 4 != 0 && chance.once_in(2) {
+                out.pop();
+                column -= 1;
+            }
+            out.push(b'\t');
+            column += 4 - column % 4;
+        } else {
+            out.push(*byte);
+            column = if *byte == b'\n' { 0 } else { column + 1 };
+        }
+    }
     out
 }
 

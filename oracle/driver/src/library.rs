@@ -9,7 +9,7 @@
 #[rustfmt::skip]
 mod ffi;
 
-use crate::answer::{Answer, Call, Question};
+use crate::answer::{Answer, Call, Numbers, Question};
 
 /// Room for the largest section, and for lengths past it.
 pub const OUTPUT: usize = 4 + 8 * 8_000 + 64;
@@ -32,41 +32,41 @@ impl Lent {
 }
 
 #[cfg(feature = "library")]
-fn numbers(question: &Question, output: &mut [u8], work: &mut [u8]) -> [usize; 7] {
-    let Question { call, input, options, arguments: [a, b, m] } = question;
-    let options = *options;
-    let resolved = |r: ffi::Resolved| [r.number, r.place, r.events, r.groups, r.tried, 0, 0];
+fn numbers(question: &Question, output: &mut [u8], work: &mut [u8]) -> Numbers {
+    let Question { call, input, options, column, arguments: [a, b, m] } = question;
+    let (options, column) = (*options, *column);
+    let resolved = |r: ffi::Resolved| [r.number, r.place, r.events, r.groups, r.tried, 0, 0, 0];
     match call {
         Call::Read => {
             let r = ffi::read(input, options, work);
-            [r.number, r.place, r.document, r.events, 0, 0, 0]
+            [r.number, r.place, r.document, r.events, 0, 0, 0, 0]
         }
         Call::Attention => resolved(ffi::resolve_attention(input, options, output, work)),
         Call::Headings => resolved(ffi::resolve_headings(input, options, output, work)),
         Call::Lists => resolved(ffi::resolve_lists(input, options, output, work)),
         Call::SpaceOrTab => {
-            let r = ffi::space_or_tab(input, options, *a, *b);
-            [r.number, r.place, r.found, r.taken, 0, 0, 0]
+            let r = ffi::space_or_tab(input, options, column, *a, *b);
+            [r.number, r.place, r.found, r.taken, r.left, 0, 0, 0]
         }
         Call::ListItem => {
-            let r = ffi::list_item(input, options, *a != 0);
-            [r.number, r.place, r.found, r.taken, r.size, r.blank, r.mark]
+            let r = ffi::list_item(input, options, column, *a != 0);
+            [r.number, r.place, r.found, r.taken, r.left, r.size, r.blank, r.mark]
         }
         Call::Continuation => {
             let mark = u8::try_from(*m).expect("a mark is one byte");
-            let r = ffi::continuation(input, options, *a, *b != 0, mark);
-            [r.number, r.place, r.found, r.taken, r.blank, 0, 0]
+            let r = ffi::continuation(input, options, column, *a, *b != 0, mark);
+            [r.number, r.place, r.found, r.taken, r.left, r.blank, 0, 0]
         }
         Call::Heading => {
-            let r = ffi::heading(input, options, output);
-            [r.number, r.place, r.found, r.events, 0, 0, 0]
+            let r = ffi::heading(input, options, column, output);
+            [r.number, r.place, r.found, r.events, 0, 0, 0, 0]
         }
     }
 }
 
 /// With no library to link, document 01 itself answers.
 #[cfg(not(feature = "library"))]
-fn numbers(question: &Question, output: &mut [u8], work: &mut [u8]) -> [usize; 7] {
+fn numbers(question: &Question, output: &mut [u8], work: &mut [u8]) -> Numbers {
     let answer = crate::paper::answer(question, output.len(), work.len());
     output[..answer.section.len()].copy_from_slice(&answer.section);
     work.fill(0);
@@ -108,12 +108,13 @@ pub fn answer(question: &Question, output: usize, work: usize, lent: &mut Lent) 
     Ok(Answer { numbers, section: lent.output[..length].to_vec() })
 }
 
-/// What the library makes of a line for its own resolver, if it reads a heading there: the line with the section that it writes, as a record.
-pub fn heading_record(line: &[u8], options: u32, lent: &mut Lent) -> Result<Option<Question>, &'static str> {
-    let read = answer(&Question { call: Call::Heading, input: line.to_vec(), options, arguments: [0; 3] }, OUTPUT, WORK, lent)?;
+/// What the library makes of a line for its own resolver, if it reads a heading there, at a column: the line with the section that it writes, as a
+/// record.
+pub fn heading_record(line: &[u8], options: u32, column: usize, lent: &mut Lent) -> Result<Option<Question>, &'static str> {
+    let read = answer(&Question { column, ..Question::new(Call::Heading, line.to_vec(), options) }, OUTPUT, WORK, lent)?;
     if read.section.is_empty() {
         return Ok(None);
     }
     let input = [&(line.len() as u32).to_le_bytes(), line, &read.section].concat();
-    Ok(Some(Question { call: Call::Headings, input, options, arguments: [0; 3] }))
+    Ok(Some(Question::new(Call::Headings, input, options)))
 }

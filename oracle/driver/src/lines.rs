@@ -105,7 +105,32 @@ pub fn line(call: Call, chance: &mut Chance) -> Question {
         Call::Continuation => [size(chance), chance.below(2), *chance.pick(b"*+-.)") as usize],
         _ => [0; 3],
     };
-    Question { call, input: line, options, arguments }
+    Question { arguments, ..Question::new(call, line, options) }
+}
+
+/// A starting column: small, as after a few containers, or near the limit.
+pub fn column(chance: &mut Chance) -> usize {
+    match chance.below(10) {
+        0 => 16_384 - chance.below(9),
+        1 => chance.below(16_385),
+        2..=4 => chance.below(40),
+        _ => chance.below(9),
+    }
+}
+
+/// The same with a tab for some of its spaces and tabs here and there among them, and with a starting column.
+pub fn tabbed(call: Call, chance: &mut Chance) -> Question {
+    let question = line(call, chance);
+    let mut input = vec![];
+    for byte in question.input {
+        match byte {
+            b' ' if chance.once_in(2) => input.push(b'\t'),
+            b' ' if chance.once_in(8) => input.extend_from_slice(b" \t"),
+            _ => input.push(byte),
+        }
+    }
+    input.truncate(16_384);
+    Question { input, column: column(chance), ..question }
 }
 
 /// What the random headings are made of: spaces and tabs, `#` runs, words, one of them a form feed, and backslashes.

@@ -1,11 +1,12 @@
-//! Holds the static library against the crate markdown 1.0.0, both against document 01 in plain Rust, and the library's headings against the
-//! standard: the content of their lines, and its examples.
+//! Holds the static library against the crate markdown 1.0.0, both against document 01 in plain Rust, and the library against the standard: the
+//! content of its headings' lines, and the examples of headings, tabs, list items and other blocks.
 //!
 //! `oracle/run` builds and runs it. Arguments: `--markdown DIR` (as often as wanted) adds Markdown files and the standard's examples, `--scale N`
 //! divides the counts by N for a short run, `--differences FILE` names the list of known ones, `--store FILE` writes the stored list of the crate's
 //! answers and does nothing else. Status 1 if anything differs that is not listed.
 
 mod answer;
+mod blocks;
 mod chance;
 mod compare;
 mod content;
@@ -28,16 +29,19 @@ use std::time::{Duration, Instant};
 
 use answer::{Call, Question};
 use chance::Chance;
-use compare::{Bench, Markdown, BACK, BEHIND, CROSSED, FALLING, PANIC, UNPAIRED};
+use compare::{Bench, Markdown, BACK, BEGUN, BEHIND, CROSSED, FALLING, PANIC, UNPAIRED, WHOLE};
 use documents::Found;
 use lines::Strings;
 use tally::{Source, Tally};
 
 const THREADS: usize = 2;
 const READERS: [Call; 4] = [Call::SpaceOrTab, Call::ListItem, Call::Continuation, Call::Heading];
+/// Starting columns: all there are between two stops, the stop itself, and the last ones up to the limit.
+const COLUMNS: [usize; 9] = [0, 1, 2, 3, 4, 16_381, 16_382, 16_383, 16_384];
 
 /// Kinds of difference that are known, by the number of their row in docs/DIFFERENCES.md.
-const LISTED: [(&str, &str); 5] = [("D12", BEHIND), ("D12", CROSSED), ("D13", FALLING), ("D15", BACK), ("D16", UNPAIRED)];
+const LISTED: [(&str, &str); 7] =
+    [("D12", BEHIND), ("D12", CROSSED), ("D13", FALLING), ("D14", WHOLE), ("D14", BEGUN), ("D15", BACK), ("D16", UNPAIRED)];
 
 struct Run {
     tally: Tally,
@@ -135,7 +139,7 @@ fn exhaustive(run: &mut Run) {
         bench.watch(Markdown { bytes: &text, text_alone: true, more: false }, 59, Source::Exhaustive);
     });
     let put = |bench: &mut Bench, call: Call, line: &[u8], options: u32, arguments: [usize; 3]| {
-        bench.ask(&Question { call, input: line.to_vec(), options, arguments }, Source::Exhaustive);
+        bench.ask(&Question { arguments, ..Question::new(call, line.to_vec(), options) }, Source::Exhaustive);
     };
     run.strings("lines for space-or-tab", &Strings::new(b" a\n", 6), |bench, line| {
         for (min, max) in (0..8).flat_map(|min| (0..8).map(move |max| (min, max))) {
@@ -163,11 +167,63 @@ fn exhaustive(run: &mut Run) {
     for (name, alphabet) in [("headings of `# a.` to 9, read and resolved", b"# a."), ("headings of `# \\ta` to 9, read and resolved", b"# \ta")] {
         run.strings(name, &Strings::new(alphabet, 9), |bench, line| bench.read_and_resolve(line, 59, Source::Exhaustive));
     }
-    for (name, alphabet, longest) in [("documents of `-1. a\\n>` to 7", &b"-1. a\n>"[..], 7), ("documents of `*-# \\n` to 8", b"*-# \n", 8)] {
+    columns(run);
+    let some: [(&str, &'static [u8], u32); 4] = [
+        ("documents of `-1. a\\n>` to 7", b"-1. a\n>", 7),
+        ("documents of `*-# \\n` to 8", b"*-# \n", 8),
+        ("documents of `-\\t a\\n>` to 7", b"-\t a\n>", 7),
+        ("documents of `1.\\t#\\n>` to 7", b"1.\t#\n>", 7),
+    ];
+    for (name, alphabet, longest) in some {
         run.strings(name, &Strings::new(alphabet, longest), |bench, document| {
             bench.watch(Markdown { bytes: &document, text_alone: false, more: false }, 59, Source::Exhaustive);
         });
     }
+}
+
+/// Lines with tabs anywhere, and starting columns.
+fn columns(run: &mut Run) {
+    const LETTERS: &[u8] = b" \t-1.a#";
+    let put = |bench: &mut Bench, call: Call, line: &[u8], options: u32, column: usize, arguments: [usize; 3]| {
+        bench.ask(&Question { column, arguments, ..Question::new(call, line.to_vec(), options) }, Source::Exhaustive);
+    };
+    run.strings("lines of ` \\ta` to 5 at columns, for space-or-tab", &Strings::new(b" \ta", 5), |bench, line| {
+        for column in COLUMNS {
+            for (min, max) in (0..10).flat_map(|min| (0..10).map(move |max| (min, max))) {
+                put(bench, Call::SpaceOrTab, &line, 59, column, [min, max, 0]);
+            }
+        }
+    });
+    run.strings("lines of ` \\t-1.a#` to 5 at columns, for list items", &Strings::new(LETTERS, 5), |bench, line| {
+        for column in COLUMNS {
+            for (options, interrupting) in [(59, 0), (59, 1), (27, 0), (27, 1)] {
+                put(bench, Call::ListItem, &line, options, column, [interrupting, 0, 0]);
+            }
+        }
+    });
+    run.strings("lines of ` \\t-a` to 7 at columns, for list items", &Strings::new(b" \t-a", 7), |bench, line| {
+        for (column, options) in (0..4).flat_map(|column| [59, 27].map(|options| (column, options))) {
+            put(bench, Call::ListItem, &line, options, column, [0; 3]);
+        }
+    });
+    run.strings("lines of ` \\t-1.a#` to 4 at columns, for continuation", &Strings::new(LETTERS, 4), |bench, line| {
+        for (column, size, blank) in COLUMNS.into_iter().flat_map(|column| (0..10).flat_map(move |size| [0, 1].map(|blank| (column, size, blank)))) {
+            put(bench, Call::Continuation, &line, 59, column, [size, blank, b'-' as usize]);
+        }
+    });
+    run.strings("lines of ` \\ta` to 6 at columns, for continuation", &Strings::new(b" \ta", 6), |bench, line| {
+        for (column, size, blank) in (0..5).flat_map(|column| (0..14).flat_map(move |size| [0, 1].map(|blank| (column, size, blank)))) {
+            put(bench, Call::Continuation, &line, 59, column, [size, blank, b'.' as usize]);
+        }
+    });
+    run.strings("lines of ` \\t-1.a#` to 5 at columns, for headings", &Strings::new(LETTERS, 5), |bench, line| {
+        for (column, options) in COLUMNS.into_iter().flat_map(|column| [59, 27].map(|options| (column, options))) {
+            put(bench, Call::Heading, &line, options, column, [0; 3]);
+        }
+    });
+    run.strings("lines of ` \\t#a` to 7 at columns, for headings", &Strings::new(b" \t#a", 7), |bench, line| {
+        (0..4).for_each(|column| put(bench, Call::Heading, &line, 59, column, [0; 3]));
+    });
 }
 
 fn random(run: &mut Run) {
@@ -208,7 +264,16 @@ fn random(run: &mut Run) {
     let many = run.some(1_200_000);
     for call in READERS {
         run.stage(&format!("random lines for {}", call.name()), many, |bench, i| {
-            bench.ask(&lines::line(call, &mut Chance::new(5_000_000_000 + 8 * i as u64 + call as u64)), Source::Random);
+            let chance = &mut Chance::new(5_000_000_000 + 8 * i as u64 + call as u64);
+            let question = lines::line(call, chance);
+            let column = if chance.once_in(3) { lines::column(chance) } else { 0 };
+            bench.ask(&Question { column, ..question }, Source::Random);
+        });
+    }
+    let many = run.some(400_000);
+    for call in READERS {
+        run.stage(&format!("random lines with tabs for {}", call.name()), many, |bench, i| {
+            bench.ask(&lines::tabbed(call, &mut Chance::new(10_000_000_000 + 8 * i as u64 + call as u64)), Source::Random);
         });
     }
 }
@@ -228,6 +293,14 @@ fn captured(run: &mut Run, found: &Found) {
         let document = if chance.once_in(400) { documents::deep(chance) } else { documents::made(chance) };
         let options = *chance.pick(&[59, 63, 63, 27, 31, 57, 58, 51, 43]);
         bench.watch(Markdown { bytes: &document, text_alone: false, more: chance.once_in(3) }, options, Source::Captured);
+    });
+    let many = run.some(200_000);
+    run.stage("Markdown made up, with tabs", many, |bench, i| {
+        let chance = &mut Chance::new(11_000_000_000 + i as u64);
+        let document = documents::made(chance);
+        let document = documents::tabbed(&document, chance);
+        let options = *chance.pick(&[59, 59, 63, 27, 31]);
+        bench.watch(Markdown { bytes: &document, text_alone: false, more: false }, options, Source::Captured);
     });
 }
 

@@ -10,6 +10,7 @@ const DOCUMENT: usize = 16_384;
 const EVENTS: usize = 2_048;
 const DEPTH: usize = 64;
 const RESULT: usize = 8_000;
+const COLUMN: usize = 16_384;
 
 #[derive(Clone, Copy, PartialEq, Eq, Debug)]
 struct Event {
@@ -437,13 +438,36 @@ fn is_blank(byte: &u8) -> bool {
     matches!(byte, b' ' | b'\t')
 }
 
-fn blanks(bytes: &[u8], most: usize) -> usize {
-    bytes.iter().take_while(|byte| is_blank(byte)).count().min(most)
+/// The columns of the spaces and tabs in front, laid out one by one: for each the number of the byte that it belongs to. A tab has all those up to the
+/// next stop, of which there is one every four columns.
+fn columns_of(bytes: &[u8], start: usize) -> Vec<usize> {
+    let mut columns = vec![];
+    for (i, byte) in bytes.iter().enumerate().take_while(|(_, byte)| is_blank(byte)) {
+        let stop = (start + columns.len()) / 4 * 4 + 4;
+        columns.resize(if *byte == b'\t' { stop - start } else { columns.len() + 1 }, i);
+    }
+    columns
+}
+
+/// Bytes and columns: those of the bytes that are taken whole, and of the next one those that are left where some of it is taken.
+struct Taken {
+    bytes: usize,
+    left: usize,
+}
+
+/// So many of the columns taken.
+fn take(columns: &[usize], count: usize) -> Taken {
+    let (gone, rest) = columns.split_at(count);
+    match (gone.last(), rest.first()) {
+        (Some(last), Some(next)) if last == next => Taken { bytes: *last, left: rest.iter().filter(|byte| *byte == last).count() },
+        (Some(last), _) => Taken { bytes: last + 1, left: 0 },
+        (None, _) => Taken { bytes: 0, left: 0 },
+    }
 }
 
 /// Numbers 2, 3 and 4, and the line up to its first line feed.
-fn line_of(line: &[u8], options: u32) -> Result<&[u8], Refused> {
-    if options > 63 {
+fn line_of(line: &[u8], options: u32, column: usize) -> Result<&[u8], Refused> {
+    if options > 63 || column > COLUMN {
         return Err((2, 0));
     }
     if line.len() > DOCUMENT {
@@ -455,16 +479,23 @@ fn line_of(line: &[u8], options: u32) -> Result<&[u8], Refused> {
     Ok(line.split(|byte| *byte == b'\n').next().unwrap())
 }
 
-fn indentation(line: &[u8], options: u32) -> usize {
-    blanks(line, if options & 32 != 0 { 3 } else { usize::MAX })
+/// Bytes and columns of the indentation: three columns at most, or all there are without option 32. A tab with more than these is not taken in part:
+/// nothing can follow then that an indentation may stand before.
+fn indentation(line: &[u8], options: u32, column: usize) -> Option<(usize, usize)> {
+    let columns = columns_of(line, column);
+    let most = if options & 32 != 0 { 3 } else { columns.len() };
+    let count = columns.len().min(most);
+    let taken = take(&columns, count);
+    (taken.left == 0).then_some((taken.bytes, count))
 }
 
-/// Bytes taken, size, flag and mark.
-fn list_item(line: &[u8], options: u32, interrupting: bool) -> Option<[usize; 4]> {
+/// Bytes taken, columns left, size, flag and mark.
+fn list_item(line: &[u8], options: u32, column: usize, interrupting: bool) -> Option<[usize; 5]> {
     if options & 16 == 0 {
         return None;
     }
-    let from = &line[indentation(line, options)..];
+    let (indent, wide) = indentation(line, options, column)?;
+    let from = &line[indent..];
     let digits = from.iter().take_while(|byte| byte.is_ascii_digit()).count();
     let mark = *from.get(digits)?;
     match mark {
@@ -482,32 +513,36 @@ fn list_item(line: &[u8], options: u32, interrupting: bool) -> Option<[usize; 4]
         }
         _ => return None,
     }
-    let marker = line.len() - from.len() + digits + 1;
+    let marker = indent + digits + 1;
+    // The columns of the indentation and the marker: the size counts from where the line starts, wherever that is.
+    let wide = wide + digits + 1;
     let rest = &line[marker..];
-    let (taken, size, blank) = match blanks(rest, usize::MAX) {
-        all if all == rest.len() && interrupting => return None,
-        all if all == rest.len() => (marker, marker + 1, 1),
+    if rest.iter().all(is_blank) {
+        return if interrupting { None } else { Some([marker, 0, wide + 1, 1, mark as usize]) };
+    }
+    let columns = columns_of(rest, column + wide);
+    let count = match columns.len() {
         0 => return None,
-        few @ 1..=4 => (marker + few, marker + few, 0),
-        _ => (marker + 1, marker + 1, 0),
+        few @ 1..=4 => few,
+        _ => 1,
     };
-    Some([taken, size, blank, mark as usize])
+    let taken = take(&columns, count);
+    Some([marker + taken.bytes, taken.left, wide + count, 0, mark as usize])
 }
 
-/// Whether it goes on, the bytes taken, and the flag.
-fn continuation(line: &[u8], size: usize, blank: bool) -> [usize; 3] {
-    let there = blanks(line, usize::MAX);
-    if there == line.len() {
-        return if blank { [0, 0, 1] } else { [1, there.min(size), 0] };
+/// Whether it goes on, the bytes taken, the columns left, and the flag.
+fn continuation(line: &[u8], column: usize, size: usize, blank: bool) -> [usize; 4] {
+    let columns = columns_of(line, column);
+    let filled = !line.iter().all(is_blank);
+    let goes = if filled { !columns.is_empty() && columns.len() >= size } else { !blank };
+    if !goes {
+        return [0, 0, 0, usize::from(!filled && blank)];
     }
-    if there > 0 && there >= size {
-        [1, size, 0]
-    } else {
-        [0, 0, 0]
-    }
+    let taken = take(&columns, size.min(columns.len()));
+    [1, taken.bytes, taken.left, 0]
 }
 
-fn heading(line: &[u8], options: u32) -> Option<Vec<Event>> {
+fn heading(line: &[u8], options: u32, column: usize) -> Option<Vec<Event>> {
     if options & 8 == 0 {
         return None;
     }
@@ -517,7 +552,7 @@ fn heading(line: &[u8], options: u32) -> Option<Vec<Event>> {
         put(out, true, name, to);
     };
     put(&mut out, false, 11, 0);
-    let mut at = indentation(line, options);
+    let (mut at, _) = indentation(line, options, column)?;
     if at > 0 {
         pair(&mut out, 14, 0, at);
     }
@@ -532,7 +567,7 @@ fn heading(line: &[u8], options: u32) -> Option<Vec<Event>> {
         let before = at;
         let name = match line[at] {
             b' ' | b'\t' => {
-                at += blanks(&line[at..], usize::MAX);
+                at += line[at..].iter().take_while(|byte| is_blank(byte)).count();
                 14
             }
             b'#' if is_blank(&line[at - 1]) => {
@@ -574,7 +609,7 @@ fn written(events: Vec<Event>, output: usize, answer: Answer) -> Answer {
 
 /// The answer to a question with an output and a work memory of these lengths.
 pub fn answer(question: &Question, output: usize, work: usize) -> Answer {
-    let Question { call, input, options, arguments } = question;
+    let Question { call, input, options, column, arguments } = question;
     let tried = || -> Result<Answer, Refused> {
         Ok(match call {
             Call::Read => {
@@ -593,19 +628,21 @@ pub fn answer(question: &Question, output: usize, work: usize) -> Answer {
                 written(events, output, numbers)
             }
             Call::SpaceOrTab => {
-                let taken = blanks(line_of(input, *options)?, arguments[1]);
-                if taken >= arguments[0] {
-                    Answer::of(&[1, taken])
+                let columns = columns_of(line_of(input, *options, *column)?, *column);
+                let count = columns.len().min(arguments[1]);
+                if count >= arguments[0] {
+                    let taken = take(&columns, count);
+                    Answer::of(&[1, taken.bytes, taken.left])
                 } else {
                     Answer::default()
                 }
             }
-            Call::ListItem => match list_item(line_of(input, *options)?, *options, arguments[0] != 0) {
-                Some([taken, size, blank, mark]) => Answer::of(&[1, taken, size, blank, mark]),
+            Call::ListItem => match list_item(line_of(input, *options, *column)?, *options, *column, arguments[0] != 0) {
+                Some([taken, left, size, blank, mark]) => Answer::of(&[1, taken, left, size, blank, mark]),
                 None => Answer::default(),
             },
-            Call::Continuation => Answer::of(&continuation(line_of(input, *options)?, arguments[0], arguments[1] != 0)),
-            Call::Heading => match heading(line_of(input, *options)?, *options) {
+            Call::Continuation => Answer::of(&continuation(line_of(input, *options, *column)?, *column, arguments[0], arguments[1] != 0)),
+            Call::Heading => match heading(line_of(input, *options, *column)?, *options, *column) {
                 Some(events) => {
                     let numbers = Answer::of(&[1, events.len()]);
                     written(events, output, numbers)
@@ -615,4 +652,51 @@ pub fn answer(question: &Question, output: usize, work: usize) -> Answer {
         })
     };
     tried().unwrap_or_else(|(number, place)| Answer::refused(number, place))
+}
+
+#[cfg(test)]
+mod tests {
+    use super::{answer, Call, Question};
+
+    fn numbers(call: Call, line: &str, column: usize, arguments: [usize; 3]) -> [usize; 8] {
+        answer(&Question { column, arguments, ..Question::new(call, line.into(), 59) }, 100, 0).numbers
+    }
+
+    /// Each way to count a tab that the words leave open, on the smallest line that tells it from another.
+    #[test]
+    fn tabs_by_hand() {
+        let spaces = |line: &str, column: usize, min: usize, max: usize| {
+            let [0, 0, found, taken, left, ..] = numbers(Call::SpaceOrTab, line, column, [min, max, 0]) else { panic!("refused") };
+            (found, taken, left)
+        };
+        assert_eq!(spaces("\t", 0, 0, 1), (1, 0, 3));
+        assert_eq!(spaces(" \t", 0, 0, 1), (1, 1, 0));
+        assert_eq!(spaces("\t", 0, 0, 0), (1, 0, 0));
+        assert_eq!(spaces("\t", 0, 2, 2), (1, 0, 2));
+        assert_eq!(spaces("\t", 3, 2, 9), (0, 0, 0));
+        assert_eq!(spaces("\t\t", 16_383, 5, 5), (1, 2, 0));
+        let item = |line: &str, column: usize| {
+            let [0, 0, found, taken, left, size, blank, _] = numbers(Call::ListItem, line, column, [0; 3]) else { panic!("refused") };
+            (found, taken, left, size, blank)
+        };
+        assert_eq!(item("-\ta", 0), (1, 2, 0, 4, 0));
+        assert_eq!(item("-\t\ta", 0), (1, 1, 2, 2, 0));
+        assert_eq!(item("-\ta", 2), (1, 2, 0, 2, 0));
+        assert_eq!(item("  - a", 5), (1, 4, 0, 4, 0));
+        assert_eq!(item("-\t", 0), (1, 1, 0, 2, 1));
+        assert_eq!([0, 1, 2, 3].map(|column| item("\t- a", column).3), [0, 5, 4, 3]);
+        let going = |line: &str, size: usize| {
+            let [0, 0, found, taken, left, ..] = numbers(Call::Continuation, line, 0, [size, 0, 45]) else { panic!("refused") };
+            (found, taken, left)
+        };
+        assert_eq!(going("\t", 2), (1, 0, 2));
+        assert_eq!(going("\ta", 2), (1, 0, 2));
+        assert_eq!(going("\ta", 0), (1, 0, 0));
+        assert_eq!(going("\ta", 5), (0, 0, 0));
+        assert_eq!([0, 1].map(|column| numbers(Call::Heading, "\t#", column, [0; 3])[2]), [0, 1]);
+        for call in [Call::SpaceOrTab, Call::ListItem, Call::Continuation, Call::Heading] {
+            assert_eq!(numbers(call, "\r", 16_384, [0; 3])[..2], [4, 0]);
+            assert_eq!(numbers(call, "\r", 16_385, [0; 3]), [2, 0, 0, 0, 0, 0, 0, 0]);
+        }
+    }
 }

@@ -46,7 +46,7 @@ impl Making {
     }
 
     fn question(&self, call: Call, options: u32) -> Question {
-        Question { call, input: write_record(&self.document, &self.events), options, arguments: [0; 3] }
+        Question::new(call, write_record(&self.document, &self.events), options)
     }
 }
 
@@ -74,7 +74,7 @@ pub fn split(text: &[u8], options: u32) -> Question {
         }
         at += length;
     }
-    Question { call: Call::Attention, input: write_record(text, &events), options, arguments: [0; 3] }
+    Question::new(Call::Attention, write_record(text, &events), options)
 }
 
 /// A text of some letters, with markers in about half of its places.

@@ -2,18 +2,19 @@
 //!
 //! Every answer is the crate's. Questions are left out that are refused, which document 01 in plain Rust says, that lie outside the domain, or on
 //! which the library departs from the crate. An entry is numbers of four bytes, little endian: the call, the options, three arguments, the input's
-//! length and its bytes, five numbers of the answer, the section's length and its bytes.
+//! length and its bytes, five numbers of the answer, the section's length and its bytes. Lines are asked at column 0. An item whose size is another
+//! for a tab is left out too, and the columns left of a cut tab are not in the list.
 
 use std::collections::BTreeSet;
 use std::panic::{catch_unwind, AssertUnwindSafe};
 
 use crate::answer::{Answer, Call, Question};
 use crate::chance::Chance;
-use crate::compare::{call_of, crate_line, parts_of, resolved, resolver_of};
+use crate::compare::{call_of, crate_line, crate_size, parts_of, resolved, resolver_of};
 use crate::library::{OUTPUT, WORK};
 use crate::lines::{self, Strings};
 use crate::{documents, domain, paper, records};
-use crate_side::{write_record, Event, Settings};
+use crate_side::{write_record, Event, Settings, Start};
 
 /// Texts that document 01 and docs/DIFFERENCES.md speak of, and their neighbours.
 #[rustfmt::skip]
@@ -27,12 +28,13 @@ const TEXTS: [&str; 54] = [
 
 /// Documents that bring out what the three resolvers do.
 #[rustfmt::skip]
-const DOCUMENTS: [&str; 28] = [
+const DOCUMENTS: [&str; 33] = [
     "- a\n- b\n- c", "- a\n* b\n+ c", "1. a\n2. b\n3) c", "- a\n\n- b\n\n\n- c", "- a\n  - b\n    - c\n  - d\n- e", "> - a\n> - b\n\n> - c",
     "- > a\n- > b", "- - - a\n- - b", "-\n- a\n-\n\n  b", "1. a\n   - b\n\n   - c\n2. d", "* a\n\n  # *b* #\n* c",
     "# a\n## b ##\n### c # d\n#\n# #\n", "# #a\n# a # #\n# a#\n", "> # *a*\n> b\n\n# `c` [d](e) **f**", "- [ ] a\n- [x] b", "*a [b *c](d) e*\n",
     "*a `b* c` d*", "*a <b *c*> d*", "**a [*b*](c) d**", "![*a*](b) *c*", "*a\nb*\nc **d\n> e**\n", "~~a *b~~ c*", "a | *b*\n- | -\n_c_ | **d**",
     "[^1]: *a*\n\nb[^1] *c*", "<div>\n*a*\n\n*b*\n</div>", "    *a*\n\n*b*", "\\*a* *b\\*", "*a&amp;*b*",
+    "-\ta\n-\tb\n\n\t-\tc", "1.\ta\n\t- b\n2.\tc", ">\t- *a*\n>\t- b", "-\t\ta\n-\t# b\t#", " \t-\t*a*\n\tb*",
 ];
 
 fn attention(put: &mut Vec<Question>) {
@@ -64,7 +66,7 @@ fn attention(put: &mut Vec<Question>) {
         .concat();
         let round = [run(1).to_vec(), vec![event(false, name, 2), event(true, name, 3)], run(3).to_vec()].concat();
         for events in [inside, across, beside, round] {
-            put.push(Question { call: Call::Attention, input: write_record(b"[*a*]", &events), options: 59, arguments: [0; 3] });
+            put.push(Question::new(Call::Attention, write_record(b"[*a*]", &events), 59));
         }
     }
     let chance = &mut Chance::new(91);
@@ -90,14 +92,14 @@ fn attention(put: &mut Vec<Question>) {
             events.push(Event { exit, name, place });
         }
         events.extend((0..levels).map(|_| Event { exit: true, name: 24, place: 3 }));
-        Question { call: Call::Attention, input: write_record(b"*a*", &events), options: 59, arguments: [0; 3] }
+        Question::new(Call::Attention, write_record(b"*a*", &events), 59)
     };
     put.extend([1, 62, 63].map(deep));
     // Two runs of 2,000 markers and no Data between: 1,000 groups, and a result of 8,000 events.
     let text = "*".repeat(2_000) + "a" + &"*".repeat(2_000);
     let places = [(false, 0), (true, 2_000), (false, 2_001), (true, 4_001)];
     let input = write_record(text.as_bytes(), &places.map(|(exit, place)| Event { exit, name: 1, place }));
-    put.push(Question { call: Call::Attention, input, options: 59, arguments: [0; 3] });
+    put.push(Question::new(Call::Attention, input, 59));
 }
 
 /// What the crate's resolvers are given when it parses some documents.
@@ -106,8 +108,8 @@ fn captured(put: &mut Vec<Question>) {
     let mut watch = |document: &[u8], options: u32| {
         let text = std::str::from_utf8(document).unwrap();
         let seen = catch_unwind(AssertUnwindSafe(|| crate_side::watch_document(text, &settings[options as usize]))).unwrap_or_default();
-        for one in seen.into_iter().filter(|one| !one.within_tab && !one.edits_before && one.before.len() < 64) {
-            put.push(Question { call: call_of(one.which), input: write_record(document, &one.before), options, arguments: [0; 3] });
+        for one in seen.into_iter().filter(|one| !one.edits_before && one.before.len() < 64) {
+            put.push(Question::new(call_of(one.which), write_record(document, &one.before), options));
         }
     };
     for document in DOCUMENTS {
@@ -131,16 +133,16 @@ fn headings(put: &mut Vec<Question>) {
         if i % 3 != 0 && line.len() > 4 {
             continue;
         }
-        if let Some(events) = crate_side::heading(&line, &settings) {
-            put.push(Question { call: Call::Headings, input: write_record(&line, &events), options: 59, arguments: [0; 3] });
+        if let Some(events) = crate_side::heading(&line, &settings, Start::default()) {
+            put.push(Question::new(Call::Headings, write_record(&line, &events), 59));
         }
     }
     let chance = &mut Chance::new(93);
     put.extend((0..300).map(|_| records::headings(chance)).filter(|question| question.input.len() < 600));
     // A heading of as many events as a record holds.
     let line = [b"# ".to_vec(), b"a ".repeat(510)].concat();
-    let events = crate_side::heading(&line, &settings).expect("a heading");
-    put.push(Question { call: Call::Headings, input: write_record(&line, &events), options: 59, arguments: [0; 3] });
+    let events = crate_side::heading(&line, &settings, Start::default()).expect("a heading");
+    put.push(Question::new(Call::Headings, write_record(&line, &events), 59));
 }
 
 fn lists(put: &mut Vec<Question>) {
@@ -156,12 +158,12 @@ fn lists(put: &mut Vec<Question>) {
             events.push(Event { exit, name, place: 2 * i + place });
         }
     }
-    put.push(Question { call: Call::Lists, input: write_record(&b"-\n".repeat(256), &events), options: 59, arguments: [0; 3] });
+    put.push(Question::new(Call::Lists, write_record(&b"-\n".repeat(256), &events), 59));
 }
 
 fn readers(put: &mut Vec<Question>) {
     let mut line = |call: Call, input: &[u8], options: u32, arguments: [usize; 3]| {
-        put.push(Question { call, input: input.to_vec(), options, arguments });
+        put.push(Question { arguments, ..Question::new(call, input.to_vec(), options) });
     };
     let strings = Strings::new(b" a\n", 3);
     for i in 0..strings.count {
@@ -219,6 +221,37 @@ fn readers(put: &mut Vec<Question>) {
     }
 }
 
+/// Lines with tabs, all at column 0: an entry has no other.
+fn tabs(put: &mut Vec<Question>) {
+    let mut line = |call: Call, input: &[u8], options: u32, arguments: [usize; 3]| {
+        if input.contains(&b'\t') {
+            put.push(Question { arguments, ..Question::new(call, input.to_vec(), options) });
+        }
+    };
+    let strings = Strings::new(b" \ta", 3);
+    for text in (0..strings.count).map(|i| strings.get(i)) {
+        for (min, max) in [(0, 0), (0, 1), (1, 2), (3, 3), (3, 9), (4, 4), (5, 5), (8, 9), (9, 12)] {
+            line(Call::SpaceOrTab, &text, 59, [min, max, 0]);
+        }
+        for (size, flag) in [(0, 0), (1, 1), (2, 0), (3, 0), (4, 0), (4, 1), (5, 0), (8, 1), (9, 0)] {
+            line(Call::Continuation, &text, 59, [size, flag, b'-' as usize]);
+        }
+    }
+    for before in ["", " ", "\t", " \t", "   \t"] {
+        for mark in ["-", "1.", "12345."] {
+            for behind in ["\t", "\t\ta", " \ta", "  \ta", " \t a", "\t a", "\ta", "   \ta", "\t-\t-", "\t\n"] {
+                let text = [before, mark, behind].concat();
+                line(Call::ListItem, text.as_bytes(), 59, [0; 3]);
+                line(Call::ListItem, text.as_bytes(), 27, [1, 0, 0]);
+            }
+        }
+        for behind in ["#", "#\ta", "## a\t#", "#\t#\t", "\t#", "#######\ta"] {
+            line(Call::Heading, [before, behind].concat().as_bytes(), 59, [0; 3]);
+            line(Call::Heading, [before, behind].concat().as_bytes(), 27, [0; 3]);
+        }
+    }
+}
+
 /// The crate's answer, if the question lies in the domain, is not refused, and is the crate's to decide.
 fn crate_answer(question: &Question, settings: &[Settings]) -> Option<Answer> {
     if paper::answer(question, OUTPUT, WORK).numbers[0] != 0 {
@@ -228,20 +261,26 @@ fn crate_answer(question: &Question, settings: &[Settings]) -> Option<Answer> {
     match question.call {
         Call::Attention | Call::Headings | Call::Lists => {
             let (document, before) = parts_of(&question.input);
-            if domain::document_outside(document).or_else(|| domain::departs(question.call, &before)).is_some() {
+            if domain::bytes_outside(document).or_else(|| domain::departs(question.call, &before)).is_some() {
                 return None;
             }
             let after = crate_side::resolve(resolver_of(question.call), document, &before, settings);
             Some(resolved(question.call, &before, &after, 0))
         }
-        _ => domain::line_outside(question.call, &question.input).is_none().then(|| crate_line(question, settings)),
+        _ if domain::bytes_outside(&question.input).is_some() => None,
+        _ => {
+            let answer = crate_line(question, settings, 0);
+            // An item's size is not the crate's to say where it is another for a tab.
+            let paper = paper::answer(question, OUTPUT, WORK);
+            crate_size(question, &paper, 0).is_none().then_some(answer)
+        }
     }
 }
 
 /// Write the list. Its counts are printed.
 pub fn store(file: &str) {
     let mut questions = vec![];
-    let parts: [fn(&mut Vec<Question>); 5] = [attention, headings, lists, captured, readers];
+    let parts: [fn(&mut Vec<Question>); 6] = [attention, headings, lists, captured, readers, tabs];
     for part in parts {
         let mut put = vec![];
         part(&mut put);
@@ -267,7 +306,10 @@ pub fn store(file: &str) {
         // Of a resolver the crate says how many events it leaves; groups and candidates tried are not in its answer.
         let values = match question.call {
             Call::Attention | Call::Headings | Call::Lists => [answer.numbers[2], 0, 0, 0, 0],
-            _ => [answer.numbers[2], answer.numbers[3], answer.numbers[4], answer.numbers[5], answer.numbers[6]],
+            // The columns left of a cut tab have no place in an entry.
+            Call::ListItem => [answer.numbers[2], answer.numbers[3], answer.numbers[5], answer.numbers[6], answer.numbers[7]],
+            Call::Continuation => [answer.numbers[2], answer.numbers[3], answer.numbers[5], 0, 0],
+            _ => [answer.numbers[2], answer.numbers[3], 0, 0, 0],
         };
         values.iter().for_each(|value| number(&mut bytes, *value));
         number(&mut bytes, answer.section.len());

@@ -39,6 +39,12 @@ pub struct Tally {
     /// How many headings were held against the standard's content, and how many of them the crate does not decide.
     pub contents: u64,
     pub contents_with_runs: u64,
+    /// How many lines the crate was asked for from within the tab in front.
+    pub within: u64,
+    /// How many items and headings were read where the crate read them in a document.
+    pub read: u64,
+    /// How many captured records have an event within a tab.
+    pub captured_within: u64,
     pub panics: BTreeMap<(Call, Source), u64>,
     pub differences: BTreeMap<String, Difference>,
 }
@@ -68,6 +74,9 @@ impl Tally {
         }
         self.contents += other.contents;
         self.contents_with_runs += other.contents_with_runs;
+        self.within += other.within;
+        self.read += other.read;
+        self.captured_within += other.captured_within;
         for (key, count) in other.panics {
             *self.panics.entry(key).or_default() += count;
         }
@@ -98,6 +107,10 @@ impl Tally {
         }
         let (contents, with_runs) = (self.contents, self.contents_with_runs);
         println!("\nHeadings held against the standard's content: {contents}, of them with {RUN_AT_END} {with_runs}.");
+        let Tally { within, read, captured_within, .. } = self;
+        println!("\nItems and headings read where the crate read them in a document, behind other containers or with a tab: {read}.");
+        println!("Lines that the crate was asked for again as it stands within the tab in front: {within}.");
+        println!("Captured records with an event within a tab, whose place is the tab's: {captured_within}.");
         println!("\nNot compared with the crate, by reason. Those with {RUN_AT_END} are counted above: they are compared with document 01,");
         println!("and with the content where a line reads so.\n");
         println!("| call | reason | inputs |\n|---|---|---|");
