@@ -1,7 +1,7 @@
 /* What the scans cost before a change and after it, in one run: the same calls of two archives, the older with its names prefixed `older_`
  * (bench/run does that). Long inputs first, then the lines on which a scan in blocks could lose: those with few spaces in front, and short ones.
  * Each figure is the least of many batches of calls; both archives take their turn in each of several rounds, so that a burst of other work on
- * the machine spoils no single row. Answers are compared as well. The times of lark_read have the wipe of 65,536 bytes in them.
+ * the machine spoils no single row. The bytes taken, or the events, are compared as well. The times of lark_read have the wipe of 65,536 bytes in them.
  *
  * With the word `once` nothing is timed: each call is made once, between two calls of `mark`, the older archive's first, and the rows' names are
  * said. bench/counts counts the instructions between the marks.
@@ -14,10 +14,29 @@
 #include <time.h>
 
 extern __typeof__(lark_read) older_lark_read;
+#ifdef BEFORE_COLUMNS
+/* The older archive is of before 0.5: its line readers take no column and answer no columns left over, and it counts a tab as one byte. */
+struct older_spaces {
+    size_t number, place, found, taken;
+};
+struct older_item {
+    size_t number, place, found, taken, size, blank, mark;
+};
+struct older_going {
+    size_t number, place, found, taken, blank;
+};
+extern struct older_spaces older_lark_space_or_tab(const uint8_t *, size_t, uint32_t, size_t, size_t);
+extern struct older_item older_lark_list_item(const uint8_t *, size_t, uint32_t, uint32_t);
+extern struct older_going older_lark_continuation(const uint8_t *, size_t, uint32_t, size_t, uint32_t, uint32_t);
+extern struct lark_headed older_lark_heading(const uint8_t *, size_t, uint32_t, uint8_t *, size_t);
+#define OLDER(with, without) GIVEN without
+#else
 extern __typeof__(lark_space_or_tab) older_lark_space_or_tab;
 extern __typeof__(lark_list_item) older_lark_list_item;
 extern __typeof__(lark_continuation) older_lark_continuation;
 extern __typeof__(lark_heading) older_lark_heading;
+#define OLDER(with, without) GIVEN with
+#endif
 
 /* Moves the code of both archives: where the linker puts it matters for loops of a few instructions. */
 #ifdef MOVED
@@ -42,23 +61,23 @@ struct row {
 static struct row rows[512];
 static size_t count;
 
-/* One call; what it answers, as bytes, for the comparison. */
-static size_t answer(int older, const struct row *r, uint8_t *to) {
-#define ANSWER(type, name, ...) \
-    { \
-        struct type a = older ? older_##name(r->bytes, r->length, __VA_ARGS__) : name(r->bytes, r->length, __VA_ARGS__); \
-        memcpy(to, &a, sizeof a); \
-        return sizeof a; \
-    }
-    switch (r->call) {
-    case READ: ANSWER(lark_reading, lark_read, OPTIONS, work, sizeof work)
-    case SPACES: ANSWER(lark_spaces, lark_space_or_tab, OPTIONS, 0, r->length)
-    case ITEM: ANSWER(lark_item, lark_list_item, OPTIONS, 0)
-    case CONTINUATION: ANSWER(lark_going, lark_continuation, OPTIONS, 2, 0, '-')
-    case HEADING: ANSWER(lark_headed, lark_heading, OPTIONS, out, sizeof out)
-    }
+/* What each call is given, with a column and without. */
+#define EACH(CASE) \
+    CASE(READ, lark_read, document, (OPTIONS, work, sizeof work), (OPTIONS, work, sizeof work)) \
+    CASE(SPACES, lark_space_or_tab, taken, (OPTIONS, 0, 0, 4 * r->length), (OPTIONS, 0, r->length)) \
+    CASE(ITEM, lark_list_item, taken, (OPTIONS, 0, 0), (OPTIONS, 0)) \
+    CASE(CONTINUATION, lark_continuation, taken, (OPTIONS, 0, 2, 0, '-'), (OPTIONS, 2, 0, '-')) \
+    CASE(HEADING, lark_heading, events, (OPTIONS, 0, out, sizeof out), (OPTIONS, out, sizeof out))
+#define GIVEN(...) __VA_ARGS__
+
+/* One call; the number that counts of its answer, for the comparison, or 0 and the refusal. */
+static size_t answer(int older, const struct row *r) {
+#define CASE(word, name, field, with, without) \
+    case word: \
+        return older ? older_##name(r->bytes, r->length, OLDER(with, without)).field : name(r->bytes, r->length, GIVEN with).field;
+    switch (r->call) { EACH(CASE) }
     abort();
-#undef ANSWER
+#undef CASE
 }
 
 void mark(void);
@@ -74,19 +93,15 @@ static double now(void) {
 static double batch(int older, const struct row *r) {
     volatile size_t sink = 0;
     double start = now();
-#define BATCH(name, field, ...) \
-    if (older) \
-        for (size_t i = 0; i < r->batch; i++) sink += older_##name(r->bytes, r->length, __VA_ARGS__).field; \
-    else \
-        for (size_t i = 0; i < r->batch; i++) sink += name(r->bytes, r->length, __VA_ARGS__).field;
-    switch (r->call) {
-    case READ: BATCH(lark_read, document, OPTIONS, work, sizeof work) break;
-    case SPACES: BATCH(lark_space_or_tab, taken, OPTIONS, 0, r->length) break;
-    case ITEM: BATCH(lark_list_item, taken, OPTIONS, 0) break;
-    case CONTINUATION: BATCH(lark_continuation, taken, OPTIONS, 2, 0, '-') break;
-    case HEADING: BATCH(lark_heading, events, OPTIONS, out, sizeof out) break;
-    }
-#undef BATCH
+#define CASE(word, name, field, with, without) \
+    case word: \
+        if (older) \
+            for (size_t i = 0; i < r->batch; i++) sink += older_##name(r->bytes, r->length, OLDER(with, without)).field; \
+        else \
+            for (size_t i = 0; i < r->batch; i++) sink += name(r->bytes, r->length, GIVEN with).field; \
+        break;
+    switch (r->call) { EACH(CASE) }
+#undef CASE
     return (now() - start) / (double)r->batch;
 }
 
@@ -122,6 +137,16 @@ static void marked(enum call call, char mark, size_t spaces, size_t n) {
     uint8_t *to = add(call, n);
     for (size_t i = 0; i < n; i++) to[i] = i == 0 ? (uint8_t)mark : i % (spaces + 1) ? ' ' : 'a';
     snprintf(rows[count - 1].name, sizeof rows->name, "`%s`, `%c%*sa%*sa ..`, %zu bytes", names[call], mark, (int)spaces, "", (int)spaces, "", n);
+}
+
+/* Some bytes, some times; a tab is shown as an arrow. */
+static void repeated(enum call call, const char *bytes, size_t times) {
+    size_t n = strlen(bytes);
+    uint8_t *to = add(call, n * times);
+    char shown[16] = "";
+    for (size_t i = 0; i < times; i++) memcpy(to + n * i, bytes, n);
+    for (size_t i = 0; i < n; i++) strcat(shown, bytes[i] == '\t' ? "→" : (char[]){bytes[i], 0});
+    snprintf(rows[count - 1].name, sizeof rows->name, "`%s`, `%s` %zu times", names[call], shown, times);
 }
 
 /* The tables: what each holds, and its first row. */
@@ -174,17 +199,22 @@ int main(int words, char **word) {
     for (size_t k = 1; k < 32; k++) marked(ITEM, '-', 1, k);
     for (size_t k = 1; k < 32; k++) marked(HEADING, '#', 1, k);
     for (size_t k = 1; k < 32; k++) marked(HEADING, '#', 3, k);
+    size_t tabbed = count;
+    begin("lines with tabs");
+    repeated(SPACES, "\t", 250), repeated(SPACES, "\t", 1000), repeated(SPACES, " \t", 500), repeated(SPACES, "  \t", 333);
+    for (size_t k = 1; k < 17; k += 1 + k / 4) repeated(SPACES, "\t", k);
+    for (size_t k = 1; k < 5; k++) repeated(CONTINUATION, "\t", k);
+    repeated(ITEM, "-\ta", 1), repeated(ITEM, "-\t\ta", 1), repeated(HEADING, "#\ta", 1);
 
-    for (size_t i = 0; i < count; i++) {
-        uint8_t a[128], b[128];
-        size_t n = answer(1, rows + i, a), m = answer(0, rows + i, b);
-        if (n != m || memcmp(a, b, n)) return fprintf(stderr, "%s: the two archives differ\n", rows[i].name), 1;
-    }
+#ifndef BEFORE_COLUMNS
+    tabbed = count;
+#endif
+    for (size_t i = 0; i < tabbed; i++)
+        if (answer(1, rows + i) != answer(0, rows + i)) return fprintf(stderr, "%s: the two archives differ\n", rows[i].name), 1;
     if (words > 1 && strcmp(word[1], "once")) return fprintf(stderr, "usage: scans [once]\n"), 2;
     if (words > 1) {
         for (size_t i = 0; i < count; i++) {
-            uint8_t a[128];
-            for (int older = 1; older >= 0; older--) mark(), answer(older, rows + i, a);
+            for (int older = 1; older >= 0; older--) mark(), answer(older, rows + i);
             mark();
             puts(rows[i].name);
         }
@@ -203,7 +233,7 @@ int main(int words, char **word) {
             printf("| %s | %.1f | %.1f | %.1f |\n", rows[i].name, rows[i].before, rows[i].after, rows[i].before / rows[i].after);
         printf("\n");
     }
-    size_t line = loses(lengthy, wordy), words_of_one = loses(wordy, count);
+    size_t line = loses(lengthy, wordy), words_of_one = loses(wordy, tables[begun - 1].from);
     printf("The most that is lost: %.1f ns by a line (%s), %.1f ns by an item or a heading of words of one letter (%s).\n",
            rows[line].after - rows[line].before, rows[line].name, rows[words_of_one].after - rows[words_of_one].before, rows[words_of_one].name);
     return 0;

@@ -71,10 +71,10 @@ static void attention(void) { refused = lark_resolve_attention(record, length, O
 static void resolve_headings(void) { refused = lark_resolve_headings(record, length, OPTIONS, out, OUT, work, WORK).number; }
 static void lists(void) { refused = lark_resolve_lists(record, length, OPTIONS, out, OUT, work, WORK).number; }
 static void reads(void) { refused = lark_read(record, length, OPTIONS, work, WORK).number; }
-static void spaces(void) { answered = lark_space_or_tab(line, sizeof line, OPTIONS, 0, 9999).found; }
-static void item(void) { answered = lark_list_item(line, sizeof line, OPTIONS, 0).found; }
-static void going(void) { answered = lark_continuation(line, sizeof line, OPTIONS, 2, 0, '-').found; }
-static void headed(void) { answered = lark_heading(line, sizeof line, OPTIONS, out, OUT).found; }
+static void spaces(void) { answered = lark_space_or_tab(line, sizeof line, OPTIONS, 0, 0, 9999).found; }
+static void item(void) { answered = lark_list_item(line, sizeof line, OPTIONS, 0, 0).found; }
+static void going(void) { answered = lark_continuation(line, sizeof line, OPTIONS, 0, 2, 0, '-').found; }
+static void headed(void) { answered = lark_heading(line, sizeof line, OPTIONS, 0, out, OUT).found; }
 
 static void *in_thread(void *call) {
     frame = __builtin_frame_address(0);

@@ -39,6 +39,6 @@ impl Lent {
     }
 
     pub fn heading(&mut self, line: &[u8], options: u32) -> Headed {
-        ffi::heading(line, options, &mut self.out)
+        ffi::heading(line, options, 0, &mut self.out)
     }
 }

@@ -275,32 +275,38 @@ fn many(line: &[u8], call: &dyn Fn(&[u8]), clock: f64) -> f64 {
 
 fn readers() {
     let settings = &Settings::new(OPTIONS);
+    let start = crate_side::Start::default;
     let lent = &RefCell::new(Lent::new());
     let spaces = " ".repeat(1_000);
+    let tabs = "\t".repeat(250);
     let text = "No item and no heading: a line of a paragraph, as long as they mostly are, with a few words more.";
     let breaks = format!("{}x", "- ".repeat(500));
     let words = format!("## {}", "word ".repeat(200));
     let space_or_tab = |name, line, max| {
-        let theirs = move |line: &[u8]| crate_side::space_or_tab(line, settings, 0, max);
-        reading(name, line, theirs, move |line| lark::space_or_tab(line, OPTIONS, 0, max), |t, o| {
-            (o.found, o.taken) == (usize::from(t.is_some()), t.unwrap_or(0))
+        let theirs = move |line: &[u8]| crate_side::space_or_tab(line, settings, start(), 0, max);
+        reading(name, line, theirs, move |line| lark::space_or_tab(line, OPTIONS, 0, 0, max), |t, o| {
+            (o.found, o.taken, o.left) == t.map_or((0, 0, 0), |t| (1, t.bytes, t.left))
         })
     };
     let list_item = |name, line| {
-        let theirs = |line: &[u8]| crate_side::list_item(line, settings, false);
-        reading(name, line, theirs, |line| lark::list_item(line, OPTIONS, false), |t, o| match t {
+        let theirs = |line: &[u8]| crate_side::list_item(line, settings, start(), false);
+        reading(name, line, theirs, |line| lark::list_item(line, OPTIONS, 0, false), |t, o| match t {
             None => o.found == 0,
-            Some(t) => (o.found, o.taken, o.size, o.blank, o.mark) == (1, t.taken, t.size, usize::from(t.blank), usize::from(t.mark)),
+            Some(t) => {
+                let theirs = (1, t.taken.bytes, t.taken.left, t.size, usize::from(t.blank), usize::from(t.mark));
+                (o.found, o.taken, o.left, o.size, o.blank, o.mark) == theirs
+            }
         })
     };
     let continuation = |name, line| {
-        let theirs = |line: &[u8]| crate_side::continuation(line, settings, 2, false);
-        reading(name, line, theirs, |line| lark::continuation(line, OPTIONS, 2, false, b'-'), |t, o| {
-            (o.found, o.taken, o.blank) == (usize::from(t.taken.is_some()), t.taken.unwrap_or(0), usize::from(t.blank))
+        let theirs = |line: &[u8]| crate_side::continuation(line, settings, start(), 2, false);
+        reading(name, line, theirs, |line| lark::continuation(line, OPTIONS, 0, 2, false, b'-'), |t, o| {
+            let (found, taken, left) = t.taken.map_or((0, 0, 0), |t| (1, t.bytes, t.left));
+            (o.found, o.taken, o.left, o.blank) == (found, taken, left, usize::from(t.blank))
         })
     };
     let heading = |name, line| {
-        let theirs = |line: &[u8]| crate_side::heading(line, settings);
+        let theirs = |line: &[u8]| crate_side::heading(line, settings, start());
         reading(name, line, theirs, |line| lent.borrow_mut().heading(line, OPTIONS), |t, o| match t {
             None => o.found == 0,
             Some(t) => o.found == 1 && t == read_section(&lent.borrow().out[..4 + 8 * o.events]),
@@ -310,6 +316,7 @@ fn readers() {
         space_or_tab("space-or-tab, an empty line", b"", 3),
         space_or_tab("space-or-tab, two spaces and a word", b"  word", 3),
         space_or_tab("space-or-tab, 1,000 spaces", spaces.as_bytes(), 2_000),
+        space_or_tab("space-or-tab, 250 tabs", tabs.as_bytes(), 2_000),
         list_item("list item, an item of 43 bytes", b"- an item of a list, with a few words in it"),
         list_item("list item, `123456789. a`", b"123456789. a"),
         list_item("list item, a line that is none", text.as_bytes()),
