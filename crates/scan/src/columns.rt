@@ -2,6 +2,8 @@
 //
 // What stands in front of a line is mostly a stretch of one byte: many spaces, or many tabs. So the scan goes stretch by stretch, the first byte of
 // each by itself and what follows it of the same byte at one go, in blocks where it is long. Behind the first tab of a stretch every tab is 4 columns wide.
+//
+// Columns are at most 81,920: the last at which a line may start, 16,384, and four to each byte of the longest line.
 
 use crate::run::is_blank;
 use crate::run::lesser;

@@ -1,8 +1,8 @@
 // Runs of bytes of one kind at the front of what is left of a line.
 //
-// The scan of spaces and tabs serves indentation, the space after a list marker and continuation. Its promise is what it finds, not how: where there
-// are many it goes in blocks, since pasted logs have hundreds of spaces before each line. Runs of digits, of `#` and of text, and the gaps between the words
-// of a heading, are short and go by the byte.
+// The scan of spaces and tabs tells whether a line, or what is left of one, is blank. Its promise is what it finds, not how: where there are many it goes in
+// blocks, since pasted logs have hundreds of spaces before each line. How wide they are is the module `columns`. Runs of digits, of `#` and of text, and the gaps
+// between the words of a heading, are short and go by the byte.
 
 use record::blocks::ByteKind;
 use record::blocks::MIDDLE;
