@@ -23,6 +23,6 @@ headedBefore s options outs =
     reading (checkedBefore s options) (λ r. nothing (Refused r))
     (choose (isHeadingBefore (lineOf s) options) (headed (sized (headingEvents (lineOf s)) outs)) (nothing NotHeading))
 
--- Document 02: "Lines with no tab and starting column 0 answer as before." Proved: proofs/Before.antt
+-- Document 01: "Lines with no tab and starting column 0 answer as they did when a tab was one byte." Proved: proofs/Before.antt
 abbrev pub WithoutTabs : Type 0
 WithoutTabs = (s : List ℕ) (options outs : ℕ) → every noTab (lineOf s) ≡ true → headedOf s options 0 outs ≡ headedBefore s options outs

@@ -64,7 +64,7 @@ goingInBefore l held =
 unfoldable pub goingBefore : List ℕ → ℕ → Container → Going
 goingBefore s options held = reading (checkedBefore s options) GoingRefused (goingInBefore (lineOf s) held)
 
--- Document 02: "Lines with no tab and starting column 0 answer as before." Proved: proofs/Before.antt; of the heading reader in `atx`
+-- Document 01: "Lines with no tab and starting column 0 answer as they did when a tab was one byte." Proved: proofs/Before.antt; of the heading reader in `atx`
 pub record AsBefore (s : List ℕ) (options : ℕ) : Type 0 where
   pub spaces : (min max : ℕ) → spacesOf s options 0 min max ≡ spacesBefore s options min max
   pub start : (interrupting : Bool) → startOf s options 0 interrupting ≡ startBefore s options interrupting

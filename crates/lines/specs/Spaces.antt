@@ -1,6 +1,5 @@
--- Space-or-tab. Document 01: "Space-or-tab takes the spaces and tabs that stand there .. up to a maximum; fewer than the minimum is the finding "too few",
--- also where minimum exceeds maximum." Document 02: it counts "columns rather than bytes", takes "a starting column", and reports "bytes taken without a
--- cut tab, and that tab's columns left over".
+-- Space-or-tab. Document 01: "Space-or-tab takes the spaces and tabs that stand there, counted in columns rather than bytes, up to a maximum; fewer than the
+-- minimum is the finding "too few", also where minimum exceeds maximum. .. Answered: the bytes taken without a cut tab, and that tab's columns left over."
 -- Assumes nothing.
 use Prim.Native.Nat.{ℕ}
 use mathlib.Core.List.{List}
@@ -11,7 +10,7 @@ use Rattle.scan.specs.Line.{lineOf, checkedLine, reading}
 use Rattle.lines.specs.declared.spaces.Spaces.{Spaces}
 use Rattle.lines.specs.declared.spaces.Spaces.the-variants.{Taken, TooFew, Refused}
 
--- on a line; the minimum counts the part of a cut tab that is taken
+-- on a line. "A tab is cut only if some of it is taken; the minimum counts that part."
 unfoldable pub spacesIn : List ℕ → ℕ → ℕ → ℕ → Spaces
 spacesIn l column min max =
     let r = reach max column l in

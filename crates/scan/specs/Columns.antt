@@ -33,8 +33,8 @@ nothing = record { bytes = 0; columns = 0; left = 0 }
 abbrev pub behind : ℕ → ℕ → Reach → Reach
 behind n k r = record { bytes = n + r .bytes; columns = k + r .columns; left = r .left }
 
--- A space or tab of w columns where fewer may be taken. Document 02: "bytes taken without a cut tab, and that tab's columns left over"; it is cut only
--- where some of it is taken
+-- A space or tab of w columns where fewer may be taken. Document 01: "the bytes taken without a cut tab, and that tab's columns left over. A tab is cut only
+-- if some of it is taken"
 unfoldable pub cut : ℕ → ℕ → Reach
 cut max w = choose (eqb max 0) nothing (record { bytes = 0; columns = max; left = w - max })
 

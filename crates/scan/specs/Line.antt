@@ -38,8 +38,8 @@ LineEnds = (s : List ℕ) → EndsBeforeFeed s (length (lineOf s)) × (lineOf s 
 abbrev pub refusal : ℕ → ℕ → Refusal
 refusal number place = record { number = number; place = place }
 
--- "options over 63"; document 02: "2 also when a starting column is over 16,384" (amendment D18: the standard sets no limit); "a line over 16,384 bytes"
--- (D18), "a carriage return in the .. line"; "3 and 4 look past" the line feed
+-- "options over 63; a starting column over 16,384" (amendment D18: the standard sets no limit), "a line over 16,384 bytes" (D18), "a carriage return in the
+-- .. line"; "3 and 4 look past" the line feed
 unfoldable pub checkedLine : List ℕ → ℕ → ℕ → Checked
 checkedLine s options column =
     choose (ltb 63 options) (Bad (refusal 2 0))

@@ -9,7 +9,7 @@ use Rattle.record.specs.Order.{Least}
 use Rattle.record.specs.declared.check.Refusal.{Refusal}
 use Rattle.scan.specs.Line.{refusal}
 
--- the rows of every line reader: "options over 63", and document 02's "2 also when a starting column is over 16,384"; "a line over 16,384 bytes", at
+-- the rows of every line reader: "options over 63; a starting column over 16,384"; "a line over 16,384 bytes", at
 -- 16,384; "a carriage return in the .. line", at its offset. Amendment D18: the standard sets no limit to a line or a column
 pub data Row (s : List ℕ) (options column n p : ℕ) : Type 0 where
   row-2 : 63 < options → n ≡ 2 → p ≡ 0 → Row s options column n p
