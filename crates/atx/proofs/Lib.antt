@@ -7,5 +7,3 @@ pub mod Stripped
 pub mod Seams
 pub mod Enclosed
 pub mod Parting
-pub mod Before
-pub mod AsIf

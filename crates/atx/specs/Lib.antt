@@ -5,5 +5,3 @@ pub mod Rows
 pub mod Cases
 pub mod Content
 pub mod Parted
-pub mod Before
-pub mod AsIf

@@ -5,7 +5,4 @@ pub mod Goings
 pub mod Lawful
 pub mod ExactlyRead
 pub mod Amended
-pub mod Before
 pub mod Further
-pub mod MarksAsIf
-pub mod AsIf

@@ -14,7 +14,7 @@ use Rattle.lines.specs.declared.container.Container.{Container}
 use Rattle.lines.specs.declared.item.Start.the-variants.{NotItem}
 
 -- n bytes of a line were taken, and `left` columns of a tab are left over: no more bytes than it has, and where columns are left, the next byte is a tab, of
--- which at most 3 are left. specs/AsIf.antt says how many
+-- which at most 3 are left. How many is said in `tabs`
 pub record LeftLaws (l : List ℕ) (n left : ℕ) : Type 0 where
   pub within : n ≤ length l
   pub left-of-a-tab : 0 < left → getD l n 0 ≡ 9

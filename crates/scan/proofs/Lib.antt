@@ -1,10 +1,7 @@
 pub mod Leading
-pub mod Before
 pub mod ByteKinds
 pub mod Checks
 pub mod Blanks
 pub mod ExactlyChecked
 pub mod InColumns
 pub mod Taken
-pub mod OneReach
-pub mod AsIf

@@ -83,7 +83,7 @@ pub record ReachTo (max c : ℕ) (l : List ℕ) (r : Reach) : Type 0 where
 abbrev pub ReachCounted : Type 0
 ReachCounted = (max c : ℕ) (l : List ℕ) → ReachTo max c l (reach max c l)
 
--- and nothing else is so: by places alone it is said which bytes, which columns and which are left. Proved: proofs/OneReach.antt
+-- and nothing else is so: by places alone it is said which bytes, which columns and which are left. Proved in `tabs`, proofs/OneReach.antt
 abbrev pub ReachOnly : Type 0
 ReachOnly = (max c : ℕ) (l : List ℕ) (r : Reach) → ReachTo max c l r → r ≡ reach max c l
 

@@ -2,5 +2,3 @@ pub mod Run
 pub mod Columns
 pub mod Line
 pub mod Rows
-pub mod Before
-pub mod AsIf

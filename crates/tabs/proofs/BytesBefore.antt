@@ -1,4 +1,4 @@
--- Without a tab columns are bytes, and the check at column 0 is the one of before: the statements of specs/Before.antt.
+-- Without a tab columns are bytes, and the check at column 0 is the one of before: the statements of specs/BytesBefore.antt.
 -- Assumes nothing.
 use mathlib.Core.Path.{_≡_, refl, ap, _∙_}
 use mathlib.Core.Bool.{Bool, true, false, not}
@@ -12,11 +12,11 @@ use borrow.Author.Tests.{le-leb}
 use Rattle.record.specs.Choice.{choose, and}
 use Rattle.record.specs.Options.{optionOn}
 use Rattle.record.proofs.Bools.{clash, and-left, and-right}
 use Rattle.scan.specs.Run.{spaceOrTab, leading, every, blanks}
 use Rattle.scan.specs.Line.{checkedLine}
 use Rattle.scan.specs.Columns.{toStop, width, columns, nothing, behind, cut, reach, reachAll, indentation}
 use Rattle.scan.specs.declared.columns.Reach.{Reach}
-use Rattle.scan.specs.Before.{checkedBefore, blanksUpTo, indentationBefore, noTab, whole, WithoutTabs, CheckedAsBefore}
+use Rattle.tabs.specs.BytesBefore.{checkedBefore, blanksUpTo, indentationBefore, noTab, whole, WithoutTabs, CheckedAsBefore}
 
 -- a byte that is no tab has one column
 one-wide : (c b : ℕ) → noTab b ≡ true → width c b ≡ 1

@@ -1,5 +1,5 @@
--- The heading reader as it was before tabs went to stops, in bytes and from column 0 (specs/Before.antt in scan). No call goes by this. It stands here
--- for what is said of the reader: a line with no tab is read at column 0 as it was then, and one with tabs as if they were replaced by spaces (specs/AsIf.antt).
+-- The heading reader as it was before tabs went to stops, in bytes and from column 0 (specs/BytesBefore.antt). No call goes by this. It stands here
+-- for what is said of the reader: a line with no tab is read at column 0 as it was then, and one with tabs as if they were replaced by spaces (specs/HeadingAsIf.antt).
 -- Assumes nothing.
 use Prim.Native.Nat.{ℕ}
 use mathlib.Core.Path.{_≡_}
@@ -11,9 +11,9 @@ use Rattle.record.specs.Options.{optionOn}
 use Rattle.record.specs.Outcome.{sized}
 use Rattle.scan.specs.Run.{every}
 use Rattle.scan.specs.Line.{lineOf, reading}
-use Rattle.scan.specs.Before.{checkedBefore, indentationBefore, noTab}
+use Rattle.tabs.specs.BytesBefore.{checkedBefore, indentationBefore, noTab}
 use Rattle.atx.specs.Heading.{opening, headingEvents, Result, nothing, headed, headedOf}
 use Rattle.atx.specs.declared.Headed.the-variants.{NotHeading, Refused}
 
 unfoldable pub isHeadingBefore : List ℕ → ℕ → Bool
 isHeadingBefore l options = and (optionOn options 8) (opening (drop (indentationBefore options l) l))
@@ -23,6 +23,6 @@ headedBefore s options outs =
     reading (checkedBefore s options) (λ r. nothing (Refused r))
     (choose (isHeadingBefore (lineOf s) options) (headed (sized (headingEvents (lineOf s)) outs)) (nothing NotHeading))
 
--- Document 01: "Lines with no tab and starting column 0 answer as they did when a tab was one byte." Proved: proofs/Before.antt
+-- Document 01: "Lines with no tab and starting column 0 answer as they did when a tab was one byte." Proved: proofs/HeadingBefore.antt
 abbrev pub WithoutTabs : Type 0
 WithoutTabs = (s : List ℕ) (options outs : ℕ) → every noTab (lineOf s) ≡ true → headedOf s options 0 outs ≡ headedBefore s options outs

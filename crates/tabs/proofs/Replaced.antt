@@ -1,4 +1,4 @@
--- A line with its tabs replaced by spaces (specs/AsIf.antt), read in bytes, and the line as it is, read in columns: the columns of the spaces and tabs in
+-- A line with its tabs replaced by spaces (specs/Replaced.antt), read in bytes, and the line as it is, read in columns: the columns of the spaces and tabs in
 -- front, all of them or up to a maximum, are as many bytes there; and where reading comes to on the one and on the other.
 -- Assumes nothing.
 use mathlib.Core.Path.{_≡_, refl, sym, ap, _∙_}
@@ -12,13 +12,13 @@ use lib.Dec.{leb, ltb, eqb}
 use borrow.Author.Tests.{eq-eqb, eqb-true, eqb-false, leb-true, leb-false, ltb-true, ltb-false}
 use Rattle.record.specs.Choice.{choose, and}
 use Rattle.record.specs.Options.{optionOn}
 use Rattle.scan.specs.Run.{or, spaceOrTab, leading, every, first, blank, blanks}
 use Rattle.scan.specs.Columns.{toStop, width, columns, reach, reachAll, indentation}
-use Rattle.scan.specs.Before.{blanksUpTo, indentationBefore}
-use Rattle.scan.specs.AsIf.{replaced, upTo, CameTo, CameOnly}
+use Rattle.tabs.specs.BytesBefore.{blanksUpTo, indentationBefore}
+use Rattle.tabs.specs.Replaced.{replaced, upTo, CameTo, CameOnly}
 use Rattle.scan.specs.declared.columns.Reach.{Reach}
 use Rattle.scan.proofs.InColumns.{width-tab, width-space, width-least, by-cases, tab-blank}
 use Rattle.scan.proofs.Taken.{columns-all, columns-full}
 
 -- what is written for a byte at column c: as many bytes as it has columns
 unfoldable written : ℕ → ℕ → List ℕ

@@ -1,4 +1,4 @@
--- A line with no tab is read at column 0 as it was before tabs went to stops: the statement of specs/Before.antt. Its columns are its bytes (proofs/Before.antt
+-- A line with no tab is read at column 0 as it was before tabs went to stops: the statement of specs/ReadersBefore.antt. Its columns are its bytes (proofs/Before.antt
 -- in scan), and so are those of what is left of it behind the indentation and behind a marker.
 -- Assumes nothing.
 use mathlib.Core.Path.{_≡_, refl, sym, ap, _∙_}
@@ -16,24 +16,24 @@ use Rattle.record.proofs.Bools.{and-right}
 use Rattle.scan.specs.Run.{every, blank, blanks}
 use Rattle.scan.specs.Columns.{columns, reach}
 use Rattle.scan.specs.Line.{lineOf, reading}
-use Rattle.scan.specs.Before.{indentationBefore, noTab, whole}
+use Rattle.tabs.specs.BytesBefore.{indentationBefore, noTab, whole}
 use Rattle.scan.specs.declared.columns.Reach.{Reach}
 use Rattle.scan.specs.declared.line.Checked.{Checked}
-use Rattle.scan.proofs.Before.{without-tabs, checked-as-before}
+use Rattle.tabs.proofs.BytesBefore.{without-tabs, checked-as-before}
 use Rattle.scan.proofs.Taken.{columns-full, every-drop}
 use Rattle.lines.specs.Spaces.{spacesIn, spacesOf}
 use Rattle.lines.specs.Item.{padding, itemWith, filledStart, startAfter, startFrom, startAt, startIn, startOf}
 use Rattle.lines.specs.Going.{cleared, blankGoing, filledGoing, goingIn, goingOf}
-use Rattle.lines.specs.Before.{spacesInBefore, spacesBefore, filledBefore, afterBefore, fromBefore, startInBefore, startBefore}
-use Rattle.lines.specs.Before.{goingInBefore, goingBefore, WithoutTabs}
+use Rattle.tabs.specs.ReadersBefore.{spacesInBefore, spacesBefore, filledBefore, afterBefore, fromBefore, startInBefore, startBefore}
+use Rattle.tabs.specs.ReadersBefore.{goingInBefore, goingBefore, WithoutTabs}
 use Rattle.lines.specs.declared.container.Kind.{Kind}
 use Rattle.lines.specs.declared.container.Container.{Container}
 use Rattle.lines.specs.declared.item.Marker.{Marker}
 use Rattle.lines.specs.declared.item.Marker.the-variants.{Marked, Unmarked}
 use Rattle.lines.specs.declared.item.Start.the-variants.{Refused as StartRefused}
 use Rattle.lines.specs.declared.spaces.Spaces.the-variants.{Refused as SpacesRefused}
 use Rattle.lines.specs.declared.going.Going.the-variants.{Goes, Refused as GoingRefused}
 use Rattle.lines.proofs.Lawful.{padding-some}
 
 -- alike, where it comes to that
 pub choose-where : {A : Type 0} (b : Bool) (x x′ y y′ : A) → (b ≡ true → x ≡ x′) → (b ≡ false → y ≡ y′) → choose b x y ≡ choose b x′ y′

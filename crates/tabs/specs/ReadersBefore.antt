@@ -1,6 +1,6 @@
--- The three readers as they were before tabs went to stops, in bytes and from column 0 (specs/Before.antt in scan); where they found something, no columns
+-- The three readers as they were before tabs went to stops, in bytes and from column 0 (specs/BytesBefore.antt); where they found something, no columns
 -- were left. No call goes by these. They stand here for what is said of each reader: a line with no tab is read at column 0 as it was then, and one with tabs as
--- if they were replaced by spaces (specs/AsIf.antt).
+-- if they were replaced by spaces (specs/ReadersAsIf.antt).
 -- Assumes nothing.
 use Prim.Native.Nat.{ℕ, _+_}
 use mathlib.Core.Path.{_≡_}
@@ -12,20 +12,20 @@ use Rattle.record.specs.Choice.{choose, and}
 use Rattle.record.specs.Options.{optionOn}
 use Rattle.scan.specs.Run.{every, blank, blanks}
 use Rattle.scan.specs.Line.{lineOf, reading}
-use Rattle.scan.specs.Before.{checkedBefore, blanksUpTo, indentationBefore, noTab}
+use Rattle.tabs.specs.BytesBefore.{checkedBefore, blanksUpTo, indentationBefore, noTab}
 use Rattle.lines.specs.Spaces.{spacesOf}
 use Rattle.lines.specs.Item.{markerOf, padding, container, startOf}
 use Rattle.lines.specs.Going.{cleared, goingOf}
 use Rattle.lines.specs.declared.spaces.Spaces.{Spaces}
 use Rattle.lines.specs.declared.spaces.Spaces.the-variants.{Taken, TooFew, Refused as SpacesRefused}
 use Rattle.lines.specs.declared.container.Kind.{Kind}
 use Rattle.lines.specs.declared.container.Container.{Container}
 use Rattle.lines.specs.declared.item.Marker.{Marker}
 use Rattle.lines.specs.declared.item.Marker.the-variants.{Marked, Unmarked}
 use Rattle.lines.specs.declared.item.Start.{Start}
 use Rattle.lines.specs.declared.item.Start.the-variants.{Item, NotItem, Refused as StartRefused}
 use Rattle.lines.specs.declared.going.Going.{Going}
 use Rattle.lines.specs.declared.going.Going.the-variants.{Goes, Stops, Refused as GoingRefused}
 
 unfoldable pub spacesInBefore : List ℕ → ℕ → ℕ → Spaces
 spacesInBefore l min max = choose (leb min (blanksUpTo max l)) (Taken (blanksUpTo max l) 0) TooFew
@@ -64,7 +64,7 @@ goingInBefore l held =
 unfoldable pub goingBefore : List ℕ → ℕ → Container → Going
 goingBefore s options held = reading (checkedBefore s options) GoingRefused (goingInBefore (lineOf s) held)
 
--- Document 01: "Lines with no tab and starting column 0 answer as they did when a tab was one byte." Proved: proofs/Before.antt; of the heading reader in `atx`
+-- Document 01: "Lines with no tab and starting column 0 answer as they did when a tab was one byte." Proved: proofs/ReadersBefore.antt; of the heading reader beside it
 pub record AsBefore (s : List ℕ) (options : ℕ) : Type 0 where
   pub spaces : (min max : ℕ) → spacesOf s options 0 min max ≡ spacesBefore s options min max
   pub start : (interrupting : Bool) → startOf s options 0 interrupting ≡ startBefore s options interrupting

@@ -1,6 +1,6 @@
 -- The line's check and its indentation as they were before tabs went to stops: spaces and tabs counted in bytes, from column 0 alone. No call goes by
--- these. They stand here for what `lines` and `atx` say of each reader: that a line with no tab is read at column 0 as it was then, and with that, that a line
--- with tabs is read as if they were replaced by spaces (specs/AsIf.antt).
+-- these. They stand here for what is said of each reader beside it: that a line with no tab is read at column 0 as it was then, and with that, that a line
+-- with tabs is read as if they were replaced by spaces (specs/Replaced.antt).
 -- Assumes nothing.
 use Prim.Native.Nat.{ℕ}
 use mathlib.Core.Path.{_≡_}
@@ -39,7 +39,7 @@ noTab b = not (eqb b 9)
 abbrev pub whole : ℕ → Reach
 whole n = record { bytes = n; columns = n; left = 0 }
 
--- Without a tab, columns are bytes, at whatever column the line starts. Proved: proofs/Before.antt
+-- Without a tab, columns are bytes, at whatever column the line starts. Proved: proofs/BytesBefore.antt
 pub record BytesAreColumns (c : ℕ) (l : List ℕ) : Type 0 where
   pub all : columns c l ≡ blanks l
   pub up-to : (max : ℕ) → reach max c l ≡ whole (blanksUpTo max l)

@@ -1,20 +1,20 @@
 -- §2.2, of each reader: "tabs behave as if they were replaced by spaces with a tab stop of 4 characters". Whatever a reader answers of a line that starts at a
--- column, it answered before tabs went to stops (specs/Before.antt) of the line with its tabs replaced; the bytes taken and the columns left are where that
--- came to. With that each answer is said a second time, for every line and all arguments. Proved: proofs/AsIf.antt.
+-- column, it answered before tabs went to stops (specs/ReadersBefore.antt) of the line with its tabs replaced; the bytes taken and the columns left are where that
+-- came to. With that each answer is said a second time, for every line and all arguments. Proved: proofs/ReadersAsIf.antt.
 -- Assumes nothing.
 use Prim.Native.Nat.{ℕ}
 use mathlib.Core.Path.{_≡_}
 use mathlib.Core.Bool.{Bool}
 use mathlib.Core.List.{List}
-use Rattle.scan.specs.AsIf.{replaced, CameTo}
+use Rattle.tabs.specs.Replaced.{replaced, CameTo}
 use Rattle.lines.specs.Spaces.{spacesIn}
 use Rattle.lines.specs.Item.{startIn}
 use Rattle.lines.specs.Going.{goingIn}
-use Rattle.lines.specs.Before.{spacesInBefore, startInBefore, goingInBefore}
+use Rattle.tabs.specs.ReadersBefore.{spacesInBefore, startInBefore, goingInBefore}
 use Rattle.lines.specs.declared.container.Container.{Container}
 use Rattle.lines.specs.declared.spaces.Spaces.the-variants.{Taken, TooFew}
 use Rattle.lines.specs.declared.item.Start.the-variants.{Item, NotItem}
 use Rattle.lines.specs.declared.going.Going.the-variants.{Goes, Stops}
 
 -- `n` and `left` on the line are k bytes of the line with its tabs replaced
 pub record AsIfSpaces (c : ℕ) (l : List ℕ) : Type 0 where

@@ -1,4 +1,4 @@
--- A line is a heading where it was one with its tabs replaced by spaces: the statement of specs/AsIf.antt. Behind the indentation an opening sequence has no
+-- A line is a heading where it was one with its tabs replaced by spaces: the statement of specs/HeadingAsIf.antt. Behind the indentation an opening sequence has no
 -- tab in it, and a tab breaks it off as a space does; and behind a part of a tab there is none, on either line.
 -- Assumes nothing.
 use mathlib.Core.Path.{_≡_, refl, sym, ap, _∙_}
@@ -14,11 +14,11 @@ use Rattle.record.specs.Choice.{choose, and}
 use Rattle.record.specs.Options.{optionOn}
 use Rattle.scan.specs.Run.{or, spaceOrTab, hash, leading, first}
 use Rattle.scan.specs.Columns.{toStop, indentation}
-use Rattle.scan.specs.AsIf.{replaced, upTo, CameTo}
-use Rattle.scan.proofs.AsIf.{drop-replaced, inside-tab, indent-replaced, indent-came}
+use Rattle.tabs.specs.Replaced.{replaced, upTo, CameTo}
+use Rattle.tabs.proofs.Replaced.{drop-replaced, inside-tab, indent-replaced, indent-came}
 use Rattle.atx.specs.Heading.{brokenOff, opening, isHeading}
-use Rattle.atx.specs.Before.{isHeadingBefore}
-use Rattle.atx.specs.AsIf.{TabsAsSpaces}
+use Rattle.tabs.specs.HeadingBefore.{isHeadingBefore}
+use Rattle.tabs.specs.HeadingAsIf.{TabsAsSpaces}
 
 -- the first byte: a tab becomes at least one space, any other byte stays
 some-spaces : (n : ℕ) (l : List ℕ) → 1 ≤ n → (m : List ℕ) × (replicate n 32 ++ l ≡ 32 ∷ m)

@@ -1,5 +1,5 @@
--- Each reader answers of a line what the one of before answers of the line with its tabs replaced: the statement of specs/AsIf.antt. What is left of the one
--- line behind the indentation, and behind a marker, is on the other the same with its tabs replaced (proofs/AsIf.antt in scan).
+-- Each reader answers of a line what the one of before answers of the line with its tabs replaced: the statement of specs/ReadersAsIf.antt. What is left of the one
+-- line behind the indentation, and behind a marker, is on the other the same with its tabs replaced (proofs/Replaced.antt).
 -- Assumes nothing.
 use mathlib.Core.Path.{_≡_, refl, sym, ap, _∙_}
 use mathlib.Core.Bool.{Bool, true, false}
@@ -16,29 +16,29 @@ use Rattle.record.specs.Options.{optionOn}
 use Rattle.record.proofs.Bools.{and-right}
 use Rattle.scan.specs.Run.{or, spaceOrTab, first, blank}
 use Rattle.scan.specs.Columns.{columns, reach, indentation}
-use Rattle.scan.specs.AsIf.{replaced, upTo, CameTo}
+use Rattle.tabs.specs.Replaced.{replaced, upTo, CameTo}
 use Rattle.scan.specs.declared.columns.Reach.{Reach}
 use Rattle.scan.proofs.Taken.{columns-full, indent-fits}
-use Rattle.scan.proofs.AsIf.{columns-replaced, reach-replaced, came-to, blank-replaced, upTo-plus, drop-replaced, came-behind}
-use Rattle.scan.proofs.AsIf.{inside-tab, indent-replaced, indent-came}
+use Rattle.tabs.proofs.Replaced.{columns-replaced, reach-replaced, came-to, blank-replaced, upTo-plus, drop-replaced, came-behind}
+use Rattle.tabs.proofs.Replaced.{inside-tab, indent-replaced, indent-came}
 use Rattle.lines.specs.Spaces.{spacesIn}
 use Rattle.lines.specs.Item.{markerOf, container, padding, upToMarker, filledStart, startAfter, startFrom, startAt, startIn}
 use Rattle.lines.specs.Going.{cleared, blankGoing, filledGoing, goingIn}
-use Rattle.lines.specs.Before.{spacesInBefore, filledBefore, afterBefore, fromBefore, startInBefore, goingInBefore}
-use Rattle.lines.specs.AsIf.{TabsAsSpaces}
+use Rattle.tabs.specs.ReadersBefore.{spacesInBefore, filledBefore, afterBefore, fromBefore, startInBefore, goingInBefore}
+use Rattle.tabs.specs.ReadersAsIf.{TabsAsSpaces}
 use Rattle.lines.specs.declared.container.Kind.{Kind}
 use Rattle.lines.specs.declared.container.Container.{Container}
 use Rattle.lines.specs.declared.spaces.Spaces.{Spaces}
 use Rattle.lines.specs.declared.spaces.Spaces.the-variants.{Taken, TooFew}
 use Rattle.lines.specs.declared.item.Marker.{Marker}
 use Rattle.lines.specs.declared.item.Marker.the-variants.{Marked, Unmarked}
 use Rattle.lines.specs.declared.item.Start.{Start}
 use Rattle.lines.specs.declared.item.Start.the-variants.{Item, NotItem}
 use Rattle.lines.specs.declared.going.Going.{Going}
 use Rattle.lines.specs.declared.going.Going.the-variants.{Goes, Stops}
 use Rattle.lines.proofs.Marks.{told}
-use Rattle.lines.proofs.MarksAsIf.{marker-replaced, marker-columns}
+use Rattle.tabs.proofs.MarksAsIf.{marker-replaced, marker-columns}
 use Rattle.lines.proofs.Lawful.{taken-not-few, same-taken, item-not, same-start, goes-not, same-goes, padding-some, blank-unmarked}
 
 -- equal numbers came as far
 came-at : (c : ℕ) (l : List ℕ) {n n′ left left′ k k′ : ℕ} → n ≡ n′ → left ≡ left′ → k ≡ k′ → CameTo c l n left k → CameTo c l n′ left′ k′

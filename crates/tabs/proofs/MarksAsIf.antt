@@ -1,4 +1,4 @@
--- Markers on a line with its tabs replaced (specs/AsIf.antt in scan): the marker there is the one on the line itself, and none of its bytes is a tab, so it has
+-- Markers on a line with its tabs replaced (specs/Replaced.antt): the marker there is the one on the line itself, and none of its bytes is a tab, so it has
 -- as many columns as bytes.
 -- Assumes nothing.
 use mathlib.Core.Path.{_≡_, refl, sym, ap, _∙_}
@@ -15,15 +15,15 @@ use Rattle.record.proofs.Bools.{clash, and-left, and-right}
 use Rattle.record.proofs.Chosen.{chosen}
 use Rattle.scan.specs.Run.{or, spaceOrTab, digit, leading, every, count, first}
 use Rattle.scan.specs.Columns.{toStop}
-use Rattle.scan.specs.AsIf.{replaced, upTo}
+use Rattle.tabs.specs.Replaced.{replaced, upTo}
 use Rattle.scan.proofs.Leading.{in-run}
 use Rattle.lines.specs.Item.{breakMark, isMark, markOrBlank, marksOnly, thematicBreak}
 use Rattle.lines.specs.Item.{bulletMark, orderedMark, startsWithOne, mayStart, orderedOf, markerOf}
 use Rattle.lines.specs.declared.container.Kind.{Kind}
 use Rattle.lines.specs.declared.container.Kind.the-variants.{Bullet, Ordered}
 use Rattle.lines.specs.declared.item.Marker.the-variants.{Marked, Unmarked}
 use Rattle.lines.proofs.Marks.{told, marked-width, unmarked-not}
-use Rattle.lines.proofs.Before.{choose-where}
+use Rattle.tabs.proofs.ReadersBefore.{choose-where}
 
 -- the first byte, where it is a tab and where it is not
 on-tab : (c b : ℕ) (l : List ℕ) → eqb b 9 ≡ true → replaced c (b ∷ l) ≡ replicate (toStop c) 32 ++ replaced (c + toStop c) l
