@@ -2,13 +2,14 @@
 -- Assumes nothing.
 use Prim.Native.Nat.{ℕ, _+_}
 use mathlib.Core.Bool.{Bool, true, false, not}
-use mathlib.Core.List.{List}
+use mathlib.Core.Path.{_≡_, refl}
+use mathlib.Core.List.{List, [], _∷_}
 use lib.ListN.{getD, drop}
 use lib.Dec.{leb, eqb}
 use Rattle.record.specs.Choice.{choose, and}
 use Rattle.record.specs.Options.{optionOn}
 use Rattle.scan.specs.Run.{or, spaceOrTab, digit, leading, every, count, first, blank}
-use Rattle.scan.specs.Columns.{columns, reach, indentation}
+use Rattle.scan.specs.Columns.{width, columns, cut, reach, reachAll, indentation}
 use Rattle.scan.specs.Line.{lineOf, checkedLine, reading, flag}
 use Rattle.scan.specs.declared.columns.Reach.{Reach}
 use Rattle.lines.specs.declared.container.Kind.{Kind}
@@ -118,6 +119,11 @@ unfoldable pub startIn : List ℕ → ℕ → ℕ → Bool → Start
 startIn l options column interrupting =
     let indent = indentation options column l in
     choose (optionOn options 16) (startAt interrupting column indent (drop (indent .bytes) l)) NotItem
+
+-- `\t-\ta` at column 1: the tabs have 3 columns each, from column 1 to 4 and from 5 to 8, and the item 7
+behind-a-tab : startIn (9 ∷ 45 ∷ 9 ∷ 97 ∷ []) 59 1 false ≡ Item 3 0 (container (Bullet 45) 7 false)
+unfolding startIn startAt startFrom startAfter filledStart padding markerOf bulletMark thematicBreak marksOnly markOrBlank isMark breakMark blank indentation reachAll reach columns cut width optionOn every count spaceOrTab or and choose
+behind-a-tab = refl
 
 unfoldable pub startOf : List ℕ → ℕ → ℕ → Bool → Start
 startOf s options column interrupting = reading (checkedLine s options column) Refused (startIn (lineOf s) options column interrupting)
