@@ -1,6 +1,7 @@
 -- Continuation. Document 01: "Continuation with stored size and blank flag: a blank line is no continuation if the flag is set, else takes
 -- up to size; a filled line clears the flag, whatever follows, and must begin with a space or tab and have size of them."
--- "A minimum, maximum or stored size means columns." (CommonMark 0.31 §5.2: "A list item can begin with at most one blank line", and rules 1 to 3 for the indentation of further lines.)
+-- "A minimum, maximum or stored size means columns." (CommonMark 0.31 §5.2: "A list item can begin with at most one blank line", and rules 1 to 3 for the
+-- indentation of further lines.)
 -- Assumes nothing.
 use Prim.Native.Nat.{ℕ}
 use mathlib.Core.Bool.{false}
