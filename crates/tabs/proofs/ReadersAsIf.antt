@@ -20,7 +20,7 @@ use Rattle.tabs.specs.Replaced.{replaced, upTo, CameTo}
 use Rattle.scan.specs.declared.columns.Reach.{Reach}
 use Rattle.scan.proofs.Taken.{columns-full, indent-fits}
 use Rattle.tabs.proofs.Replaced.{columns-replaced, reach-replaced, came-to, blank-replaced, upTo-plus, drop-replaced, came-behind}
-use Rattle.tabs.proofs.Replaced.{inside-tab, indent-replaced, indent-came}
+use Rattle.tabs.proofs.Replaced.{came-at, inside-tab, indent-replaced, indent-came}
 use Rattle.lines.specs.Spaces.{spacesIn}
 use Rattle.lines.specs.Item.{markerOf, container, padding, upToMarker, filledStart, startAfter, startFrom, startAt, startIn}
 use Rattle.lines.specs.Going.{cleared, blankGoing, filledGoing, goingIn}
@@ -39,10 +39,6 @@ use Rattle.lines.specs.declared.going.Going.the-variants.{Goes, Stops}
 use Rattle.lines.proofs.Marks.{told}
 use Rattle.tabs.proofs.MarksAsIf.{marker-replaced, marker-columns}
 use Rattle.lines.proofs.Lawful.{taken-not-few, same-taken, item-not, same-start, goes-not, same-goes, padding-some, blank-unmarked}
-
--- equal numbers came as far
-came-at : (c : ℕ) (l : List ℕ) {n n′ left left′ k k′ : ℕ} → n ≡ n′ → left ≡ left′ → k ≡ k′ → CameTo c l n left k → CameTo c l n′ left′ k′
-came-at c l p q r t = rw (← p, ← q, ← r) t
 
 -- of a choice on both sides
 both-choose : {A : Type 0} (R : A → A → Type 0) (z : Bool) (a a′ b b′ : A) → (z ≡ true → R a b) → (z ≡ false → R a′ b′) →

@@ -45,7 +45,7 @@ replaced-same : {c c′ : ℕ} {l l′ : List ℕ} → c ≡ c′ → l ≡ l′
 replaced-same p q = cc
 
 -- the columns of the first bytes, byte by byte
-upTo-none : (c : ℕ) (l : List ℕ) → upTo c l 0 ≡ 0
+pub upTo-none : (c : ℕ) (l : List ℕ) → upTo c l 0 ≡ 0
 unfolding upTo replaced
 upTo-none c l = refl
 
@@ -54,7 +54,7 @@ unfolding upTo replaced
 upTo-empty c zero = refl
 upTo-empty c (suc n) = refl
 
-upTo-on : (c b : ℕ) (l : List ℕ) (n : ℕ) → upTo c (b ∷ l) (suc n) ≡ width c b + upTo (c + width c b) l n
+pub upTo-on : (c b : ℕ) (l : List ℕ) (n : ℕ) → upTo c (b ∷ l) (suc n) ≡ width c b + upTo (c + width c b) l n
 unfolding upTo
 upTo-on c b l n =
     let e : length (replaced c (b ∷ take n l)) ≡ length (written c b ++ replaced (c + width c b) (take n l)) = ap length (replaced-on c b (take n l)) in
@@ -101,6 +101,21 @@ drop-replaced c (b ∷ l) (suc n) =
     let f = upTo-on c b l n in
     let e : c + width c b + upTo (c + width c b) l n ≡ c + upTo c (b ∷ l) (suc n) = omega arith in
     drop-same f refl ∙ drop-on c b l (upTo (c + width c b) l n) ∙ drop-replaced (c + width c b) l n ∙ replaced-same e refl
+
+-- the next byte has its own columns
+pub upTo-wide : (c : ℕ) (l : List ℕ) (n : ℕ) → n < length l → upTo c l (suc n) ≡ upTo c l n + width (c + upTo c l n) (getD l n 0)
+upTo-wide c [] n h = absurd (omega arith)
+upTo-wide c (b ∷ l) zero h =
+    let s : width (c + upTo c (b ∷ l) 0) b ≡ width c b = ap (λ (x : ℕ). width x b) (omega (arith, upTo-none c (b ∷ l))) in
+    omega (arith, upTo-none c (b ∷ l), upTo-on c b l 0, upTo-none (c + width c b) l)
+upTo-wide c (b ∷ l) (suc n) h =
+    let s : width (c + upTo c (b ∷ l) (suc n)) (getD l n 0) ≡ width (c + width c b + upTo (c + width c b) l n) (getD l n 0) =
+    ap (λ (x : ℕ). width x (getD l n 0)) (omega (arith, upTo-on c b l n)) in
+    omega (arith, upTo-on c b l n, upTo-on c b l (suc n), upTo-wide (c + width c b) l n (omega arith))
+
+-- where reading came to, in equal numbers
+pub came-at : (c : ℕ) (l : List ℕ) {n n′ left left′ k k′ : ℕ} → n ≡ n′ → left ≡ left′ → k ≡ k′ → CameTo c l n left k → CameTo c l n′ left′ k′
+came-at c l p q r t = rw (← p, ← q, ← r) t
 
 -- where reading came to, behind some bytes
 pub came-behind : (c : ℕ) (l : List ℕ) (n m left k : ℕ) → n ≤ length l → CameTo (c + upTo c l n) (drop n l) m left k → CameTo c l (n + m) left (upTo c l n + k)
@@ -274,15 +289,7 @@ inside-tab c l n left k t h =
     at-it = drop-cons l n 0 (t .a-tab h .0)
 
     wide : upTo c l (suc n) ≡ upTo c l n + width (c + upTo c l n) (getD l n 0)
-    wide =
-        let s : upTo c l (suc n) ≡ upTo c l (n + 1) = upTo-same refl refl (omega arith) in
-        let d : upTo (c + upTo c l n) (drop n l) 1 ≡ upTo (c + upTo c l n) (getD l n 0 ∷ drop (suc n) l) 1 = upTo-same refl at-it refl in
-        omega (
-          arith,
-          upTo-plus c l n 1,
-          upTo-on (c + upTo c l n) (getD l n 0) (drop (suc n) l) 0,
-          upTo-none (c + upTo c l n + width (c + upTo c l n) (getD l n 0)) (drop (suc n) l),
-        )
+    wide = upTo-wide c l n (t .a-tab h .0)
 
 -- the indentation
 pub indent-replaced : (options c : ℕ) (l : List ℕ) → indentation options c l .columns ≡ indentationBefore options (replaced c l)
@@ -307,9 +314,7 @@ indent-came options c l = go (optionOn options 32)
 
 -- more bytes have more columns: each has one at least
 upTo-next : (c : ℕ) (l : List ℕ) (n : ℕ) → n < length l → upTo c l n < upTo c l (suc n)
-upTo-next c [] n h = absurd (omega arith)
-upTo-next c (b ∷ l) zero h = omega (arith, upTo-none c (b ∷ l), upTo-on c b l 0, width-least c b)
-upTo-next c (b ∷ l) (suc n) h = omega (arith, upTo-on c b l n, upTo-on c b l (suc n), upTo-next (c + width c b) l n (omega arith))
+upTo-next c l n h = omega (arith, upTo-wide c l n h, width-least (c + upTo c l n) (getD l n 0))
 
 upTo-more : (c : ℕ) (l : List ℕ) (n d : ℕ) → n + d ≤ length l → upTo c l n ≤ upTo c l (n + d)
 upTo-more c l n zero h = let e : upTo c l (n + 0) ≡ upTo c l n = upTo-same refl refl (omega arith) in omega arith
