@@ -10,6 +10,10 @@ fn panic(_: &core::panic::PanicInfo<'_>) -> ! {
     loop {}
 }
 
+/// What `core` names for unwinding, which is std's otherwise. Nothing unwinds here, and some linkers ask for the name all the same.
+#[no_mangle]
+extern "C" fn rust_eh_personality() {}
+
 /// How many events `*a*` comes to, all in memory of the stack.
 fn events() -> Result<usize, Refusal> {
     let (mut bytes, mut out, mut work) = ([0; 100], [0; 100], [0; Work::LENGTH]);
