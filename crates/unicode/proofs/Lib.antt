@@ -1,0 +1,12 @@
+pub mod Table
+pub mod Order
+pub mod Halving
+pub mod Packed
+pub mod Window
+pub mod Forms
+pub mod Leads
+pub mod Parts
+pub mod Sides
+pub mod Neighbours
+pub mod Decoding
+pub mod Places
