@@ -11,7 +11,8 @@
 #include <stdio.h>
 #include <stdlib.h>
 #include <string.h>
-#include <time.h>
+
+#include "timing.h"
 
 typedef struct lark_resolved resolver(const uint8_t *record, size_t record_length, uint32_t options, uint8_t *out, size_t out_length,
                                       uint8_t *work, size_t work_length);
@@ -148,12 +149,6 @@ static void heading_without_text(size_t n) {
     event(0, HEADING), pair(SEQUENCE, "##");
     while (count + 3 <= n) pair(SPACE, " ");
     event(1, HEADING);
-}
-
-static double now(void) {
-    struct timespec t;
-    clock_gettime(CLOCK_MONOTONIC, &t);
-    return 1e9 * (double)t.tv_sec + (double)t.tv_nsec;
 }
 
 /* How often a record is called in one round: at most CALLS times, and once LEAST are made no longer than TURN, in nanoseconds. */

@@ -11,7 +11,8 @@
 #include <stdio.h>
 #include <stdlib.h>
 #include <string.h>
-#include <time.h>
+
+#include "timing.h"
 
 extern __typeof__(lark_read) older_lark_read;
 #ifdef BEFORE_COLUMNS
@@ -36,13 +37,6 @@ extern __typeof__(lark_list_item) older_lark_list_item;
 extern __typeof__(lark_continuation) older_lark_continuation;
 extern __typeof__(lark_heading) older_lark_heading;
 #define OLDER(with, without) GIVEN with
-#endif
-
-/* Moves the code of both archives: where the linker puts it matters for loops of a few instructions. */
-#ifdef MOVED
-#define QUOTED(number) #number
-#define SKIP(number) __asm__(".section .text.moved,\"ax\"\n.skip " QUOTED(number) "\n.text")
-SKIP(MOVED);
 #endif
 
 enum { ROUNDS = 61, OPTIONS = 59 };
@@ -82,12 +76,6 @@ static size_t answer(int older, const struct row *r) {
 
 void mark(void);
 void __attribute__((noinline)) mark(void) { __asm__ volatile("" ::: "memory"); }
-
-static double now(void) {
-    struct timespec t;
-    clock_gettime(CLOCK_MONOTONIC, &t);
-    return 1e9 * (double)t.tv_sec + (double)t.tv_nsec;
-}
 
 /* Nanoseconds a call of one batch. */
 static double batch(int older, const struct row *r) {

@@ -20,9 +20,12 @@ static void event(uint8_t kind, uint8_t name) {
     at[0] = kind, at[1] = name, at[2] = at[3] = 0;
     lark_put_number(at + 4, bytes);
 }
-static void pair(uint8_t name, const char *text) {
+static void text(const char *t) {
+    while (*t) document[bytes++] = (uint8_t)*t++;
+}
+static void pair(uint8_t name, const char *t) {
     event(0, name);
-    while (*text) document[bytes++] = (uint8_t)*text++;
+    text(t);
     event(1, name);
 }
 static void close_record(void) {
@@ -33,10 +36,16 @@ static void close_record(void) {
     length = 8 + bytes + 8 * count;
 }
 
-/* the records: 1,024 runs with groups; 62 levels of items; one long heading */
+/* the records: 1,024 runs with groups; as many with characters of two to four bytes between; 62 levels of items; one long heading */
 static void runs(void) {
     bytes = count = 0;
     for (int i = 0; i < 1024; i++) pair(1, i % 2 ? "_" : "*");
+    close_record();
+}
+static void wide_runs(void) {
+    static const char *const between[] = {"\303\251", "\343\200\214", "\360\237\230\200"};
+    bytes = count = 0;
+    for (int i = 0; i < 1024; i++) pair(1, i % 2 ? "_" : "*"), text(between[i % 3]);
     close_record();
 }
 static void items(void) {
@@ -101,7 +110,8 @@ int main(void) {
         void (*input)(void), (*call)(void);
         int found;
     } calls[] = {{"lark_read", runs, reads, 0},
-                 {"lark_resolve_attention", runs, attention, 0},
+                 {"lark_resolve_attention, on ASCII", runs, attention, 0},
+                 {"lark_resolve_attention", wide_runs, attention, 0},
                  {"lark_resolve_headings", headings, resolve_headings, 0},
                  {"lark_resolve_lists", items, lists, 0},
                  {"lark_space_or_tab", blanks, spaces, 1},
