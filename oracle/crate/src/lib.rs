@@ -9,6 +9,7 @@
 //! - [`watch_document`], [`watch_text`]: Markdown parsed by the crate, with what its three resolvers were given and left, and where in the document
 //!   the items and headings stand that it read.
 //! - [`inline_html`]: a text turned into HTML, for the examples of the standard.
+//! - [`PUNCTUATION`]: the crate's own list of the characters that are punctuation.
 //!
 //! Events are those of a record: kind, one of the names 0 to 24, and a place. Line, column, virtual spaces and links are the crate's own and dropped.
 //! Options are the sum that a record's calls take; every other construct of the crate that is on in its GFM setting is on.
@@ -36,6 +37,7 @@ pub use html::inline_html;
 pub use readers::{continuation, heading, list_item, space_or_tab, Going, Item, Start, Taken};
 pub use record::{read_section, write_record, write_section, Event, Settings};
 pub use resolvers::{resolve, with_prepared, Prepared, Resolver};
+pub use util::unicode::PUNCTUATION;
 pub use watch::{watch_document, watch_text, Read, Seen};
 
 #[cfg(test)]

@@ -42,9 +42,8 @@ pub struct Bench {
 /// The crate's word on a question.
 enum Word {
     Says(Answer),
-    Outside(&'static str),
-    /// Its rule is not the library's here, so that its answer does not count.
-    Departs(&'static str),
+    /// It has none that counts: the bytes are not such as it takes, or its rule is not the library's here. Document 01 decides alone.
+    Silent(&'static str),
     Panics,
 }
 
@@ -243,11 +242,8 @@ impl Bench {
         let settings = self.settings(question.options);
         if takes_record(question.call) {
             let (document, before) = parts_of(&question.input);
-            if let Some(reason) = domain::bytes_outside(document) {
-                return Word::Outside(reason);
-            }
-            if let Some(reason) = domain::departs(question.call, &before) {
-                return Word::Departs(reason);
+            if let Some(reason) = domain::bytes_outside(document).or_else(|| domain::departs(question.call, document, &before)) {
+                return Word::Silent(reason);
             }
             if let Some(mut answer) = known {
                 answer.numbers[4] = paper.numbers[4];
@@ -258,7 +254,7 @@ impl Bench {
                 .map_or(Word::Panics, |after| Word::Says(resolved(question.call, &before, &after, paper.numbers[4])));
         }
         if let Some(reason) = domain::bytes_outside(&question.input) {
-            return Word::Outside(reason);
+            return Word::Silent(reason);
         }
         catch_unwind(AssertUnwindSafe(|| crate_line(question, settings, 0))).map_or(Word::Panics, Word::Says)
     }
@@ -323,11 +319,7 @@ impl Bench {
                 self.hold(question, source, &ours, &answer, 0, document);
                 self.ask_within(question, source, &ours, document);
             }
-            Word::Outside(reason) => {
-                *self.tally.skipped.entry((question.call, reason)).or_default() += 1;
-                *self.tally.compared.entry((question.call, source)).or_default() -= 1;
-            }
-            Word::Departs(reason) => *self.tally.skipped.entry((question.call, reason)).or_default() += 1,
+            Word::Silent(reason) => *self.tally.skipped.entry((question.call, reason)).or_default() += 1,
             Word::Panics => *self.tally.panics.entry((question.call, source)).or_default() += 1,
         }
     }
@@ -380,7 +372,7 @@ impl Bench {
             let round = [(false, 13, content.start), (false, 0, content.start), (true, 0, content.end), (true, 13, content.end)];
             let round = round.map(|(exit, name, at)| Event { exit, name, place: heading[0].place + at as u32 });
             self.tally.contents += 1;
-            self.tally.contents_with_runs += u64::from(domain::departs(Call::Headings, heading).is_some());
+            self.tally.contents_with_runs += u64::from(domain::has_run_at_end(heading));
             if text != Some(if content.is_empty() { &[] } else { &round }) {
                 let it = format!("standard: the content of \"{}\" is \"{}\"", line.escape_ascii(), line[content].escape_ascii());
                 return self.differ("not as the standard's content", question, source, &show_answer(question.call, ours), &it, document);

@@ -122,6 +122,26 @@ pub fn record(chance: &mut Chance) -> (Question, usize, usize) {
     (question, output, work)
 }
 
+/// A record with characters of one to four bytes whose bytes beside runs are changed, so that most are no longer characters. It is sound still, and its
+/// runs are what they were.
+pub fn characters(chance: &mut Chance) -> Question {
+    let question = records::attention(chance);
+    let question = records::widened(&question, chance);
+    let (document, events) = parts_of(&question.input);
+    let mut document = document.to_vec();
+    let runs: Vec<&Event> = events.iter().filter(|event| event.name == 1).collect();
+    for _ in 0..if runs.is_empty() { 0 } else { 1 + chance.below(4) } {
+        let run = chance.pick(&runs);
+        let (at, far) = (run.place as usize, chance.below(4));
+        let at = if run.exit { at + far } else { at.wrapping_sub(1 + far) };
+        // No byte of a run is changed, and none becomes a marker.
+        if let Some(byte) = document.get_mut(at).filter(|byte| !b"*_~".contains(byte)) {
+            *byte = *chance.pick(b"\x80\x80\x8f\x90\x9f\xa0\xab\xbf\xbf\xc0\xc1\xc2\xc2\xdf\xe0\xe2\xe3\xed\xef\xf0\xf1\xf4\xf5\xff a.");
+        }
+    }
+    Question { input: crate_side::write_record(&document, &events), ..question }
+}
+
 /// A line with bytes and lengths that no document of the domain has.
 pub fn line(chance: &mut Chance) -> (Question, usize) {
     let call = *chance.pick(&[Call::SpaceOrTab, Call::ListItem, Call::Continuation, Call::Heading]);

@@ -78,13 +78,15 @@ fn crate_says(question: &Question, within: usize) -> Answer {
 pub fn run() -> usize {
     let text = |text: &[u8], options: u32| records::split(text, options);
     let many = [vec![b'*'; 2000], vec![b'a'], vec![b'*'; 1999]].concat();
-    let rows: [(&str, Question, Look, &str, &str); 25] = [
+    let rows: [(&str, Question, Look, &str, &str); 27] = [
         ("D1", text(b"*\r*", 59), Look::Groups, "groups 0", "refused with 4 at 5"),
-        ("D2", text(b"*\xc2\xa0*", 59), Look::Groups, "groups 0", "groups 1"),
         ("D3", text(b"a*\0*", 59), Look::Groups, "groups 1", "groups 1"),
         ("D4", text(b"a*_b_*", 59), Look::Groups, "groups 2", "groups 2"),
         ("D5", text(b"****a** b*c", 59), Look::Groups, "groups 1", "groups 1"),
         ("D6", text(b"*\x0b*", 59), Look::Groups, "groups 0", "groups 1"),
+        ("D6", text("*\u{85}*".as_bytes(), 59), Look::Groups, "groups 0", "groups 1"),
+        ("D6", text("*\u{2028}*".as_bytes(), 59), Look::Groups, "groups 0", "groups 1"),
+        ("D6", text("*\u{2029}*".as_bytes(), 59), Look::Groups, "groups 0", "groups 1"),
         ("D7", text(b"~a~", 59), Look::Groups, "groups 0", "groups 0"),
         ("D9", line(Call::ListItem, b"01. a", [1, 0, 0]), Look::Found, "not found", "not found"),
         ("D10", heading(b"# #a"), Look::Text, "text 3 to 4", "text 2 to 4"),

@@ -6,6 +6,7 @@ use std::path::{Path, PathBuf};
 use std::str::Chars;
 
 use crate::chance::Chance;
+use crate::characters;
 
 fn gather(at: &Path, depth: usize, files: &mut Vec<PathBuf>) {
     let Ok(entries) = fs::read_dir(at) else { return };
@@ -86,18 +87,9 @@ fn string(letters: &mut Chars) -> Option<String> {
     }
 }
 
-/// A document brought into the domain: no carriage return or vertical tab, and a letter for all beyond ASCII.
+/// A document brought into the domain: no carriage return. All else stays as it is.
 fn tamed(text: &str) -> Vec<u8> {
-    let mut out = vec![];
-    for letter in text.chars() {
-        match letter {
-            '\r' => (),
-            '\x0b' => out.push(b' '),
-            _ if letter.is_ascii() => out.push(letter as u8),
-            _ => out.push(b'x'),
-        }
-    }
-    out
+    text.bytes().filter(|byte| *byte != b'\r').collect()
 }
 
 /// A document with tabs among what leads its lines: for runs of spaces, as an editor puts them, or for any space.
@@ -124,7 +116,7 @@ pub fn tabbed(document: &[u8], chance: &mut Chance) -> Vec<u8> {
     out
 }
 
-/// A text in pieces of at most so many bytes, cut at blank lines where that leaves them large enough, else at any line.
+/// A text in pieces of at most so many bytes, cut at blank lines where that leaves them large enough, else at any line; so never within a character.
 fn cut(text: &[u8], most: usize, pieces: &mut Vec<Vec<u8>>) {
     let mut piece: Vec<u8> = vec![];
     for line in text.split(|byte| *byte == b'\n').filter(|line| line.len() < most) {
@@ -179,24 +171,40 @@ const INLINE: [&str; 46] = [
     ".", "(", ")", "\"", "!", "#", "$x$", "\t",
 ];
 
-fn inline(chance: &mut Chance) -> String {
+/// A piece of a line.
+type Piece = fn(&mut Chance) -> &'static str;
+
+/// One of these.
+fn plain(chance: &mut Chance) -> &'static str {
+    chance.pick::<&str>(&INLINE)
+}
+
+/// One of these, or as often a character of one to four bytes. A line feed is none of them here.
+fn wide(chance: &mut Chance) -> &'static str {
+    match chance.once_in(2) {
+        true => plain(chance),
+        false => Some(characters::letter(chance)).filter(|letter| *letter != "\n").unwrap_or("*"),
+    }
+}
+
+fn inline(chance: &mut Chance, piece: Piece) -> String {
     let mut line = String::from(*chance.pick(&["", "a", "b ", "*", "**a"]));
     for _ in 0..chance.below(8) {
-        line.push_str(chance.pick::<&str>(&INLINE));
+        line.push_str(piece(chance));
     }
     line
 }
 
 /// Some lines of Markdown, with `depth` levels of containers still allowed.
-fn blocks(chance: &mut Chance, depth: usize) -> Vec<String> {
+fn blocks(chance: &mut Chance, depth: usize, piece: Piece) -> Vec<String> {
     let mut lines: Vec<String> = vec![];
     for _ in 0..1 + chance.below(3) {
         match chance.below(if depth > 0 { 20 } else { 10 }) {
-            0 | 1 => (0..1 + chance.below(2)).for_each(|_| lines.push(inline(chance))),
+            0 | 1 => (0..1 + chance.below(2)).for_each(|_| lines.push(inline(chance, piece))),
             2 => {
                 let indent = " ".repeat(chance.below(4));
                 let close = *chance.pick(&["", "", " #", " ## ", "#", " # #"]);
-                lines.push(format!("{indent}{} {}{close}", "#".repeat(1 + chance.below(6)), inline(chance)));
+                lines.push(format!("{indent}{} {}{close}", "#".repeat(1 + chance.below(6)), inline(chance, piece)));
             }
             3 => lines.push(String::new()),
             4 => {
@@ -223,7 +231,7 @@ fn blocks(chance: &mut Chance, depth: usize) -> Vec<String> {
                     let gap = " ".repeat(if chance.once_in(6) { chance.below(7) } else { 1 });
                     let indent = " ".repeat(if chance.once_in(5) { chance.below(4) } else { 0 });
                     let width = indent.len() + mark.len() + gap.len();
-                    let inside = blocks(chance, depth - 1);
+                    let inside = blocks(chance, depth - 1, piece);
                     for (i, line) in inside.join("\n").split('\n').enumerate() {
                         if i == 0 {
                             lines.push(format!("{indent}{mark}{gap}{line}"));
@@ -237,7 +245,7 @@ fn blocks(chance: &mut Chance, depth: usize) -> Vec<String> {
                 }
             }
             _ => {
-                let inside = blocks(chance, depth - 1);
+                let inside = blocks(chance, depth - 1, piece);
                 for (i, line) in inside.join("\n").split('\n').enumerate() {
                     if i > 0 && chance.once_in(10) {
                         lines.push(line.into());
@@ -253,8 +261,17 @@ fn blocks(chance: &mut Chance, depth: usize) -> Vec<String> {
 
 /// A document made up, and at times hurt in a place or two.
 pub fn made(chance: &mut Chance) -> Vec<u8> {
+    made_of(chance, plain)
+}
+
+/// The same with characters of one to four bytes.
+pub fn made_wide(chance: &mut Chance) -> Vec<u8> {
+    made_of(chance, wide)
+}
+
+fn made_of(chance: &mut Chance, piece: Piece) -> Vec<u8> {
     let depth = *chance.pick(&[0, 1, 2, 2, 3, 4]);
-    let mut document = blocks(chance, depth).join("\n").into_bytes();
+    let mut document: Vec<char> = blocks(chance, depth, piece).join("\n").chars().collect();
     if chance.once_in(3) {
         for _ in 0..1 + chance.below(3) {
             let at = chance.below(document.len() + 1);
@@ -262,7 +279,7 @@ pub fn made(chance: &mut Chance) -> Vec<u8> {
                 0 if at < document.len() => {
                     document.remove(at);
                 }
-                1 => document.insert(at, *chance.pick(b"\n\n -*#>`_~1.")),
+                1 => document.insert(at, char::from(*chance.pick(b"\n\n -*#>`_~1."))),
                 _ => {
                     let to = (at + chance.below(6)).min(document.len());
                     document.drain(at..to);
@@ -271,9 +288,9 @@ pub fn made(chance: &mut Chance) -> Vec<u8> {
         }
     }
     if chance.once_in(2) {
-        document.push(b'\n');
+        document.push('\n');
     }
-    document
+    String::from_iter(document).into_bytes()
 }
 
 /// Containers within containers, beyond what a record allows.

@@ -2,15 +2,26 @@
 
 use crate::answer::{Call, Question};
 use crate::chance::Chance;
+use crate::characters;
 
-/// All byte strings up to a length over an alphabet, by number.
+/// All strings up to a length over an alphabet, by number. A letter of it is a byte, or a piece of text.
 pub struct Strings {
-    alphabet: &'static [u8],
+    alphabet: Vec<&'static [u8]>,
     pub count: usize,
 }
 
 impl Strings {
+    /// Over these bytes.
     pub fn new(alphabet: &'static [u8], longest: u32) -> Strings {
+        Strings::over(alphabet.chunks(1).collect(), longest)
+    }
+
+    /// Over these pieces of text. No string is there twice if none of them begins with another.
+    pub fn of(pieces: &[&'static str], longest: u32) -> Strings {
+        Strings::over(pieces.iter().map(|piece| piece.as_bytes()).collect(), longest)
+    }
+
+    fn over(alphabet: Vec<&'static [u8]>, longest: u32) -> Strings {
         let count = (0..=longest).map(|length| alphabet.len().pow(length)).sum();
         Strings { alphabet, count }
     }
@@ -23,12 +34,13 @@ impl Strings {
             length += 1;
             some = base.pow(length);
         }
-        let mut string = vec![0; length as usize];
-        for byte in string.iter_mut().rev() {
-            *byte = self.alphabet[number % base];
+        let mut letters: Vec<&[u8]> = vec![];
+        for _ in 0..length {
+            letters.push(self.alphabet[number % base]);
             number /= base;
         }
-        string
+        letters.reverse();
+        letters.concat()
     }
 }
 
@@ -131,6 +143,20 @@ pub fn tabbed(call: Call, chance: &mut Chance) -> Question {
     }
     input.truncate(16_384);
     Question { input, column: column(chance), ..question }
+}
+
+/// The same, with or without tabs, with some characters of one to four bytes put in anywhere.
+pub fn wide(call: Call, chance: &mut Chance) -> Question {
+    let mut question = if chance.once_in(3) { tabbed(call, chance) } else { line(call, chance) };
+    for _ in 0..1 + chance.below(3) {
+        let letter = characters::letter(chance);
+        let at = chance.below_or(8, 2, question.input.len() + 1).min(question.input.len());
+        let at = characters::boundary(&question.input, at);
+        if question.input.len() + letter.len() <= 16_384 {
+            question.input.splice(at..at, letter.bytes());
+        }
+    }
+    question
 }
 
 /// What the random headings are made of: spaces and tabs, `#` runs, words, one of them a form feed, and backslashes.

@@ -7,7 +7,9 @@
 
 mod answer;
 mod blocks;
+mod categories;
 mod chance;
+mod characters;
 mod compare;
 mod content;
 mod damage;
@@ -119,23 +121,13 @@ impl Run {
     }
 }
 
-/// A letter that stands for a whole piece of text: the end of a link, and a tag.
-fn spelt(letter: &u8) -> &[u8] {
-    match letter {
-        b']' => b"](b)",
-        b'<' => b"<b>",
-        other => std::slice::from_ref(other),
-    }
-}
-
 fn exhaustive(run: &mut Run) {
     for (name, alphabet, longest) in [("texts of `*_ a.` to 7", &b"*_ a."[..], 7), ("texts of `*_~ a.` to 6", b"*_~ a.", 6)] {
         run.strings(name, &Strings::new(alphabet, longest), |bench, text| {
             (0..8).for_each(|options| bench.ask(&records::split(&text, options), Source::Exhaustive));
         });
     }
-    run.strings("texts with links, code and HTML to 6", &Strings::new(b"*_a []`<", 6), |bench, text| {
-        let text: Vec<u8> = text.iter().flat_map(|byte| spelt(byte)).copied().collect();
+    run.strings("texts with links, code and HTML to 6", &Strings::of(&["*", "_", "a", " ", "[", "](b)", "`", "<b>"], 6), |bench, text| {
         bench.watch(Markdown { bytes: &text, text_alone: true, more: false }, 59, Source::Exhaustive);
     });
     let put = |bench: &mut Bench, call: Call, line: &[u8], options: u32, arguments: [usize; 3]| {
@@ -168,6 +160,7 @@ fn exhaustive(run: &mut Run) {
         run.strings(name, &Strings::new(alphabet, 9), |bench, line| bench.read_and_resolve(line, 59, Source::Exhaustive));
     }
     columns(run);
+    beyond_ascii(run);
     let some: [(&str, &'static [u8], u32); 4] = [
         ("documents of `-1. a\\n>` to 7", b"-1. a\n>", 7),
         ("documents of `*-# \\n` to 8", b"*-# \n", 8),
@@ -179,6 +172,57 @@ fn exhaustive(run: &mut Run) {
             bench.watch(Markdown { bytes: &document, text_alone: false, more: false }, 59, Source::Exhaustive);
         });
     }
+}
+
+/// Every character beside runs, and small alphabets with characters of two, three and four bytes.
+fn beyond_ascii(run: &mut Run) {
+    // With room enough: none of these may be refused.
+    fn put<T: AsRef<[u8]>>(bench: &mut Bench, characters: &[T]) {
+        for marker in *b"*_" {
+            bench.ask_lengths(&characters::beside(marker, characters), Source::Exhaustive, library::OUTPUT, library::WORK);
+        }
+    }
+    // A short run has these whole: they are few, and a wrong end of a range is seen by no other character.
+    let edges = characters::edges();
+    run.stage("characters at the ends of ranges, beside runs", edges.len(), |bench, i| put(bench, &edges[i]));
+    let (all, scale) = (characters::all(), run.scale);
+    run.stage("all characters beside runs", all.len() / scale, |bench, i| put(bench, &all[i * scale]));
+    let sequences = characters::sequences(4);
+    let parts = sequences.count.div_ceil(characters::TOGETHER);
+    run.stage("sequences of up to 4 bytes beside runs, most of them malformed", parts / scale, |bench, i| {
+        let from = characters::TOGETHER * i * scale;
+        let some: Vec<Vec<u8>> = (from..sequences.count.min(from + characters::TOGETHER)).map(|n| sequences.get(n)).collect();
+        put(bench, &some);
+    });
+    run.strings("sequences of up to 3 bytes at the edges of a text", &characters::sequences(3), |bench, sequence| {
+        for text in [[&sequence[..], b"_b_ "].concat(), [b" _b_", &sequence[..]].concat()] {
+            bench.ask(&records::split(&text, 1), Source::Exhaustive);
+        }
+    });
+    let some: [(&str, &[&str], u32); 3] = [
+        ("texts of `*_a «é` and a no-break space to 6", &["*", "_", "a", " ", "«", "\u{a0}", "é"], 6),
+        ("texts of `*a «` and a no-break space to 7", &["*", "a", " ", "«", "\u{a0}"], 7),
+        ("texts of `*~あ「😀𝐀` and an ideographic space to 5", &["*", "~", "あ", "「", "\u{3000}", "😀", "𝐀"], 5),
+    ];
+    for (name, pieces, longest) in some {
+        run.strings(name, &Strings::of(pieces, longest), |bench, text| bench.ask(&records::split(&text, 7), Source::Exhaustive));
+    }
+    let pieces = [" ", "\t", "-", "1", ".", "#", "\u{b}", "\u{a0}", "é", "\u{2028}"];
+    run.strings("lines with other spaces and é to 4", &Strings::of(&pieces, 4), |bench, line| {
+        let mut ask = |call: Call, arguments: [usize; 3]| {
+            bench.ask(&Question { arguments, ..Question::new(call, line.clone(), 59) }, Source::Exhaustive);
+        };
+        ask(Call::SpaceOrTab, [0, 9, 0]);
+        ask(Call::ListItem, [0; 3]);
+        ask(Call::ListItem, [1, 0, 0]);
+        ask(Call::Continuation, [2, 0, b'-' as usize]);
+        ask(Call::Continuation, [0, 1, b'-' as usize]);
+        ask(Call::Heading, [0; 3]);
+    });
+    let pieces = ["*", "- ", "# ", "\n", "a", "\u{a0}", "«", "\u{b}"];
+    run.strings("documents with other spaces and « to 5", &Strings::of(&pieces, 5), |bench, document| {
+        bench.watch(Markdown { bytes: &document, text_alone: false, more: false }, 59, Source::Exhaustive);
+    });
 }
 
 /// Lines with tabs anywhere, and starting columns.
@@ -278,6 +322,37 @@ fn random(run: &mut Run) {
     }
 }
 
+/// The same with characters of one to four bytes.
+fn random_beyond_ascii(run: &mut Run) {
+    let many = run.some(200_000);
+    run.stage("random records for attention, with characters of all lengths", many, |bench, i| {
+        let chance = &mut Chance::new(12_000_000_000 + i as u64);
+        let question = records::attention(chance);
+        bench.ask(&records::widened(&question, chance), Source::Random);
+    });
+    let many = run.some(100_000);
+    run.stage("random texts of characters of all lengths", many, |bench, i| {
+        let chance = &mut Chance::new(13_000_000_000 + i as u64);
+        let length = chance.below_or(40, 40, 300);
+        let text = records::wide_text(chance, length);
+        let options = chance.below(8) as u32;
+        bench.ask(&records::split(&text, options), Source::Random);
+        bench.watch(Markdown { bytes: &text, text_alone: true, more: false }, options | 56, Source::Random);
+    });
+    let many = run.some(50_000);
+    run.stage("random records for headings and lists, with characters of all lengths", many, |bench, i| {
+        let chance = &mut Chance::new(14_000_000_000 + i as u64);
+        for question in [records::headings(chance), records::lists(chance)] {
+            bench.ask(&records::widened(&question, chance), Source::Random);
+        }
+    });
+    for call in READERS {
+        run.stage(&format!("random lines with characters of all lengths for {}", call.name()), many, |bench, i| {
+            bench.ask(&lines::wide(call, &mut Chance::new(15_000_000_000 + 8 * i as u64 + call as u64)), Source::Random);
+        });
+    }
+}
+
 fn captured(run: &mut Run, found: &Found) {
     let Found { files, pieces, .. } = found;
     // So few that a short run has the time for all, as the examples of CommonMark alone are, are not thinned out.
@@ -302,9 +377,20 @@ fn captured(run: &mut Run, found: &Found) {
         let options = *chance.pick(&[59, 59, 63, 27, 31]);
         bench.watch(Markdown { bytes: &document, text_alone: false, more: false }, options, Source::Captured);
     });
+    let many = run.some(100_000);
+    run.stage("Markdown made up, with characters of all lengths", many, |bench, i| {
+        let chance = &mut Chance::new(16_000_000_000 + i as u64);
+        let document = documents::made_wide(chance);
+        let options = *chance.pick(&[59, 59, 63, 27, 31]);
+        bench.watch(Markdown { bytes: &document, text_alone: false, more: chance.once_in(3) }, options, Source::Captured);
+    });
 }
 
 fn damaged(run: &mut Run) {
+    let many = run.some(200_000);
+    run.stage("damaged characters beside runs", many, |bench, i| {
+        bench.ask(&damage::characters(&mut Chance::new(17_000_000_000 + i as u64)), Source::Damaged);
+    });
     let many = run.some(3_000_000);
     run.stage("damaged records", many, |bench, i| {
         let (question, output, work) = damage::record(&mut Chance::new(7_000_000_000 + i as u64));
@@ -336,7 +422,8 @@ fn shrink(kind: &str, found: &tally::Difference) -> tally::Difference {
                 None => at += width,
             }
         }
-        width /= 2;
+        // A character has up to four bytes: none goes unless all of them do.
+        width = if width > 4 { width / 2 } else { width - 1 };
     }
     best
 }
@@ -369,6 +456,7 @@ fn main() {
     let mut run = Run { tally: Tally::default(), start: Instant::now(), scale };
     exhaustive(&mut run);
     random(&mut run);
+    random_beyond_ascii(&mut run);
     let found = documents::found(&directories);
     captured(&mut run, &found);
     damaged(&mut run);

@@ -4,6 +4,7 @@
 //! which the crate cannot say, and how many candidates are tried, which the crate does not count.
 
 use crate::answer::{Answer, Call, Question};
+use crate::categories::{PUNCTUATION, SPACES};
 
 const WORK: usize = 65_536;
 const DOCUMENT: usize = 16_384;
@@ -104,12 +105,63 @@ enum Class {
     Other,
 }
 
-fn class(byte: Option<u8>) -> Class {
-    match byte {
-        None | Some(b'\t' | b'\n' | 12 | b' ') => Class::Whitespace,
-        Some(byte) if byte.is_ascii_punctuation() => Class::Punctuation,
-        Some(_) => Class::Other,
+/// The bytes that may stand second, third and fourth in a sequence of UTF-8, where the first does not narrow them.
+const BEHIND: (u8, u8) = (0x80, 0xbf);
+
+/// The forms of a well-formed sequence, as Unicode's table 3-7 has them: for each byte the least and the greatest.
+const FORMS: [&[(u8, u8)]; 9] = [
+    &[(0x00, 0x7f)],
+    &[(0xc2, 0xdf), BEHIND],
+    &[(0xe0, 0xe0), (0xa0, 0xbf), BEHIND],
+    &[(0xe1, 0xec), BEHIND, BEHIND],
+    &[(0xed, 0xed), (0x80, 0x9f), BEHIND],
+    &[(0xee, 0xef), BEHIND, BEHIND],
+    &[(0xf0, 0xf0), (0x90, 0xbf), BEHIND, BEHIND],
+    &[(0xf1, 0xf3), BEHIND, BEHIND, BEHIND],
+    &[(0xf4, 0xf4), (0x80, 0x8f), BEHIND, BEHIND],
+];
+
+/// The code point of some bytes, if they are one well-formed sequence and no more.
+fn code_point(bytes: &[u8]) -> Option<u32> {
+    let has_form = |form: &[(u8, u8)]| form.len() == bytes.len() && form.iter().zip(bytes).all(|((least, most), byte)| least <= byte && byte <= most);
+    if !FORMS.iter().any(|form| has_form(form)) {
+        return None;
     }
+    let first = match bytes.len() {
+        1 => bytes[0],
+        2 => bytes[0] - 0xc0,
+        3 => bytes[0] - 0xe0,
+        _ => bytes[0] - 0xf0,
+    };
+    Some(bytes[1..].iter().fold(u32::from(first), |code, byte| code * 64 + u32::from(byte - 0x80)))
+}
+
+/// The class of a character.
+fn class(code: u32) -> Class {
+    if matches!(code, 0x09 | 0x0a | 0x0c) || SPACES.contains(&code) {
+        return Class::Whitespace;
+    }
+    if PUNCTUATION.iter().any(|(first, last)| *first <= code && code <= *last) {
+        return Class::Punctuation;
+    }
+    Class::Other
+}
+
+/// The class of what stands before a place: of the character that ends there, whatever stands before it. Where none ends there it is other.
+fn class_before(document: &[u8], at: usize) -> Class {
+    if at == 0 {
+        return Class::Whitespace;
+    }
+    (1..=at.min(4)).find_map(|length| code_point(&document[at - length..at])).map_or(Class::Other, class)
+}
+
+/// The class of what stands behind a place: of the character that begins there, whatever stands behind it. Where none begins there it is other.
+fn class_after(document: &[u8], at: usize) -> Class {
+    let rest = &document[at..];
+    if rest.is_empty() {
+        return Class::Whitespace;
+    }
+    (1..=rest.len().min(4)).find_map(|length| code_point(&rest[..length])).map_or(Class::Other, class)
 }
 
 struct Run {
@@ -156,13 +208,14 @@ fn runs_of(good: &Good, options: u32) -> Vec<Run> {
             if !event.exit {
                 let (from, to) = (event.place, good.events[i + 1].place);
                 let marker = good.document[from];
-                let before = from.checked_sub(1).map(|at| good.document[at]);
-                let after = good.document.get(to).copied();
-                let beside = |byte: Option<u8>| marker != b'~' && (matches!(byte, Some(b'*' | b'_')) || options & 2 != 0 && byte == Some(b'~'));
-                let may = |one: Option<u8>, other: Option<u8>| {
-                    class(one) == Class::Other || class(one) == Class::Punctuation && class(other) != Class::Other || beside(one)
+                let (before, after) = (class_before(good.document, from), class_after(good.document, to));
+                let beside = |byte: Option<&u8>| marker != b'~' && (matches!(byte, Some(b'*' | b'_')) || options & 2 != 0 && byte == Some(&b'~'));
+                let may = |one: Class, other: Class, byte: Option<&u8>| {
+                    one == Class::Other || one == Class::Punctuation && other != Class::Other || beside(byte)
                 };
-                let (open, close) = (may(after, before), may(before, after));
+                // Whether a marker stands beside the run goes by bytes.
+                let open = may(after, before, good.document.get(to));
+                let close = may(before, after, good.document[..from].last());
                 let low = marker == b'_';
                 runs.push(Run {
                     enter: i,
@@ -170,8 +223,8 @@ fn runs_of(good: &Good, options: u32) -> Vec<Run> {
                     whole: to - from,
                     marker,
                     container: stack.last().copied(),
-                    open: open && (!low || class(before) != Class::Other || !close),
-                    close: close && (!low || class(after) != Class::Other || !open),
+                    open: open && (!low || before != Class::Other || !close),
+                    close: close && (!low || after != Class::Other || !open),
                     closing: vec![],
                     opening: vec![],
                 });
@@ -656,7 +709,7 @@ pub fn answer(question: &Question, output: usize, work: usize) -> Answer {
 
 #[cfg(test)]
 mod tests {
-    use super::{answer, Call, Question};
+    use super::{answer, class, class_after, class_before, Call, Class, Question, PUNCTUATION, SPACES};
 
     fn numbers(call: Call, line: &str, column: usize, arguments: [usize; 3]) -> [usize; 8] {
         answer(&Question { column, arguments, ..Question::new(call, line.into(), 59) }, 100, 0).numbers
@@ -698,5 +751,49 @@ mod tests {
             assert_eq!(numbers(call, "\r", 16_384, [0; 3])[..2], [4, 0]);
             assert_eq!(numbers(call, "\r", 16_385, [0; 3]), [2, 0, 0, 0, 0, 0, 0, 0]);
         }
+    }
+
+    /// Characters of each class, what is no character, and what stands beyond one.
+    #[test]
+    fn neighbours_by_hand() {
+        let (space, mark, other) = (Class::Whitespace, Class::Punctuation, Class::Other);
+        #[rustfmt::skip]
+        let rows: [(&[u8], Class, Class); 34] = [
+            (b"", space, space), (b" ", space, space), (b"\t", space, space), (b"\n", space, space), (b"\x0c", space, space),
+            (b"\x0b", other, other), (b"\0", other, other), (b"\x7f", other, other), (b".", mark, mark), (b"~", mark, mark), (b"a", other, other),
+            ("\u{a0}".as_bytes(), space, space), ("\u{3000}".as_bytes(), space, space), ("\u{85}".as_bytes(), other, other),
+            ("\u{2028}".as_bytes(), other, other), ("\u{2029}".as_bytes(), other, other), ("\u{200b}".as_bytes(), other, other),
+            ("\u{feff}".as_bytes(), other, other), ("«".as_bytes(), mark, mark), ("é".as_bytes(), other, other), ("「".as_bytes(), mark, mark),
+            ("\u{1fbef}".as_bytes(), mark, mark), ("\u{1fbf0}".as_bytes(), other, other), ("\u{10ffff}".as_bytes(), other, other),
+            // What stands beyond the character makes no difference.
+            (b"\xc2\xc2\xa0", space, other), (b"\xc2\xa0\xa0", other, space), (b"\xe2\x80\xc2\xab", mark, other), (b"\xc2\xab\xe2\x80", other, mark),
+            // Cut, overlong, a surrogate, above 10FFFF.
+            (b"\xe3\x80", other, other), (b"\x80\x80", other, other), (b"\xc0\xa0", other, other), (b"\xe0\x80\xa0", other, other),
+            (b"\xed\xa0\x80", other, other), (b"\xf4\x90\x80\x80", other, other),
+        ];
+        for (bytes, before, after) in rows {
+            assert!(class_before(bytes, bytes.len()) == before, "before: {}", bytes.escape_ascii());
+            assert!(class_after(bytes, 0) == after, "after: {}", bytes.escape_ascii());
+        }
+    }
+
+    /// Every character has the class of its code point, from either side.
+    #[test]
+    fn sequences_as_the_language_has_them() {
+        for letter in '\0'..=char::MAX {
+            let mut bytes = [0; 4];
+            let bytes = letter.encode_utf8(&mut bytes).as_bytes();
+            let wanted = class(letter as u32);
+            assert!(class_before(bytes, bytes.len()) == wanted && class_after(bytes, 0) == wanted, "{letter:?}");
+        }
+    }
+
+    /// The ranges rise and stand apart, and have as many characters as Unicode 16.0.0 has of P and S.
+    #[test]
+    fn ranges_in_order() {
+        assert!(PUNCTUATION.iter().all(|(first, last)| first <= last));
+        assert!(PUNCTUATION.windows(2).all(|two| two[0].1 + 1 < two[1].0));
+        assert_eq!(PUNCTUATION.iter().map(|(first, last)| last - first + 1).sum::<u32>(), 9_369);
+        assert!(SPACES.iter().all(|code| !PUNCTUATION.iter().any(|(first, last)| first <= code && code <= last)));
     }
 }

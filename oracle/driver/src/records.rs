@@ -2,6 +2,8 @@
 
 use crate::answer::{Call, Question};
 use crate::chance::Chance;
+use crate::characters;
+use crate::compare::parts_of;
 use crate_side::{write_record, Event};
 
 /// A record being made: its document and events grow together.
@@ -80,19 +82,55 @@ pub fn split(text: &[u8], options: u32) -> Question {
 /// A text of some letters, with markers in about half of its places.
 pub fn text(chance: &mut Chance, length: usize) -> Vec<u8> {
     const LETTERS: &[u8] = b"a b.c (d)\"e'!,-ZZ 0\n\t\x0c\x00\x7f";
+    text_of(chance, length, |chance| std::slice::from_ref(chance.pick(LETTERS)))
+}
+
+/// The same of characters of one to four bytes.
+pub fn wide_text(chance: &mut Chance, length: usize) -> Vec<u8> {
+    text_of(chance, length, |chance| characters::letter(chance).as_bytes())
+}
+
+fn text_of(chance: &mut Chance, length: usize, letter: fn(&mut Chance) -> &'static [u8]) -> Vec<u8> {
     let few = &MARKERS[..1 + chance.below(3)];
     let dense = 1 + chance.below(4);
     let mut text = vec![];
     while text.len() < length {
         if chance.below(dense + 1) == 0 {
-            text.push(*chance.pick(LETTERS));
+            text.extend_from_slice(letter(chance));
         } else {
             let marker = *chance.pick(few);
             text.resize(text.len() + 1 + chance.below_or(3, 4, 7), marker);
         }
     }
-    text.truncate(length);
+    text.truncate(characters::boundary(&text, length));
     text
+}
+
+/// A record of ASCII with characters of one to four bytes put into its document, at runs more often than elsewhere. What is behind moves on, and neither a
+/// run nor an item's mark is broken up.
+pub fn widened(question: &Question, chance: &mut Chance) -> Question {
+    let (document, mut events) = parts_of(&question.input);
+    let mut document = document.to_vec();
+    let is_whole = |event: &Event| !event.exit && matches!(event.name, 1 | 17);
+    for _ in 0..1 + chance.below(4 + events.len() / 8) {
+        let letter = characters::letter(chance);
+        // The gap behind so many events.
+        let mut gap = chance.below(events.len() + 1);
+        if let Some(run) = events.iter().skip(gap).position(|event| event.name == 1).filter(|_| !chance.once_in(4)) {
+            gap += run + usize::from(events[gap + run].exit);
+        }
+        if gap > 0 && is_whole(&events[gap - 1]) || document.len() + letter.len() > 16_384 {
+            continue;
+        }
+        let from = gap.checked_sub(1).map_or(0, |before| events[before].place as usize);
+        let to = events.get(gap).map_or(document.len(), |event| event.place as usize);
+        // Right behind the event before, right before the next, or between.
+        let between = characters::boundary(&document, from + chance.below(to - from + 1));
+        let at = *chance.pick(&[from, to, between]);
+        document.splice(at..at, letter.bytes());
+        events[gap..].iter_mut().for_each(|event| event.place += letter.len() as u32);
+    }
+    Question { input: write_record(&document, &events), ..question.clone() }
 }
 
 fn fill_attention(making: &mut Making, chance: &mut Chance, options: u32, spread: usize, names: &[u8]) {

@@ -13,7 +13,7 @@ use crate::chance::Chance;
 use crate::compare::{call_of, crate_line, crate_size, parts_of, resolved, resolver_of};
 use crate::library::{OUTPUT, WORK};
 use crate::lines::{self, Strings};
-use crate::{documents, domain, paper, records};
+use crate::{characters, documents, domain, paper, records};
 use crate_side::{write_record, Event, Settings, Start};
 
 /// Texts that document 01 and docs/DIFFERENCES.md speak of, and their neighbours.
@@ -35,6 +35,25 @@ const DOCUMENTS: [&str; 33] = [
     "*a `b* c` d*", "*a <b *c*> d*", "**a [*b*](c) d**", "![*a*](b) *c*", "*a\nb*\nc **d\n> e**\n", "~~a *b~~ c*", "a | *b*\n- | -\n_c_ | **d**",
     "[^1]: *a*\n\nb[^1] *c*", "<div>\n*a*\n\n*b*\n</div>", "    *a*\n\n*b*", "\\*a* *b\\*", "*a&amp;*b*",
     "-\ta\n-\tb\n\n\t-\tc", "1.\ta\n\t- b\n2.\tc", ">\t- *a*\n>\t- b", "-\t\ta\n-\t# b\t#", " \t-\t*a*\n\tb*",
+];
+
+/// Texts with quotes, dashes, spaces, letters and signs of two to four bytes beside runs.
+#[rustfmt::skip]
+const WIDE_TEXTS: [&str; 66] = [
+    "*«a»*", "a*«b»*c", "a*« b »*c", "«*a*»", "a«*b*»c", "_«a»_", "a_«b»_c", "«_a_»", "a«_b_»c", "**«\u{a0}a\u{a0}»**", "*\u{a0}*", "*\u{a0}a*", "*a\u{a0}*",
+    "a\u{a0}*b*\u{a0}c", "*\u{202f}a\u{202f}*", "*été*", "é*é*é", "_été_", "é_é_é", "l’*œuvre*", "l’_œuvre_", "*l’œuvre*, _ça_ !", "_a_–_b_", "*a*—*b*",
+    "a—*b*—c", "a–_b_–c", "a*—b—*c", "_a…_b", "*a…*b", "“*a*”", "a“_b_”c", "a*“b”*c", "„*a*‘", "‹_a_›", "¿*qué*?", "¡_hola_!", "α*«β»*γ", "«_λόγος_»",
+    "*λόγος*·", "_a\u{37e}_b", "これは*強調*です", "これは**「強調」**です", "これは_「強調」_です", "「*強調*」", "日本*語*", "日本_語_", "**日本語。**あ", "**日本語**。あ",
+    "\u{3000}*あ*\u{3000}", "*\u{3000}あ*", "（_あ_）", "*あ、*い", "_あ_・_い_", "~~あ。~~い", "~~「あ」~~い", "a~~«b»~~c", "*😀*", "a*😀*b", "a_😀_b", "😀*a*😀", "😀_a_😀",
+    "*𝐀*𝐀", "_𠮷_𠮷", "*a\u{301}*b", "*\u{200b}a*\u{feff}", "a*\u{fffd}*b",
+];
+
+/// Documents with the like.
+#[rustfmt::skip]
+const WIDE_DOCUMENTS: [&str; 18] = [
+    "- «\u{a0}*a*\u{a0}»\n- **b**\u{a0}: c", "1. *été* – _hiver_\n2. é_é_é", "> «_a_»\n> — *b*", "# «\u{a0}*titre*\u{a0}» #\n\n*é*", "## これは**「見出し」**です ##",
+    "- 日本*語*\n\n  「_あ_」\n- い", "*a [«*b*»](c)— d*", "**「[あ](b)」**い `*é*`", "*😀 <b>*é*</b> 😀*", "α | *«β»*\n- | -\n_γ_· | **δ**", "[^1]: *é*\n\n“b”[^1]*—c—*",
+    "-\u{a0}a\n- b", "#\u{a0}a\n# b\u{a0}#", "1.\u{3000}a\n1. *「b」*", "-\t«*a*»\n-\té", "~~a…~~b ~~…c~~", "- a\u{b}b\n- *c\u{b}d*", "# \u{2028}a\u{2029} #\n\n*é\u{85}è*",
 ];
 
 fn attention(put: &mut Vec<Question>) {
@@ -102,25 +121,26 @@ fn attention(put: &mut Vec<Question>) {
     put.push(Question::new(Call::Attention, input, 59));
 }
 
-/// What the crate's resolvers are given when it parses some documents.
+/// What the crate's resolvers are given when it parses a document.
+fn watch(put: &mut Vec<Question>, document: &[u8], options: u32) {
+    let (text, settings) = (std::str::from_utf8(document).unwrap(), Settings::new(options));
+    let seen = catch_unwind(AssertUnwindSafe(|| crate_side::watch_document(text, &settings))).unwrap_or_default();
+    for one in seen.into_iter().filter(|one| !one.edits_before && one.before.len() < 64) {
+        put.push(Question::new(call_of(one.which), write_record(document, &one.before), options));
+    }
+}
+
+/// What they are given in some documents.
 fn captured(put: &mut Vec<Question>) {
-    let settings: Vec<Settings> = (0..64).map(Settings::new).collect();
-    let mut watch = |document: &[u8], options: u32| {
-        let text = std::str::from_utf8(document).unwrap();
-        let seen = catch_unwind(AssertUnwindSafe(|| crate_side::watch_document(text, &settings[options as usize]))).unwrap_or_default();
-        for one in seen.into_iter().filter(|one| !one.edits_before && one.before.len() < 64) {
-            put.push(Question::new(call_of(one.which), write_record(document, &one.before), options));
-        }
-    };
     for document in DOCUMENTS {
-        watch(document.as_bytes(), 59);
-        watch(document.as_bytes(), 63);
+        watch(put, document.as_bytes(), 59);
+        watch(put, document.as_bytes(), 63);
     }
     let chance = &mut Chance::new(92);
     for _ in 0..450 {
         let document = documents::made(chance);
         if document.len() < 250 {
-            watch(&document, *chance.pick(&[59, 63, 27, 51]));
+            watch(put, &document, *chance.pick(&[59, 63, 27, 51]));
         }
     }
 }
@@ -252,6 +272,45 @@ fn tabs(put: &mut Vec<Question>) {
     }
 }
 
+/// Characters of two to four bytes: beside runs, and in records, documents and lines.
+fn beyond_ascii(put: &mut Vec<Question>) {
+    for text in WIDE_TEXTS {
+        put.push(records::split(text.as_bytes(), 59));
+        put.push(records::split(text.as_bytes(), 7));
+    }
+    for document in WIDE_DOCUMENTS {
+        watch(put, document.as_bytes(), 59);
+    }
+    // One of each class and length, and the ends of some ranges with what stands beside them.
+    let some: [&[&str]; 4] = [
+        &["\u{a0}", "«", "é"],
+        &["\u{3000}", "「", "あ"],
+        &["😀", "𝐀", "\u{10ffff}"],
+        &["\u{9f}", "\u{a1}", "\u{a9}", "\u{aa}", "\u{1680}", "\u{2000}", "\u{200a}", "\u{200b}", "\u{1fb93}", "\u{1fbef}", "\u{1fbf0}"],
+    ];
+    for characters in some {
+        put.extend([b'*', b'_'].map(|marker| characters::beside(marker, characters)));
+    }
+    let chance = &mut Chance::new(96);
+    for _ in 0..50 {
+        let length = chance.below_or(24, 8, 80);
+        let text = records::wide_text(chance, length);
+        put.push(records::split(&text, chance.below(8) as u32));
+    }
+    type Make = fn(&mut Chance) -> Question;
+    for (make, many) in [(records::attention as Make, 50), (records::headings, 12), (records::lists, 12)] {
+        let some = (0..many).map(|_| {
+            let question = make(chance);
+            records::widened(&question, chance)
+        });
+        put.extend(some.filter(|question| question.input.len() < 500));
+    }
+    for call in [Call::SpaceOrTab, Call::ListItem, Call::Continuation, Call::Heading] {
+        let some = (0..15).map(|_| Question { column: 0, ..lines::wide(call, chance) });
+        put.extend(some.filter(|question| question.input.len() < 500 && question.arguments.iter().all(|one| *one <= u32::MAX as usize)));
+    }
+}
+
 /// The crate's answer, if the question lies in the domain, is not refused, and is the crate's to decide.
 fn crate_answer(question: &Question, settings: &[Settings]) -> Option<Answer> {
     if paper::answer(question, OUTPUT, WORK).numbers[0] != 0 {
@@ -261,7 +320,7 @@ fn crate_answer(question: &Question, settings: &[Settings]) -> Option<Answer> {
     match question.call {
         Call::Attention | Call::Headings | Call::Lists => {
             let (document, before) = parts_of(&question.input);
-            if domain::bytes_outside(document).or_else(|| domain::departs(question.call, &before)).is_some() {
+            if domain::bytes_outside(document).or_else(|| domain::departs(question.call, document, &before)).is_some() {
                 return None;
             }
             let after = crate_side::resolve(resolver_of(question.call), document, &before, settings);
@@ -280,7 +339,7 @@ fn crate_answer(question: &Question, settings: &[Settings]) -> Option<Answer> {
 /// Write the list. Its counts are printed.
 pub fn store(file: &str) {
     let mut questions = vec![];
-    let parts: [fn(&mut Vec<Question>); 6] = [attention, headings, lists, captured, readers, tabs];
+    let parts: [fn(&mut Vec<Question>); 7] = [attention, headings, lists, captured, readers, tabs, beyond_ascii];
     for part in parts {
         let mut put = vec![];
         part(&mut put);

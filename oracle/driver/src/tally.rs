@@ -111,8 +111,8 @@ impl Tally {
         println!("\nItems and headings read where the crate read them in a document, behind other containers or with a tab: {read}.");
         println!("Lines that the crate was asked for again as it stands within the tab in front: {within}.");
         println!("Captured records with an event within a tab, whose place is the tab's: {captured_within}.");
-        println!("\nNot compared with the crate, by reason. Those with {RUN_AT_END} are counted above: they are compared with document 01,");
-        println!("and with the content where a line reads so.\n");
+        println!("\nNot compared with the crate, by reason. All but the captured ones are counted above: they are compared with document 01, and");
+        println!("those with {RUN_AT_END} with the content too, where a line reads so.\n");
         println!("| call | reason | inputs |\n|---|---|---|");
         for ((call, reason), count) in &self.skipped {
             println!("| {} | {} | {} |", call.name(), reason, count);
