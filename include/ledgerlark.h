@@ -111,9 +111,9 @@
 extern "C" {
 #endif
 
-#define LARK_VERSION "0.5.0"
+#define LARK_VERSION "0.6.0"
 #define LARK_VERSION_MAJOR 0
-#define LARK_VERSION_MINOR 5
+#define LARK_VERSION_MINOR 6
 #define LARK_VERSION_PATCH 0
 
 /* Limits. */
@@ -337,6 +337,10 @@ struct lark_reading lark_read(const uint8_t *record, size_t record_length, uint3
  *
  *     `*a*`    +1@0 -1@1 +0@1 -0@2 +1@2 -1@3
  *     becomes  +2@0 +3@0 -3@1 +4@1 +0@1 -0@2 -4@2 +3@2 -3@3 -2@3
+ *
+ * What a run can open or close goes by what stands beside it. There the document is read as UTF-8: it is the character that ends right at the run,
+ * and the one that begins right behind it. Whitespace is the general category Zs, a tab, a line feed, a form feed, and the document's beginning and
+ * end; punctuation is the categories P and S of Unicode 16.0.0. All else is other. So are bytes that are no character; none are refused for that.
  *
  * Reads the record. Writes a section of all events to the output, and zeros over all of the work memory. All other events stay.
  *

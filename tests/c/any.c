@@ -35,9 +35,10 @@ static void enter(unsigned name, size_t place) {
     open_names[depth++] = name;
 }
 
-/* A text of few different bytes, with events as a tokenizer might make them: runs, items, headings, containers. */
+/* A text of few different bytes, with events as a tokenizer might make them: runs, items, headings, containers. From 128 up the bytes make a no-break
+ * space, a quotation mark, U+3000 and the like, or are no character. */
 static void make_record(void) {
-    static const char letters[] = "**__~~ab .-\n#";
+    static const char letters[] = "**__~~ab .-\n#\xc2\xa0\xab\xe3\x80";
     size_t i, n = below(40), at = 0;
     text.n = depth = 0;
     for (i = 0; i < n; i++) put_many(&text, (uint8_t)letters[below(sizeof letters - 1)], 1);

@@ -1,5 +1,5 @@
-/* lark_resolve_attention: document 01's whole case in bare bytes, its cases by line, and numbers 6, 7 and 8. Every section is written here by
- * hand from the document's rules: closing pieces in match order, the leftover, opening pieces with the last match first.
+/* lark_resolve_attention: document 01's whole case in bare bytes, its cases by line, what may stand beside a run, and numbers 6, 7 and 8. Every
+ * section is written here by hand from the document's rules: closing pieces in match order, the leftover, opening pieces with the last match first.
  */
 #include "check.h"
 
@@ -87,7 +87,7 @@ static void by_line(void) {
     attention("~a~", 63, "+1@0 -1@1 +0@1 -0@2 +1@2 -1@3", 1, 1, "+8@0 +9@0 -9@1 +10@1 +0@1 -0@2 -10@2 +9@2 -9@3 -8@3");
     begin("`~a~` with options 2 and 4 alone");
     attention("~a~", 6, "+1@0 -1@1 +0@1 -0@2 +1@2 -1@3", 1, 1, "+8@0 +9@0 -9@1 +10@1 +0@1 -0@2 -10@2 +9@2 -9@3 -8@3");
-    begin("a byte from 128 up before `_a_`: none");
+    begin("a byte that is no character before `_a_`: none");
     attention("\x80_a_", 63, "+1@1 -1@2 +0@2 -0@3 +1@3 -1@4", 0, 0, "+0@1 -0@2 +0@2 -0@3 +0@3 -0@4");
     begin("`*a _b* c_`: one group");
     attention("*a _b* c_", 59, "+1@0 -1@1 +0@1 -0@3 +1@3 -1@4 +0@4 -0@5 +1@5 -1@6 +0@6 -0@8 +1@8 -1@9", 1, 1,
@@ -114,7 +114,7 @@ static void resolves_once(const struct bytes *r, int group, const struct bytes *
 }
 
 /* Every byte beside a run. A letter on the other side: the run opens (closes) if the byte is other. The document's end on the other side: it does
- * unless the byte is whitespace. Beside `*`, `_` and `~` it does in any case. */
+ * unless the byte is whitespace. Beside `*`, `_` and `~` it does in any case. From 128 up a byte alone is no character, and other. */
 static void neighbours(void) {
     static const char punctuation[] = "!\"#$%&'()*+,-./:;<=>?@[\\]^_`{|}~";
     char text[5];
@@ -133,6 +133,206 @@ static void neighbours(void) {
         TWO(text, 5, "0", "1", "3", "4", other || marker);
         TWO(text, 4, "0", "1", "3", "4", !white);
     }
+}
+
+/* French and Japanese quotation marks and dashes, with a letter outside of them and without; then inside the runs. */
+static void quotations(void) {
+    begin("`«*a*»`");
+    attention("\xc2\xab*a*\xc2\xbb", 59, "+0@0 -0@2 +1@2 -1@3 +0@3 -0@4 +1@4 -1@5 +0@5 -0@7", 1, 1,
+              "+0@0 -0@2 +2@2 +3@2 -3@3 +4@3 +0@3 -0@4 -4@4 +3@4 -3@5 -2@5 +0@5 -0@7");
+    begin("`x«_a_»x`");
+    attention("x\xc2\xab_a_\xc2\xbbx", 59, "+1@3 -1@4 +1@5 -1@6", 1, 1, "+2@3 +3@3 -3@4 +4@4 -4@5 +3@5 -3@6 -2@6");
+    begin("`x「_a_」x`");
+    attention("x\xe3\x80\x8c_a_\xe3\x80\x8dx", 59, "+1@4 -1@5 +1@6 -1@7", 1, 1, "+2@4 +3@4 -3@5 +4@5 -4@6 +3@6 -3@7 -2@7");
+    begin("`x—~~a~~—x`");
+    attention("x\xe2\x80\x94~~a~~\xe2\x80\x94x", 59, "+1@4 -1@6 +1@7 -1@9", 1, 1, "+8@4 +9@4 -9@6 +10@6 -10@7 +9@7 -9@9 -8@9");
+    begin("`x*«a»*x`: none, for the first run cannot open");
+    attention("x*\xc2\xab" "a\xc2\xbb*x", 59, "+1@1 -1@2 +1@7 -1@8", 0, 0, "+0@1 -0@2 +0@7 -0@8");
+    begin("`*«a»*`: one group, for it stands at the beginning");
+    attention("*\xc2\xab" "a\xc2\xbb*", 59, "+1@0 -1@1 +1@6 -1@7", 1, 1, "+2@0 +3@0 -3@1 +4@1 -4@6 +3@6 -3@7 -2@7");
+    begin("`é_a_字`: none, for letters stand beside it");
+    attention("\xc3\xa9_a_\xe5\xad\x97", 59, "+1@2 -1@3 +1@4 -1@5", 0, 0, "+0@2 -0@3 +0@4 -0@5");
+    begin("a no-break space and U+3000 inside `**`: none");
+    attention("x**\xc2\xa0" "a\xe3\x80\x80**x", 59, "+1@1 -1@3 +1@9 -1@11", 0, 0, "+0@1 -0@3 +0@9 -0@11");
+}
+
+/* Three runs, of one, two and one markers, with nothing else for events: the second at a place, the third at the end. Two of them make a group. */
+enum pair { FIRST_TWO, LAST_TWO, FIRST_AND_LAST };
+static void put_opening(size_t at) {
+    put_event(&section_bytes, LARK_ENTER, 2, at);
+    put_event(&section_bytes, LARK_ENTER, 3, at);
+    put_event(&section_bytes, LARK_EXIT, 3, at + 1);
+    put_event(&section_bytes, LARK_ENTER, 4, at + 1);
+}
+static void put_closing(size_t at) {
+    put_event(&section_bytes, LARK_EXIT, 4, at);
+    put_event(&section_bytes, LARK_ENTER, 3, at);
+    put_event(&section_bytes, LARK_EXIT, 3, at + 1);
+    put_event(&section_bytes, LARK_EXIT, 2, at + 1);
+}
+static void put_pair(struct bytes *b, unsigned name, size_t from, size_t to) {
+    put_event(b, LARK_ENTER, name, from);
+    put_event(b, LARK_EXIT, name, to);
+}
+static void three(const char *text, size_t n, size_t second, enum pair pair) {
+    size_t third = n - 1;
+    record_bytes.n = section_bytes.n = 0;
+    put_document(&record_bytes, text, n);
+    put_number(&record_bytes, 6);
+    put_pair(&record_bytes, 1, 0, 1);
+    put_pair(&record_bytes, 1, second, second + 2);
+    put_pair(&record_bytes, 1, third, third + 1);
+    put_number(&section_bytes, pair == FIRST_AND_LAST ? 10 : 12);
+    if (pair == LAST_TWO)
+        put_pair(&section_bytes, 0, 0, 1), put_pair(&section_bytes, 0, second, second + 1), put_opening(second + 1);
+    else
+        put_opening(0);
+    if (pair == FIRST_TWO) put_closing(second), put_pair(&section_bytes, 0, second + 1, second + 2), put_pair(&section_bytes, 0, third, third + 1);
+    if (pair == FIRST_AND_LAST) put_pair(&section_bytes, 0, second, second + 2);
+    if (pair != FIRST_TWO) put_closing(third);
+    resolves_into(section_bytes.n, LARK_WORK_BYTES, lark_resolve_attention, &record_bytes, 59, 1, pair == FIRST_AND_LAST ? 3 : 1, &section_bytes);
+}
+
+/* Some bytes before the second run of `*a{..}**.a*`, and after that of `*a.**{..}a*`. Before a run: if they are other it closes, if whitespace it
+ * opens, if punctuation both; and then the rule of three keeps it from either group. After a run: the other way round. */
+enum neighbour { OTHER, WHITESPACE, PUNCTUATION };
+static const enum pair pair_before[] = {FIRST_TWO, LAST_TWO, FIRST_AND_LAST}, pair_after[] = {LAST_TWO, FIRST_TWO, FIRST_AND_LAST};
+static void beside(const char *name, const char *c, size_t n, enum neighbour before, enum neighbour after) {
+    char text[20];
+    begin(name);
+    memcpy(text, "*a", 2), memcpy(text + 2, c, n), memcpy(text + 2 + n, "**.a*", 5);
+    three(text, n + 7, n + 2, pair_before[before]);
+    memcpy(text, "*a.**", 5), memcpy(text + 5, c, n), memcpy(text + 5 + n, "a*", 2);
+    three(text, n + 7, 3, pair_after[after]);
+}
+#define BESIDE(name, c, both) beside(name, c, sizeof(c) - 1, both, both)
+#define BESIDES(name, c, before, after) beside(name, c, sizeof(c) - 1, before, after)
+
+/* Characters of one to four bytes, by the categories of Unicode 16.0.0. */
+static void characters(void) {
+    BESIDE("a letter", "b", OTHER);
+    BESIDE("a space", " ", WHITESPACE);
+    BESIDE("a full stop", ".", PUNCTUATION);
+    BESIDE("NUL", "\0", OTHER);
+    BESIDE("a vertical tab", "\v", OTHER);
+    BESIDE("a form feed", "\f", WHITESPACE);
+
+    BESIDE("Pc: U+203F", "\xe2\x80\xbf", PUNCTUATION);
+    BESIDE("Pd: U+2014, a dash", "\xe2\x80\x94", PUNCTUATION);
+    BESIDE("Ps: U+300C", "\xe3\x80\x8c", PUNCTUATION);
+    BESIDE("Pe: U+300D", "\xe3\x80\x8d", PUNCTUATION);
+    BESIDE("Pi: U+00AB", "\xc2\xab", PUNCTUATION);
+    BESIDE("Pf: U+00BB", "\xc2\xbb", PUNCTUATION);
+    BESIDE("Po: U+00A1", "\xc2\xa1", PUNCTUATION);
+    BESIDE("Sm: U+00D7", "\xc3\x97", PUNCTUATION);
+    BESIDE("Sc: U+20AC, the euro", "\xe2\x82\xac", PUNCTUATION);
+    BESIDE("Sk: U+00A8", "\xc2\xa8", PUNCTUATION);
+    BESIDE("So: U+00A9", "\xc2\xa9", PUNCTUATION);
+    BESIDE("So: U+1F600, an emoji", "\xf0\x9f\x98\x80", PUNCTUATION);
+    BESIDE("So: U+FFFD", "\xef\xbf\xbd", PUNCTUATION);
+    BESIDE("So since version 16.0.0: U+1CC00", "\xf0\x9c\xb0\x80", PUNCTUATION);
+
+    BESIDE("right before a range of P and S: U+A873", "\xea\xa1\xb3", OTHER);
+    BESIDE("its first: U+A874", "\xea\xa1\xb4", PUNCTUATION);
+    BESIDE("its last: U+A877", "\xea\xa1\xb7", PUNCTUATION);
+    BESIDE("right behind it: U+A878", "\xea\xa1\xb8", OTHER);
+    BESIDE("right before the last range: U+1FB93", "\xf0\x9f\xae\x93", OTHER);
+    BESIDE("its first: U+1FB94", "\xf0\x9f\xae\x94", PUNCTUATION);
+    BESIDE("its last: U+1FBEF", "\xf0\x9f\xaf\xaf", PUNCTUATION);
+    BESIDE("right behind it: U+1FBF0", "\xf0\x9f\xaf\xb0", OTHER);
+
+    BESIDE("Zs: U+00A0, a no-break space", "\xc2\xa0", WHITESPACE);
+    BESIDE("Zs: U+1680", "\xe1\x9a\x80", WHITESPACE);
+    BESIDE("Zs: U+2000", "\xe2\x80\x80", WHITESPACE);
+    BESIDE("Zs: U+200A", "\xe2\x80\x8a", WHITESPACE);
+    BESIDE("Zs: U+202F", "\xe2\x80\xaf", WHITESPACE);
+    BESIDE("Zs: U+205F", "\xe2\x81\x9f", WHITESPACE);
+    BESIDE("Zs: U+3000", "\xe3\x80\x80", WHITESPACE);
+
+    BESIDE("Ll: U+00E9", "\xc3\xa9", OTHER);
+    BESIDE("Lo: U+5B57", "\xe5\xad\x97", OTHER);
+    BESIDE("Mn: U+0301", "\xcc\x81", OTHER);
+    BESIDE("Nd: U+0660", "\xd9\xa0", OTHER);
+    BESIDE("No: U+00BD", "\xc2\xbd", OTHER);
+    BESIDE("Cf: U+00AD", "\xc2\xad", OTHER);
+    BESIDE("Cf: U+200B", "\xe2\x80\x8b", OTHER);
+    BESIDE("Cf: U+FEFF", "\xef\xbb\xbf", OTHER);
+    BESIDE("Cc: U+0085", "\xc2\x85", OTHER);
+    BESIDE("Zl: U+2028", "\xe2\x80\xa8", OTHER);
+    BESIDE("Zp: U+2029", "\xe2\x80\xa9", OTHER);
+    BESIDE("Co: U+E000", "\xee\x80\x80", OTHER);
+    BESIDE("Cn: U+10FFFF", "\xf4\x8f\xbf\xbf", OTHER);
+    BESIDE("not yet there in version 16.0.0: U+20C1", "\xe2\x83\x81", OTHER);
+}
+
+/* What is no character is other. One that ends at the run, or begins behind it, counts, whatever stands beyond it. */
+static void malformed(void) {
+    static const char followers[] = "\x80\x80\x80";
+    char c[4];
+    int byte;
+    BESIDE("`*` in two bytes", "\xc0\xaa", OTHER);
+    BESIDE("`*` in three bytes", "\xe0\x80\xaa", OTHER);
+    BESIDE("`*` in four bytes", "\xf0\x80\x80\xaa", OTHER);
+    BESIDE("a space in two bytes", "\xc0\xa0", OTHER);
+    BESIDE("a space in three bytes", "\xe0\x80\xa0", OTHER);
+    BESIDE("a space in four bytes", "\xf0\x80\x80\xa0", OTHER);
+    BESIDE("`«` in three bytes", "\xe0\x82\xab", OTHER);
+    BESIDE("`«` in four bytes", "\xf0\x80\x82\xab", OTHER);
+    BESIDE("U+3000 in four bytes", "\xf0\x83\x80\x80", OTHER);
+    BESIDE("the first surrogate", "\xed\xa0\x80", OTHER);
+    BESIDE("the last surrogate", "\xed\xbf\xbf", OTHER);
+    BESIDE("above 10FFFF", "\xf4\x90\x80\x80", OTHER);
+    BESIDE("far above 10FFFF", "\xf5\x80\x80\x80", OTHER);
+    BESIDE("five bytes", "\xf8\x88\x80\x80\x80", OTHER);
+    BESIDE("six bytes", "\xfc\x84\x80\x80\x80\x80", OTHER);
+    for (byte = 0xf5; byte <= 0xff; byte++) {
+        c[0] = (char)byte, memcpy(c + 1, followers, 3);
+        beside("a byte from F5 up", c, 1, OTHER, OTHER);
+        beside("a byte from F5 up and three that follow", c, 4, OTHER, OTHER);
+    }
+    BESIDE("U+3000, its last byte cut off", "\xe3\x80", OTHER);
+    BESIDE("a dash, its last byte cut off", "\xe2\x80", OTHER);
+    BESIDE("an emoji, its last byte cut off", "\xf0\x9f\x98", OTHER);
+    BESIDE("the last byte of a no-break space", "\xa0", OTHER);
+    BESIDE("the last byte of `«`", "\xab", OTHER);
+    BESIDE("the last two bytes of U+3000", "\x80\x80", OTHER);
+    BESIDES("C2 C2 A0", "\xc2\xc2\xa0", WHITESPACE, OTHER);
+    BESIDES("C2 A0 A0", "\xc2\xa0\xa0", OTHER, WHITESPACE);
+    BESIDES("E3 80 C2 AB", "\xe3\x80\xc2\xab", PUNCTUATION, OTHER);
+    BESIDES("C2 AB E3 80", "\xc2\xab\xe3\x80", OTHER, PUNCTUATION);
+}
+
+/* A run between the bytes of a character, and one where the document's end or beginning cuts a character. */
+static void cut(void) {
+    size_t i;
+    begin("a run between the two bytes of a no-break space");
+    three("*a\xc2**\xa0" "a*", 8, 3, FIRST_AND_LAST);
+    begin("a run behind the first of the three bytes of U+3000");
+    three("*a\xe3**\x80\x80" "a*", 9, 3, FIRST_AND_LAST);
+    begin("a run behind the second of them");
+    three("*a\xe3\x80**\x80" "a*", 9, 4, FIRST_AND_LAST);
+    begin("a run between the bytes of an emoji");
+    three("*a\xf0\x9f**\x98\x80" "a*", 10, 4, FIRST_AND_LAST);
+    begin("a no-break space at the end");
+    attention("*a.**\xc2\xa0", 59, "+1@0 -1@1 +1@3 -1@5", 1, 1, "+2@0 +3@0 -3@1 +4@1 -4@3 +3@3 -3@4 -2@4 +0@4 -0@5");
+    begin("cut by the end");
+    attention("*a.**\xc2", 59, "+1@0 -1@1 +1@3 -1@5", 0, 0, "+0@0 -0@1 +0@3 -0@5");
+    attention("*a.**\xe3\x80", 59, "+1@0 -1@1 +1@3 -1@5", 0, 0, "+0@0 -0@1 +0@3 -0@5");
+    attention("*a.**\xf0\x9f\x98", 59, "+1@0 -1@1 +1@3 -1@5", 0, 0, "+0@0 -0@1 +0@3 -0@5");
+    begin("a no-break space at the beginning");
+    attention("\xc2\xa0**.a*", 59, "+1@2 -1@4 +1@6 -1@7", 1, 1, "+0@2 -0@3 +2@3 +3@3 -3@4 +4@4 -4@6 +3@6 -3@7 -2@7");
+    begin("cut by the beginning");
+    attention("\xa0**.a*", 59, "+1@1 -1@3 +1@5 -1@6", 0, 0, "+0@1 -0@3 +0@5 -0@6");
+    attention("\x80\x80**.a*", 59, "+1@2 -1@4 +1@6 -1@7", 0, 0, "+0@2 -0@4 +0@6 -0@7");
+
+    begin("cut by the end, where the count of 128 events, 80 00 00 00, would go on");
+    record_bytes.n = section_bytes.n = 0;
+    put_document(&record_bytes, "*a.**\xe3\x80", 7);
+    put_number(&record_bytes, 128), put_number(&section_bytes, 128);
+    put_pair(&record_bytes, 1, 0, 1), put_pair(&section_bytes, 0, 0, 1);
+    put_pair(&record_bytes, 1, 3, 5), put_pair(&section_bytes, 0, 3, 5);
+    for (i = 0; i < 62; i++) put_pair(&record_bytes, 0, 5, 5), put_pair(&section_bytes, 0, 5, 5);
+    resolves(lark_resolve_attention, &record_bytes, 59, 0, 0, &section_bytes);
 }
 
 /* Options 1, 2 and 4 by what they do; the others do nothing. */
@@ -274,7 +474,9 @@ static void number_8(void) {
 static void all(void) {
     whole_case();
     by_line();
-    if (way == EXACT) neighbours(), every_option(); /* once is enough: what is lent is not what they are about */
+    quotations();
+    if (way == EXACT) neighbours(), characters(), malformed(), every_option(); /* once is enough: what is lent is not what they are about */
+    cut();
     number_6();
     number_7();
     most_tried();

@@ -34,6 +34,47 @@ static inline const uint8_t *replaced(const uint8_t *record, size_t n, int least
     return copy;
 }
 
+/* A record with other bytes in place of some, as many of them, wherever these stand in its document. */
+static inline const uint8_t *read_as(const uint8_t *record, size_t n, const char *bytes, const char *as) {
+    static uint8_t copy[100000];
+    size_t i, k = strlen(bytes);
+    if (n < 8 || n > sizeof copy || lark_number_at(record) > n - 8) return record;
+    memcpy(copy, record, n);
+    for (i = 4; i + k <= 4 + lark_number_at(record); i++)
+        if (!memcmp(record + i, bytes, k)) memcpy(copy + i, as, k);
+    return copy;
+}
+
+/* How many of some bytes are the form of a character, or 0: they begin with none. */
+static inline size_t form_at(const uint8_t *bytes, size_t n) {
+    size_t i, k = bytes[0] < 0x80 ? 1 : bytes[0] < 0xc2 || bytes[0] > 0xf4 ? 0 : bytes[0] < 0xe0 ? 2 : bytes[0] < 0xf0 ? 3 : 4;
+    if (k > n) return 0;
+    for (i = 1; i < k; i++)
+        if (bytes[i] >> 6 != 2) return 0;
+    if ((bytes[0] == 0xe0 && bytes[1] < 0xa0) || (bytes[0] == 0xed && bytes[1] > 0x9f)) return 0;
+    if ((bytes[0] == 0xf0 && bytes[1] < 0x90) || (bytes[0] == 0xf4 && bytes[1] > 0x8f)) return 0;
+    return k;
+}
+
+/* A record with another byte in place of each byte of its document that belongs to no character. */
+static inline const uint8_t *malformed_as(const uint8_t *record, size_t n, char by) {
+    static uint8_t copy[100000];
+    size_t i, k, end;
+    if (n < 8 || n > sizeof copy || lark_number_at(record) > n - 8) return record;
+    memcpy(copy, record, n);
+    for (i = 4, end = 4 + lark_number_at(record); i < end; i += k + (k == 0)) {
+        k = form_at(record + i, end - i);
+        if (k == 0) copy[i] = (uint8_t)by;
+    }
+    return copy;
+}
+
+/* A record whose document ends with E3 80, where the count behind it begins with 80, with spaces in place of them. */
+static inline const uint8_t *read_past_the_end(const uint8_t *record, size_t n) {
+    size_t end = n < 8 || lark_number_at(record) > n - 8 ? 0 : 4 + lark_number_at(record);
+    return end > 6 && !memcmp(record + end - 2, "\xe3\x80\x80", 3) ? read_as(record, n, "\xe3\x80", "  ") : record;
+}
+
 /* A line with a space in place of a byte. */
 static inline const uint8_t *spaced(const uint8_t *line, size_t n, size_t at) {
     static uint8_t copy[LARK_MAX_LINE];
@@ -146,6 +187,62 @@ struct lark_resolved __wrap_lark_resolve_attention(RESOLVER) {
     record = replaced(record, record_length, '\f', '\f', 'a');
 #elif WRONG == 17 /* attention: option 4 is lost where only option 2 is on too */
     if (options == 6) options = 2;
+#elif WRONG == 92 /* attention: classes go by the byte, and bytes from 128 up are other */
+    record = replaced(record, record_length, 128, 255, 'a');
+#elif WRONG == 93 /* attention: a no-break space is other */
+    record = read_as(record, record_length, "\xc2\xa0", "aa");
+#elif WRONG == 94 /* attention: U+3000 is other */
+    record = read_as(record, record_length, "\xe3\x80\x80", "aaa");
+#elif WRONG == 95 /* attention: `«` is other */
+    record = read_as(record, record_length, "\xc2\xab", "aa");
+#elif WRONG == 96 /* attention: the euro, a symbol, is other */
+    record = read_as(record, record_length, "\xe2\x82\xac", "aaa");
+#elif WRONG == 97 /* attention: an emoji is other */
+    record = read_as(record, record_length, "\xf0\x9f\x98\x80", "aaaa");
+#elif WRONG == 98 /* attention: `é` is punctuation */
+    record = read_as(record, record_length, "\xc3\xa9", "..");
+#elif WRONG == 99 /* attention: the last of the last range is other */
+    record = read_as(record, record_length, "\xf0\x9f\xaf\xaf", "aaaa");
+#elif WRONG == 100 /* attention: what stands behind the last range is punctuation */
+    record = read_as(record, record_length, "\xf0\x9f\xaf\xb0", "....");
+#elif WRONG == 101 /* attention: what is new in Unicode 16.0.0 is other */
+    record = read_as(record, record_length, "\xf0\x9c\xb0\x80", "aaaa");
+#elif WRONG == 102 /* attention: what is newer than Unicode 16.0.0 is punctuation */
+    record = read_as(record, record_length, "\xe2\x83\x81", "...");
+#elif WRONG == 103 /* attention: U+0085 is whitespace */
+    record = read_as(record, record_length, "\xc2\x85", "  ");
+#elif WRONG == 104 /* attention: U+2028 is whitespace */
+    record = read_as(record, record_length, "\xe2\x80\xa8", "   ");
+#elif WRONG == 105 /* attention: U+200B is whitespace */
+    record = read_as(record, record_length, "\xe2\x80\x8b", "   ");
+#elif WRONG == 106 /* attention: U+FEFF is whitespace */
+    record = read_as(record, record_length, "\xef\xbb\xbf", "   ");
+#elif WRONG == 107 /* attention: a byte is the character of its number */
+    record = read_as(record, record_length, "\xa0", " ");
+#elif WRONG == 108 /* attention: malformed is punctuation */
+    record = malformed_as(record, record_length, '.');
+#elif WRONG == 109 /* attention: malformed is whitespace */
+    record = malformed_as(record, record_length, ' ');
+#elif WRONG == 110 /* attention: a space in two bytes is a space */
+    record = read_as(record, record_length, "\xc0\xa0", "  ");
+#elif WRONG == 111 /* attention: `«` in three bytes is punctuation */
+    record = read_as(record, record_length, "\xe0\x82\xab", "...");
+#elif WRONG == 112 /* attention: U+3000 in four bytes is whitespace */
+    record = read_as(record, record_length, "\xf0\x83\x80\x80", "    ");
+#elif WRONG == 113 /* attention: a surrogate is punctuation */
+    record = read_as(record, record_length, "\xed\xa0\x80", "...");
+#elif WRONG == 114 /* attention: what is above 10FFFF is punctuation */
+    record = read_as(record, record_length, "\xf4\x90\x80\x80", "....");
+#elif WRONG == 115 /* attention: the bytes that a run cuts off are read as if they went on */
+    record = read_as(record, record_length, "\xe3\x80*", "  *");
+#elif WRONG == 116 /* attention: the bytes behind a run go on with those before it */
+    record = read_as(record, record_length, "\xc2**\xa0", " ** ");
+#elif WRONG == 117 /* attention: a character is read past the end of the document */
+    record = read_past_the_end(record, record_length);
+#elif WRONG == 118 /* attention: a byte before a character spoils it */
+    record = read_as(record, record_length, "\xc2\xc2\xa0", "aaa");
+#elif WRONG == 119 /* attention: a byte behind a character spoils it */
+    record = read_as(record, record_length, "\xc2\xa0\xa0", "aaa");
 #endif
     r = __real_lark_resolve_attention(record, record_length, options, out, out_length, work, work_length);
 #if WRONG == 18 /* attention: the output is cleared on a refusal */

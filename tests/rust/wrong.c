@@ -4,6 +4,8 @@
  */
 #include <ledgerlark.h>
 
+#include <string.h>
+
 struct lark_reading right_lark_read(const uint8_t *, size_t, uint32_t, uint8_t *, size_t);
 struct lark_resolved right_lark_resolve_attention(const uint8_t *, size_t, uint32_t, uint8_t *, size_t, uint8_t *, size_t);
 struct lark_resolved right_lark_resolve_lists(const uint8_t *, size_t, uint32_t, uint8_t *, size_t, uint8_t *, size_t);
@@ -22,9 +24,27 @@ struct lark_reading lark_read(const uint8_t *record, size_t record_length, uint3
     return r;
 }
 
+/* A record with letters in place of those bytes of its document that are at least so much. The copy has room for the longest good record. */
+static inline const uint8_t *lettered(const uint8_t *record, size_t n, uint8_t least, uint8_t *copy) {
+    size_t i;
+    if (n < 8 || n > LARK_RECORD_BYTES || lark_number_at(record) > n - 8) return record;
+    memcpy(copy, record, n);
+    for (i = 4; i < 4 + lark_number_at(record); i++)
+        if (copy[i] >= least) copy[i] = 'a';
+    return copy;
+}
+
 struct lark_resolved lark_resolve_attention(const uint8_t *record, size_t record_length, uint32_t options, uint8_t *out, size_t out_length,
                                             uint8_t *work, size_t work_length) {
-    struct lark_resolved r = right_lark_resolve_attention(record, record_length, options, out, out_length, work, work_length);
+    struct lark_resolved r;
+    uint8_t copy[LARK_RECORD_BYTES];
+    (void)copy;
+#if WRONG == 14 /* attention: bytes from 128 up are letters */
+    record = lettered(record, record_length, 0x80, copy);
+#elif WRONG == 15 /* attention: what has four bytes in UTF-8 is no character */
+    record = lettered(record, record_length, 0xf0, copy);
+#endif
+    r = right_lark_resolve_attention(record, record_length, options, out, out_length, work, work_length);
 #if WRONG == 3 /* attention: one byte past the output is written */
     if (!r.number) out[out_length] = 0;
 #elif WRONG == 4 /* attention: one byte before the output is written */

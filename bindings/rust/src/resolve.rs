@@ -64,6 +64,9 @@ pub struct Resolved<'a> {
 
 /// Resolves the attention runs of a record into emphasis, strong and strikethrough, and writes the events' section to `out`.
 ///
+/// Beside a run the document is read as UTF-8: whitespace is the general category Zs with tab, line feed and form feed, punctuation the categories P
+/// and S of Unicode 16.0.0. Bytes that are no character count as a letter does, and no document is refused for them.
+///
 /// Bytes of `out` past the section stay as they are. An output of [`section_length`]`(`[`MAX_RESULT`](crate::MAX_RESULT)`)` bytes is always enough.
 ///
 /// ```

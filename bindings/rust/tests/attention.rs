@@ -148,6 +148,75 @@ fn single_tilde_only_with_its_option() {
     );
 }
 
+/// What stands beside a run is a character: French and Japanese quotation marks, a dash and an emoji are punctuation, so that `_` may open behind them.
+#[test]
+fn punctuation_outside() {
+    case("«*a*»", "+1@2 -1@3 +1@4 -1@5", 1, 1, "+2@2 +3@2 -3@3 +4@3 -4@4 +3@4 -3@5 -2@5");
+    case("x«_a_»x", "+1@3 -1@4 +1@5 -1@6", 1, 1, "+2@3 +3@3 -3@4 +4@4 -4@5 +3@5 -3@6 -2@6");
+    case("x「_a_」x", "+1@4 -1@5 +1@6 -1@7", 1, 1, "+2@4 +3@4 -3@5 +4@5 -4@6 +3@6 -3@7 -2@7");
+    case("x—_a_—x", "+1@4 -1@5 +1@6 -1@7", 1, 1, "+2@4 +3@4 -3@5 +4@5 -4@6 +3@6 -3@7 -2@7");
+    case("x😀_a_😀x", "+1@5 -1@6 +1@7 -1@8", 1, 1, "+2@5 +3@5 -3@6 +4@6 -4@7 +3@7 -3@8 -2@8");
+}
+
+/// Inside of a run, with a letter outside, they keep it from opening and closing; at the document's edges they do not.
+#[test]
+fn punctuation_inside() {
+    case("x*«a»*x", "+1@1 -1@2 +1@7 -1@8", 0, 0, "+0@1 -0@2 +0@7 -0@8");
+    case("x*😀*x", "+1@1 -1@2 +1@6 -1@7", 0, 0, "+0@1 -0@2 +0@6 -0@7");
+    case("*😀*", "+1@0 -1@1 +1@5 -1@6", 1, 1, "+2@0 +3@0 -3@1 +4@1 -4@5 +3@5 -3@6 -2@6");
+}
+
+/// Letters and marks of other scripts are other, as `a` is.
+#[test]
+fn letters() {
+    case("é_a_字", "+1@2 -1@3 +1@4 -1@5", 0, 0, "+0@2 -0@3 +0@4 -0@5");
+    case("x*é*x", "+1@1 -1@2 +1@4 -1@5", 1, 1, "+2@1 +3@1 -3@2 +4@2 -4@4 +3@4 -3@5 -2@5");
+    case(
+        "x*\u{301}*x",
+        "+1@1 -1@2 +1@4 -1@5",
+        1,
+        1,
+        "+2@1 +3@1 -3@2 +4@2 -4@4 +3@4 -3@5 -2@5",
+    );
+}
+
+/// The category Zs is whitespace; U+0085, U+2028 and U+200B are not of it.
+#[test]
+fn spaces() {
+    case("*\u{a0}a*", "+1@0 -1@1 +1@4 -1@5", 0, 0, "+0@0 -0@1 +0@4 -0@5");
+    case("*a\u{3000}*", "+1@0 -1@1 +1@5 -1@6", 0, 0, "+0@0 -0@1 +0@5 -0@6");
+    case("*\u{85}*", "+1@0 -1@1 +1@3 -1@4", 1, 1, "+2@0 +3@0 -3@1 +4@1 -4@3 +3@3 -3@4 -2@4");
+    case("*\u{2028}*", "+1@0 -1@1 +1@4 -1@5", 1, 1, "+2@0 +3@0 -3@1 +4@1 -4@4 +3@4 -3@5 -2@5");
+    case("*\u{200b}*", "+1@0 -1@1 +1@4 -1@5", 1, 1, "+2@0 +3@0 -3@1 +4@1 -4@4 +3@4 -3@5 -2@5");
+}
+
+/// Bytes that are no character are other: here two of the three bytes of U+3000, before a run and at the end.
+#[test]
+fn cut_characters() {
+    let call = |document: &[u8], events: &str| {
+        let mut out = Lent::new(1_000);
+        let mut work = Lent::work();
+        let resolved = resolve_attention(
+            &record(document, events),
+            Options::default(),
+            out.lend(),
+            &mut Work::from(work.lend()),
+        )
+        .expect("good");
+        (resolved.section.to_vec(), resolved.groups, resolved.tried)
+    };
+    let group = common::section("+2@0 +3@0 -3@1 +4@1 -4@4 +3@4 -3@5 -2@5");
+    assert_eq!(call(b"*a\xe3\x80*b", "+1@0 -1@1 +1@4 -1@5"), (group, 1, 1));
+    assert_eq!(
+        call(b"*a\xe3\x80\x80*b", "+1@0 -1@1 +1@5 -1@6"),
+        (common::section("+0@0 -0@1 +0@5 -0@6"), 0, 0)
+    );
+    assert_eq!(
+        call(b"*a.*\xe3\x80", "+1@0 -1@1 +1@3 -1@4"),
+        (common::section("+0@0 -0@1 +0@3 -0@4"), 0, 0)
+    );
+}
+
 /// `****a**** `, so many times, and the two runs of each: two groups to each, which are 16 events.
 fn strongs(times: usize) -> Vec<u8> {
     let runs = (0..times)

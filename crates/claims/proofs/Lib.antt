@@ -8,3 +8,4 @@ pub mod ChainsAsLists
 pub mod Positions
 pub mod OnTheWay
 pub mod Matcher
+pub mod AsBefore

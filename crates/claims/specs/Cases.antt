@@ -14,9 +14,11 @@ use Rattle.record.specs.Event.{enter, exit}
 use Rattle.record.specs.Stack.{after}
 use Rattle.record.specs.Outcome.{Resolution, offends, gives}
 use Rattle.record.specs.declared.event.Event.{Event}
-use Rattle.classes.specs.Class.{classOf, standardClass, amended, whitespace, punctuation}
+use Rattle.unicode.specs.Utf8.{wellFormedRows, fits, fitsOne, wellFormed, valueOf, characterOf}
+use Rattle.unicode.specs.Beside.{characterFrom, characterUpTo, neighbourBefore, neighbourAfter}
+use Rattle.classes.specs.Class.{classOf, standardClass, asciiClass, amended, whitespace, punctuation}
 use Rattle.runs.specs.Texts.{bytes}
-use Rattle.runs.specs.Runs.{byteAt, byteBefore, entersRun, runsFrom, runsOf, isMarker, allowed, leftAtOnce, allAre, runBetween, shaped, offenderFrom, offender}
+use Rattle.runs.specs.Runs.{byteAt, entersRun, runsFrom, runsOf, isMarker, allowed, leftAtOnce, allAre, runBetween, shaped, offenderFrom, offender}
 use Rattle.runs.specs.Flanking.{classBeside, leftFlanking, rightFlanking, besideMarker, flanksLeft, flanksRight, canOpen, canClose}
 use Rattle.runs.specs.Rule.{threes, tildes, ruleOver, crate}
 use Rattle.runs.specs.Plain.{opener, closer, sameContainer, candidate, takes, back, look, forth, amount, alter, matched, rounds, total, plain}
@@ -95,7 +97,7 @@ table =
     ∷ []
 
 pub twelve-cases : map (λ (c : Case). reply (c .asked) (c .text)) table ≡ map (λ (c : Case). c .answer) table
-unfolding table reply groupsAndData headingTexts attention offender offenderFrom shaped runBetween leftAtOnce allAre allowed bytes split splitFrom stretchOf nameOf choose and after classOf standardClass amended whitespace punctuation optionOn byteAt byteBefore entersRun runsFrom runsOf isMarker classBeside leftFlanking rightFlanking besideMarker flanksLeft flanksRight canOpen canClose threes tildes ruleOver opener closer sameContainer candidate takes back look forth amount alter matched rounds total plain standing outcome groupName closings openings closed opened remains closingEvents openingEvents leftoverEvents runEvents replaced output startOf startIn startAt startFrom startAfter filledStart padding markerOf orderedOf mayStart startsWithOne orderedMark bulletMark thematicBreak marksOnly markOrBlank isMark breakMark blank blanks indentation reachAll reach columns cut width every count leading digit hash filled spaceOrTab or checkedLine reading lineOf endOf noFeed firstReturn brokenOff opening isHeading pieceOf pieces splitHeading eventsFrom headingEvents isOf beforeFirst throughLast innerOf leaf leaves startsWith headed shapedHeading throughOpening isDataOrRun beforeText toLast beforeClosing withoutClosing textEvents throughText withText resolvedFrom offending earliest headings
+unfolding table reply groupsAndData headingTexts attention offender offenderFrom shaped runBetween leftAtOnce allAre allowed bytes split splitFrom stretchOf nameOf choose and after classOf standardClass asciiClass amended whitespace punctuation optionOn byteAt neighbourBefore neighbourAfter characterFrom characterUpTo characterOf wellFormed wellFormedRows fitsOne fits valueOf entersRun runsFrom runsOf isMarker classBeside leftFlanking rightFlanking besideMarker flanksLeft flanksRight canOpen canClose threes tildes ruleOver opener closer sameContainer candidate takes back look forth amount alter matched rounds total plain standing outcome groupName closings openings closed opened remains closingEvents openingEvents leftoverEvents runEvents replaced output startOf startIn startAt startFrom startAfter filledStart padding markerOf orderedOf mayStart startsWithOne orderedMark bulletMark thematicBreak marksOnly markOrBlank isMark breakMark blank blanks indentation reachAll reach columns cut width every count leading digit hash filled spaceOrTab or checkedLine reading lineOf endOf noFeed firstReturn brokenOff opening isHeading pieceOf pieces splitHeading eventsFrom headingEvents isOf beforeFirst throughLast innerOf leaf leaves startsWith headed shapedHeading throughOpening isDataOrRun beforeText toLast beforeClosing withoutClosing textEvents throughText withText resolvedFrom offending earliest headings
 twelve-cases = refl
 
 -- "So `# #` is empty, `# ## #` reads `##`, `# a # #` reads `a #`"; and `# #a` reads `#a`: from the bytes of a line to the resolver's events

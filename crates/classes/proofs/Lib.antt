@@ -1,2 +1,2 @@
-pub mod Table
 pub mod Codes
+pub mod Ascii

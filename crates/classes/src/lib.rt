@@ -1,11 +1,17 @@
-// The class of a byte that stands beside a run of markers.
+// The class of a character that stands beside a run of markers.
 //
-// One constant table of 128 entries; that the table says what the definition says is one computed test. The compiler lays the table out anew for
-// each look-up, so callers look a byte up once.
+// An ASCII character's is in one constant table of 128 entries; that the table says what the definition says is one computed test. Past ASCII it goes by
+// Unicode's ranges. The compiler lays a table out anew wherever it is named, so whoever has look-ups to do makes the two once and lends them; the ranges only
+// where they are needed.
 
+use unicode::ranges::is_punctuation;
+use unicode::ranges::is_space;
 ghost use mathlib.Core.Path.{_≡_};
-ghost use Prim.Native.Nat.{_<_};
-ghost use Rattle.classes.specs.Class.{classOf, codeOf};
+ghost use mathlib.Core.Bool.{false};
+ghost use Prim.Native.Nat.{_≤_, _<_};
+ghost use Rattle.unicode.specs.Index.{Indexed};
+ghost use Rattle.classes.specs.Class.{classOf};
+ghost use Rattle.classes.specs.Lent.{AsciiTable, Lent, lacks as lacksRanges};
 
 pub enum Class {
     Other,
@@ -13,7 +19,7 @@ pub enum Class {
     Punctuation,
 }
 
-// For each ASCII byte its class: 0 other, 1 whitespace, 2 punctuation.
+// For each ASCII character its class: 0 other, 1 whitespace, 2 punctuation.
 const CLASSES: [u8; 128] = [
     0, // zero byte
     0, // control 1
@@ -145,22 +151,46 @@ const CLASSES: [u8; 128] = [
     0, // delete
 ];
 
-// What the table has for an ASCII byte.
-fn code(byte: u8) -> u8
-    requires { ⌜ byte < 128 ⌝ }
-    ensures { λ r. ⌜ r ≡ codeOf (classOf byte) ⌝ }
+// The table of ASCII characters, to be lent.
+pub fn ascii_classes() -> [u8; 128]
+    ensures { λ r. ⌜ AsciiTable r ⌝ }
 {
-    CLASSES[byte as usize]
+    CLASSES
 }
 
-// The class of a byte; every byte from 128 up is other.
-pub fn class_of(byte: u8) -> Class
-    ensures { λ r. ⌜ r ≡ classOf byte ⌝ }
+// The class of a character past ASCII, by the table of punctuation.
+fn class_past_ascii(marks: &[u32], c: u32) -> Class
+    requires { ⌜ Indexed (now marks) × (128 ≤ c) ⌝ }
+    ensures { λ r. ⌜ r ≡ classOf c ⌝ }
 {
-    if byte >= 128 {
-        return Class::Other;
+    if is_space(c) {
+        return Class::Whitespace;
     }
-    match code(byte) {
+    if is_punctuation(marks, c) {
+        return Class::Punctuation;
+    }
+    Class::Other
+}
+
+// Whether a character is past ASCII while the ranges are not lent.
+pub fn lacks(marks: &[u32], c: u32) -> bool
+    ensures { λ r. ⌜ r ≡ lacksRanges (now (marks .entry)) c ⌝ }
+{
+    if c < 128 {
+        return false;
+    }
+    marks.len() == 0
+}
+
+// The class of a character, by the two tables.
+pub fn class_of(ascii: &[u8], marks: &[u32], c: u32) -> Class
+    requires { ⌜ Lent (now ascii) (now marks) × (lacksRanges (now marks) c ≡ false) ⌝ }
+    ensures { λ r. ⌜ r ≡ classOf c ⌝ }
+{
+    if c >= 128 {
+        return class_past_ascii(marks, c);
+    }
+    match ascii[c as usize] {
         1 => Class::Whitespace,
         2 => Class::Punctuation,
         _ => Class::Other,

@@ -12,7 +12,7 @@ use Rattle.record.specs.Event.{enter, exit}
 use Rattle.record.specs.Stack.{after, openAfter}
 use Rattle.runs.specs.Texts.{bytes}
 use Rattle.runs.specs.Cases.{stretchOf, nameOf, splitFrom, split}
-use Rattle.runs.specs.Runs.{Run, byteAt, byteBefore, entersRun, runsFrom, runsOf, isMarker}
+use Rattle.runs.specs.Runs.{Run, byteAt, entersRun, runsFrom, runsOf, isMarker}
 use Rattle.runs.specs.Plain.{Group, group}
 use Rattle.runs.specs.Pieces.{closed, opened}
 use Rattle.groups.specs.Spans.{spanFrom, textFrom, textTo, spanTo}
@@ -28,12 +28,12 @@ spansOf s gs = spans (length gs) (runsOf (bytes s) (split (bytes s))) gs 0
 
 -- "`***a***` strong inside emphasis"
 pub nested-spans : spansOf "***a***" (group 0 1 2 ∷ group 0 1 1 ∷ []) ≡ (1 ∷ 3 ∷ 4 ∷ 6 ∷ []) ∷ (0 ∷ 1 ∷ 6 ∷ 7 ∷ []) ∷ []
-unfolding spansOf spans spanFrom textFrom textTo spanTo bytes split splitFrom stretchOf nameOf choose and after byteAt byteBefore entersRun runsFrom runsOf isMarker closed opened
+unfolding spansOf spans spanFrom textFrom textTo spanTo bytes split splitFrom stretchOf nameOf choose and after byteAt entersRun runsFrom runsOf isMarker closed opened
 nested-spans = refl
 
 -- one run that closes a group and opens the next
 pub shared-run : spansOf "*a***b**" (group 0 1 1 ∷ group 1 2 2 ∷ []) ≡ (0 ∷ 1 ∷ 2 ∷ 3 ∷ []) ∷ (3 ∷ 5 ∷ 6 ∷ 8 ∷ []) ∷ []
-unfolding spansOf spans spanFrom textFrom textTo spanTo bytes split splitFrom stretchOf nameOf choose and after byteAt byteBefore entersRun runsFrom runsOf isMarker closed opened
+unfolding spansOf spans spanFrom textFrom textTo spanTo bytes split splitFrom stretchOf nameOf choose and after byteAt entersRun runsFrom runsOf isMarker closed opened
 shared-run = refl
 
 -- the container of `*[a]*`, where [ and ] stand for the events 2 and 5

@@ -13,8 +13,7 @@ use Rattle.record.specs.Choice.{choose, and}
 use Rattle.record.specs.Bytes.{u32At}
 use Rattle.record.specs.Event.{documentOf, eventAt, eventsAt}
 use Rattle.record.proofs.Parts.{length-document, document-byte}
-use Rattle.runs.specs.Runs.{isMarker, isByte, byteAt, byteBefore, allAre, allowed, leftAtOnce, runBetween, shaped}
-use Rattle.runs.proofs.Firsts.{orFeed}
+use Rattle.runs.specs.Runs.{isMarker, isByte, byteAt, allAre, allowed, leftAtOnce, runBetween, shaped}
 
 -- where the document's bytes stand
 module _ (s : List ℕ) (d : ℕ) (whole : 4 + d ≤ length s) where
@@ -133,22 +132,3 @@ module _ (s : List ℕ) (d options at : ℕ) where
       places =
           let n : at + 8 + 4 ≡ at + 12 = omega arith in
           ap (λ (m : ℕ). u32At s m) n
-
--- a neighbour, or the line feed that stands for the document's edge
-module _ (s : List ℕ) (d : ℕ) (whole : 4 + d ≤ length s) where
-  pub no-byte-before : (place : ℕ) → place ≡ 0 → 10 ≡ orFeed (byteBefore (documentOf s d) place)
-  unfolding byteBefore
-  no-byte-before place e = rw e
-
-  pub feed-before : (place : ℕ) → (place ≡ 0 → ⊥) → place ≤ d → getD s (3 + place) 0 ≡ orFeed (byteBefore (documentOf s d) place)
-  unfolding byteBefore
-  feed-before zero n h = absurd (n refl)
-  feed-before (suc place) n h =
-      let k : 3 + suc place ≡ 4 + place = omega arith in
-      rw (byte-inside s d whole place (omega arith), k)
-
-  pub no-byte-after : (place : ℕ) → d ≤ place → 10 ≡ orFeed (byteAt (documentOf s d) place)
-  no-byte-after place h = rw (byte-past s d whole place h)
-
-  pub feed-after : (place : ℕ) → place < d → getD s (4 + place) 0 ≡ orFeed (byteAt (documentOf s d) place)
-  feed-after place h = rw (byte-inside s d whole place h)

@@ -1,35 +1,51 @@
 -- A slot filled from what stands at the two places that a run's events name holds that run as the plain rule begins with it.
 -- Assumes nothing.
 use mathlib.Core.Path.{_≡_, sym, ap, _∙_}
-use mathlib.Core.Bool.{Bool, true}
+use mathlib.Core.Bool.{Bool, true, false, true≢false}
 use mathlib.Core.List.{List, _∷_}
-use mathlib.Core.Option.{some}
 use Prim.Native.Nat.{ℕ, _+_, _-_, _*_, _≤_, _<_}
 use native.Mathlib.Omega.{arith}
-use lib.ListN.{getD}
+use lib.ListN.{getD, take, drop}
 use Rattle.record.specs.Options.{optionOn}
 use Rattle.record.specs.Bytes.{u32At}
 use Rattle.record.specs.Event.{documentOf, eventAt}
 use Rattle.record.specs.declared.event.Event.{Event}
 use Rattle.record.proofs.Parts.{document-byte}
-use Rattle.runs.specs.Runs.{isMarker, byteAt, byteBefore, innermostOf, runOf}
+use Rattle.unicode.specs.Beside.{Character, standIn, neighbourBefore, neighbourAfter}
+use Rattle.classes.specs.Lent.{lacks}
+use Rattle.classes.proofs.Codes.{lacked}
+use Rattle.runs.specs.Runs.{isMarker, innermostOf, runOf}
 use Rattle.runs.specs.Flanking.{canOpen, canClose}
 use Rattle.runs.specs.Rule.{Profile}
 use Rattle.runs.specs.Chains.{containerNumber, markerNumber, chainNumber}
 use Rattle.runs.specs.Pieces.{standing}
-use Rattle.runs.proofs.Firsts.{orFeed, feed-opens, feed-closes}
+use Rattle.runs.proofs.Firsts.{stand-opens, stand-closes}
 use Rattle.loading.specs.Held.{Slotted}
-use Rattle.loading.specs.Filling.{Filled, Settling, Settled}
+use Rattle.loading.specs.Filling.{Filled, Settling, Settled, SettledOr}
+
+-- the neighbours in the document where it stands in the record
+module _ (s : List ℕ) (d at : ℕ) where
+  part-is : take (4 + d - 4) (drop 4 s) ≡ documentOf s d
+  unfolding documentOf
+  part-is =
+      let e : 4 + d - 4 ≡ d = omega arith in
+      rw e
+
+  pub before-in : standIn (neighbourBefore (take (4 + d - 4) (drop 4 s)) at) ≡ standIn (neighbourBefore (documentOf s d) at)
+  before-in = ap (λ (doc : List ℕ). standIn (neighbourBefore doc at)) part-is
+
+  pub after-in : standIn (neighbourAfter (take (4 + d - 4) (drop 4 s)) at) ≡ standIn (neighbourAfter (documentOf s d) at)
+  after-in = ap (λ (doc : List ℕ). standIn (neighbourAfter doc at)) part-is
 
 -- what the code reads and works out at the event's place
 pub record Found (profile : Profile) (s : List ℕ) (d options at container from to marker before after : ℕ) (opens closes : Bool) (chain : ℕ) : Type 0 where
   pub place : from ≡ u32At s (at + 4)
   pub end : to ≡ u32At s (at + 12)
   pub byte : marker ≡ getD s (4 + from) 0
-  pub byte-before : before ≡ orFeed (byteBefore (documentOf s d) from)
-  pub byte-after : after ≡ orFeed (byteAt (documentOf s d) to)
-  pub can-open : opens ≡ canOpen (profile .amended) (optionOn options 2) marker (some before) (some after)
-  pub can-close : closes ≡ canClose (profile .amended) (optionOn options 2) marker (some before) (some after)
+  pub stands-before : before ≡ standIn (neighbourBefore (documentOf s d) from)
+  pub stands-after : after ≡ standIn (neighbourAfter (documentOf s d) to)
+  pub can-open : opens ≡ canOpen (profile .amended) (optionOn options 2) marker (Character before) (Character after)
+  pub can-close : closes ≡ canClose (profile .amended) (optionOn options 2) marker (Character before) (Character after)
   pub number : chain ≡ 3 * container + markerNumber marker
   pub known : chain < 6147
 
@@ -49,15 +65,17 @@ module _ {profile : Profile} {s : List ℕ} {d options at container n from to ma
       let c : u32At s (at + 12) ≤ d = p .inside in
       v .byte ∙ sym (document-byte s d from (omega arith))
 
-  flags-open : opens ≡ canOpen (profile .amended) (optionOn options 2) marker (byteBefore (documentOf s d) from) (byteAt (documentOf s d) to)
+  flags-open : opens ≡ canOpen (profile .amended) (optionOn options 2) marker (neighbourBefore (documentOf s d) from) (neighbourAfter (documentOf s d) to)
   flags-open =
       v .can-open
-      ∙ rw (v .byte-before, v .byte-after) (sym (feed-opens (profile .amended) (optionOn options 2) marker (byteBefore (documentOf s d) from) (byteAt (documentOf s d) to)))
+      ∙ rw (v .stands-before, v .stands-after)
+      (sym (stand-opens (profile .amended) (optionOn options 2) marker (neighbourBefore (documentOf s d) from) (neighbourAfter (documentOf s d) to)))
 
-  flags-close : closes ≡ canClose (profile .amended) (optionOn options 2) marker (byteBefore (documentOf s d) from) (byteAt (documentOf s d) to)
+  flags-close : closes ≡ canClose (profile .amended) (optionOn options 2) marker (neighbourBefore (documentOf s d) from) (neighbourAfter (documentOf s d) to)
   flags-close =
       v .can-close
-      ∙ rw (v .byte-before, v .byte-after) (sym (feed-closes (profile .amended) (optionOn options 2) marker (byteBefore (documentOf s d) from) (byteAt (documentOf s d) to)))
+      ∙ rw (v .stands-before, v .stands-after)
+      (sym (stand-closes (profile .amended) (optionOn options 2) marker (neighbourBefore (documentOf s d) from) (neighbourAfter (documentOf s d) to)))
 
   own : (es : List Event) (i : ℕ) (held : List ℕ) → containerNumber (innermostOf held) ≡ container →
       isMarker (getD (documentOf s d) (u32At s (at + 4)) 0) ≡ true →
@@ -80,3 +98,10 @@ module _ {profile : Profile} {s : List ℕ} {d options at container n from to ma
 
   pub settled : Settled profile s d options at container w n w′
   settled = record { own = own; kept = f .kept }
+
+-- what is lacking is not settled, for want of the ranges; what is not lacking is
+pub not-settled : (marks : List ℕ) (c : ℕ) (Done : Type 0) → lacks marks c ≡ true → SettledOr marks false Done
+not-settled marks c Done e = record { done = λ z. absurd (true≢false (sym z)); undone = λ _. lacked marks c e }
+
+pub now-settled : (marks : List ℕ) (Done : Type 0) → Done → SettledOr marks true Done
+now-settled marks Done d = record { done = λ _. d; undone = λ z. absurd (true≢false z) }

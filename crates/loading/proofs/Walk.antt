@@ -1,6 +1,6 @@
 -- The pass with its stack of numbers and its memory: where it stands, and what each turn makes of that.
 -- Assumes nothing.
-use mathlib.Core.Path.{_≡_, refl, sym, ap, _∙_}
+use mathlib.Core.Path.{_≡_, refl, sym, ap, subst, _∙_}
 use mathlib.Core.Bool.{Bool, true, false}
 use mathlib.Core.List.{List, [], _∷_, _++_, map}
 use mathlib.Core.Option.{some}
@@ -26,8 +26,10 @@ use Rattle.runs.specs.Pieces.{standing}
 use Rattle.slots.specs.Layout.{Room}
 use Rattle.loading.specs.Held.{Slotted, Holds}
 use Rattle.loading.specs.Filling.{Keeps, Settling, Settled}
-use Rattle.loading.specs.Promise.{Ready, Loads}
+use Rattle.loading.specs.Promise.{Ready, Loads, Passes}
+use Rattle.loading.specs.declared.pass.Loaded.{Loaded}
 use Rattle.loading.specs.declared.pass.Loaded.the-variants.{Runs, Offends}
+use Rattle.loading.specs.declared.pass.Pass.the-variants.{Done, Wide}
 use Rattle.loading.proofs.Steps.{Reached, Shape, enters, no-enter, other-enter, none-left, all-found, standing-here, passed, followed, next-inside, offends, run-entered, next-alone, shape-tells}
 
 -- one run more at the end of a list
@@ -332,3 +334,32 @@ module _ {profile : Profile} {s : List ℕ} {d e options : ℕ} {w₀ w numbers 
             rw z at r;
         same-length = v .same-length;
       }
+
+-- a pass that is done, and one that lacks the ranges
+pub pass-done : {profile : Profile} {marks s : List ℕ} {d e options : ℕ} {w : List ℕ} {l : Loaded} {w′ : List ℕ} → Loads profile s d e options w l w′ →
+    Passes profile marks s d e options w (Done l) w′
+pass-done {profile} {marks} {s} {d} {e} {options} {w} {l} {w′} p =
+    record {
+      done = λ k q. subst (λ (x : Loaded). Loads profile s d e options w x w′) (same-done l k q) p;
+      undone = λ q. absurd (not-wide l q);
+    }
+  where
+    same-done : (x y : Loaded) → Done x ≡ Done y → x ≡ y
+    same-done x y q = cc
+
+    not-wide : (x : Loaded) → Done x ≡ Wide → ⊥
+    not-wide x q =
+        let z : _≡_ {A = ℕ} 0 1 = cc in
+        omega arith
+
+pub pass-wide : {profile : Profile} {marks s : List ℕ} {d e options : ℕ} {w w′ : List ℕ} → length marks ≡ 0 → Passes profile marks s d e options w Wide w′
+pass-wide n =
+    record {
+      done = λ k q. absurd (wide-not k q);
+      undone = λ _. n;
+    }
+  where
+    wide-not : (x : Loaded) → Wide ≡ Done x → ⊥
+    wide-not x q =
+        let z : _≡_ {A = ℕ} 0 1 = cc in
+        omega arith

@@ -56,3 +56,8 @@ pub record Settled (profile : Profile) (s : List ℕ) (d options at container : 
       isMarker (getD (documentOf s d) (u32At s (at + 4)) 0) ≡ true →
       Slotted w′ n (standing profile options (runOf (documentOf s d) (eventAt s at) (eventAt s (at + 8) ∷ es) i held))
   pub kept : Keeps w n w′
+
+-- either that is done, or it is not, for want of the ranges
+pub record SettledOr (marks : List ℕ) (r : Bool) (Done : Type 0) : Type 0 where
+  pub done : r ≡ true → Done
+  pub undone : r ≡ false → length marks ≡ 0

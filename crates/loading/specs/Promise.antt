@@ -13,6 +13,8 @@ use Rattle.runs.specs.Rule.{Profile}
 use Rattle.runs.specs.Pieces.{standing}
 use Rattle.loading.specs.declared.pass.Loaded.{Loaded}
 use Rattle.loading.specs.declared.pass.Loaded.the-variants.{Runs, Offends}
+use Rattle.loading.specs.declared.pass.Pass.{Pass}
+use Rattle.loading.specs.declared.pass.Pass.the-variants.{Done, Wide}
 use Rattle.loading.specs.Held.{Holds}
 
 -- no run breaks the shape rule, and the first n slots hold the runs, flanking as a profile has it
@@ -27,6 +29,11 @@ pub record Loads (profile : Profile) (s : List ℕ) (d e options : ℕ) (w : Lis
   pub offends : (k : ℕ) → r ≡ Offends k → offender (documentOf s d) options (eventsOf s d e) ≡ some k
   pub runs : (n : ℕ) → r ≡ Runs n → Ready profile (documentOf s d) (eventsOf s d e) options n w′
   pub same-length : length w′ ≡ length w
+
+-- of a pass that may have no ranges: where it is done it has loaded, and where it is not it has none
+pub record Passes (profile : Profile) (marks s : List ℕ) (d e options : ℕ) (w : List ℕ) (r : Pass) (w′ : List ℕ) : Type 0 where
+  pub done : (l : Loaded) → r ≡ Done l → Loads profile s d e options w l w′
+  pub undone : r ≡ Wide → length marks ≡ 0
 
 -- the answer is fixed: any two that the promise allows are equal
 pub one-answer : (profile : Profile) (s : List ℕ) (d e options : ℕ) (w w′ w″ : List ℕ) (r q : Loaded) → Loads profile s d e options w r w′ →

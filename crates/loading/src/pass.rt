@@ -4,19 +4,28 @@
 
 use super::shape::shaped_at;
 use super::slot::settle;
+use classes::ascii_classes;
 use record::limits::ATTENTION_SEQUENCE;
 use record::limits::ENTER;
+use unicode::ranges::punctuation;
 ghost use mathlib.Core.Path.{_≡_};
 ghost use lib.ListN.{length};
 ghost use Rattle.record.specs.Good.{GoodRecord};
+ghost use Rattle.classes.specs.Lent.{AsciiTable, Lent};
 ghost use Rattle.runs.specs.Rule.{crate};
 ghost use Rattle.slots.specs.Layout.{Room};
-ghost use Rattle.loading.specs.Promise.{Loads};
+ghost use Rattle.loading.specs.Promise.{Loads, Passes};
 
 // How many runs the slots hold, or the number of the enter event of the first run whose shape is broken.
 pub enum Loaded {
     Runs(usize),
     Offends(usize),
+}
+
+// The same of a pass that has no ranges, or that one of the neighbours is past ASCII.
+pub enum Pass {
+    Done(Loaded),
+    Wide,
 }
 
 // The enter events that are open, by number, beside a depth.
@@ -35,10 +44,19 @@ fn outside() -> Inside
     }
 }
 
-// Puts the runs of the record into the slots of work memory, or names the first that is no run. Heads of chains are not touched.
-pub fn load(s: &[u8], d: usize, e: usize, options: u32, w: &mut [u8]) -> Loaded
-    requires { ⌜ GoodRecord (now s) d e × Room (now w) ⌝ }
-    ensures { λ r. ⌜ Loads crate (now (s .entry)) d e options (now (w .entry)) r (now (w .exit)) ⌝ }
+// Puts the runs of the record into the slots of work memory, or names the first that is no run, by the two tables that are lent; without the ranges it stops at
+// the first neighbour past ASCII. Heads of chains are not touched.
+fn load_by(
+    ascii: &[u8],
+    marks: &[u32],
+    s: &[u8],
+    d: usize,
+    e: usize,
+    options: u32,
+    w: &mut [u8],
+) -> Pass
+    requires { ⌜ Lent (now ascii) (now marks) × GoodRecord (now s) d e × Room (now w) ⌝ }
+    ensures { λ r. ⌜ Passes crate (now (marks .entry)) (now (s .entry)) d e options (now (w .entry)) r (now (w .exit)) ⌝ }
 {
     let mut inside = outside();
     let mut i = 0;
@@ -58,15 +76,42 @@ pub fn load(s: &[u8], d: usize, e: usize, options: u32, w: &mut [u8]) -> Loaded
             continue;
         }
         if !shaped_at(s, d, options, at) {
-            return Loaded::Offends(i);
+            return Pass::Done(Loaded::Offends(i));
         }
         let mut container = 0;
         if depth > 0 {
             container = inside.numbers[depth - 1] + 1;
         }
-        settle(s, d, options, at, container, w, n);
+        if !settle(ascii, marks, s, d, options, at, container, w, n) {
+            return Pass::Wide;
+        }
         n += 1;
         i += 2;
     }
-    Loaded::Runs(n)
+    Pass::Done(Loaded::Runs(n))
+}
+
+// The same with the ranges, which are made here.
+fn load_wide(ascii: &[u8], s: &[u8], d: usize, e: usize, options: u32, w: &mut [u8]) -> Loaded
+    requires { ⌜ AsciiTable (now ascii) × GoodRecord (now s) d e × Room (now w) ⌝ }
+    ensures { λ r. ⌜ Loads crate (now (s .entry)) d e options (now (w .entry)) r (now (w .exit)) ⌝ }
+{
+    let marks = punctuation();
+    match load_by(ascii, &marks, s, d, e, options, w) {
+        Pass::Done(loaded) => loaded,
+        Pass::Wide => Loaded::Runs(0),
+    }
+}
+
+// The same in any case. A pass without the ranges comes first: most messages need none, and to lay them out costs more than to load a chat line.
+pub fn load(s: &[u8], d: usize, e: usize, options: u32, w: &mut [u8]) -> Loaded
+    requires { ⌜ GoodRecord (now s) d e × Room (now w) ⌝ }
+    ensures { λ r. ⌜ Loads crate (now (s .entry)) d e options (now (w .entry)) r (now (w .exit)) ⌝ }
+{
+    let ascii = ascii_classes();
+    let none = [0u32; 1];
+    match load_by(&ascii, &none[..0], s, d, e, options, w) {
+        Pass::Done(loaded) => loaded,
+        Pass::Wide => load_wide(&ascii, s, d, e, options, w),
+    }
 }

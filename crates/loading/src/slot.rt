@@ -4,6 +4,7 @@
 // resolver's to clear.
 
 use super::shape::option_on;
+use classes::lacks;
 use record::bytes::u32_at;
 use record::limits::OPTION_STRIKETHROUGH;
 use runs::flanking;
@@ -16,16 +17,16 @@ use slots::layout::put_link;
 use slots::layout::put_marker;
 use slots::layout::put_opens;
 use slots::layout::put_whole;
+use unicode::beside::neighbour_after;
+use unicode::beside::neighbour_before;
 ghost use mathlib.Core.Path.{_≡_};
 ghost use Prim.Native.Nat.{_+_, _*_, _≤_, _<_};
 ghost use lib.ListN.{length};
-ghost use Rattle.record.specs.Event.{documentOf};
-ghost use Rattle.runs.specs.Runs.{byteAt, byteBefore};
+ghost use Rattle.classes.specs.Lent.{Lent};
 ghost use Rattle.runs.specs.Rule.{crate};
 ghost use Rattle.runs.specs.Chains.{markerNumber};
-ghost use Rattle.runs.proofs.Firsts.{orFeed};
 ghost use Rattle.slots.specs.Layout.{Room, withOpens, withCloses, withChain, withFirstGroup, withLatestGroup, withLink};
-ghost use Rattle.loading.specs.Filling.{bit, Filled, Settling, Settled};
+ghost use Rattle.loading.specs.Filling.{bit, Filled, Settling, Settled, SettledOr};
 
 // A flag as a byte.
 fn flag(on: bool) -> u8
@@ -35,28 +36,6 @@ fn flag(on: bool) -> u8
         return 1;
     }
     0
-}
-
-// The byte before a place of the document; a line feed at its beginning.
-fn byte_before(s: &[u8], d: usize, place: usize) -> u8
-    requires { ⌜ (place ≤ d) × (4 + d ≤ length (now s)) ⌝ }
-    ensures { λ r. ⌜ r ≡ orFeed (byteBefore (documentOf (now (s .entry)) d) place) ⌝ }
-{
-    if place == 0 {
-        return 10;
-    }
-    s[3 + place]
-}
-
-// The byte at a place of the document; a line feed at its end.
-fn byte_after(s: &[u8], d: usize, place: usize) -> u8
-    requires { ⌜ 4 + d ≤ length (now s) ⌝ }
-    ensures { λ r. ⌜ r ≡ orFeed (byteAt (documentOf (now (s .entry)) d) place) ⌝ }
-{
-    if place >= d {
-        return 10;
-    }
-    s[4 + place]
 }
 
 // The number of the chain of a marker and a container, the latter as a number: that of its enter event plus 1, or 0 for none.
@@ -105,18 +84,37 @@ fn fill(w: &mut [u8], n: usize, size: usize, marker: u8, opens: bool, closes: bo
     put_fresh(w, n, chain);
 }
 
-// Puts the run that the event at a place of the record enters, and the next one leaves, into the slot n.
-pub fn settle(s: &[u8], d: usize, options: u32, at: usize, container: usize, w: &mut [u8], n: usize)
-    requires { ⌜ Settling (now s) d at container (now w) n ⌝ }
-    ensures { λ _. ⌜ Settled crate (now (s .entry)) d options at container (now (w .entry)) n (now (w .exit)) ⌝ }
+// Puts the run that the event at a place of the record enters, and the next one leaves, into the slot n, and says that it did. The two tables are lent for the
+// classes of its neighbours; where the ranges are not, and one of these is past ASCII, nothing is done.
+pub fn settle(
+    ascii: &[u8],
+    marks: &[u32],
+    s: &[u8],
+    d: usize,
+    options: u32,
+    at: usize,
+    container: usize,
+    w: &mut [u8],
+    n: usize,
+) -> bool
+    requires { ⌜ Lent (now ascii) (now marks) × Settling (now s) d at container (now w) n ⌝ }
+    ensures { λ r. ⌜ SettledOr (now (marks .entry)) r (Settled crate (now (s .entry)) d options at container (now (w .entry)) n (now (w .exit))) ⌝ }
 {
     let from = u32_at(s, at + 4);
     let to = u32_at(s, at + 12);
     let marker = s[4 + from];
-    let before = byte_before(s, d, from);
-    let after = byte_after(s, d, to);
+    let end = 4 + d;
+    let left = neighbour_before(&s[4..end], from);
+    let right = neighbour_after(&s[4..end], to);
+    if lacks(marks, left) {
+        return false;
+    }
+    if lacks(marks, right) {
+        return false;
+    }
     let strike = option_on(options, OPTION_STRIKETHROUGH);
-    let can = flanking(strike, marker, before, after);
+    let can = flanking(ascii, marks, strike, marker, left, right);
     let chain = chain_number(container, marker);
     fill(w, n, to - from, marker, can.opens, can.closes, chain);
+    true
 }

@@ -10,7 +10,7 @@ use Rattle.record.specs.Stack.{fitsOpen, after}
 use Rattle.record.specs.Sound.{placed, soundFrom}
 use Rattle.runs.specs.Texts.{bytes}
 use Rattle.runs.specs.Cases.{stretchOf, nameOf, splitFrom, split}
-use Rattle.runs.specs.Runs.{byteAt, byteBefore, entersRun, runsFrom, runsOf, isMarker, allowed, leftAtOnce, allAre, runBetween, shaped, offenderFrom, offender}
+use Rattle.runs.specs.Runs.{byteAt, entersRun, runsFrom, runsOf, isMarker, allowed, leftAtOnce, allAre, runBetween, shaped, offenderFrom, offender}
 use Rattle.runs.specs.Plain.{Group, group}
 use Rattle.runs.specs.Pieces.{Piece, groupName, closings, openings, closed, opened, remains}
 use Rattle.output.specs.Accepted.{Accepted}
@@ -26,17 +26,17 @@ piecesIn s gs = shown (allPieces gs 0 (runsOf (bytes s) (split (bytes s))))
 
 -- "`**a*` leftover at 0, emphasis 1"
 pub left-at-first : piecesIn "**a*" (group 0 1 1 ∷ []) ≡ (0 ∷ 0 ∷ 1 ∷ []) ∷ (2 ∷ 1 ∷ 2 ∷ []) ∷ (2 ∷ 3 ∷ 4 ∷ []) ∷ []
-unfolding piecesIn shown bytes split splitFrom stretchOf nameOf choose and after byteAt byteBefore entersRun runsFrom runsOf isMarker groupName closings openings closed opened remains leftoverPiece piecesOf allPieces
+unfolding piecesIn shown bytes split splitFrom stretchOf nameOf choose and after byteAt entersRun runsFrom runsOf isMarker groupName closings openings closed opened remains leftoverPiece piecesOf allPieces
 left-at-first = refl
 
 -- "`***a***` strong inside emphasis": the opener's last bytes and the closer's first went into the first group
 pub inside : piecesIn "***a***" (group 0 1 2 ∷ group 0 1 1 ∷ []) ≡ (2 ∷ 0 ∷ 1 ∷ []) ∷ (5 ∷ 1 ∷ 3 ∷ []) ∷ (5 ∷ 4 ∷ 6 ∷ []) ∷ (2 ∷ 6 ∷ 7 ∷ []) ∷ []
-unfolding piecesIn shown bytes split splitFrom stretchOf nameOf choose and after byteAt byteBefore entersRun runsFrom runsOf isMarker groupName closings openings closed opened remains leftoverPiece piecesOf allPieces
+unfolding piecesIn shown bytes split splitFrom stretchOf nameOf choose and after byteAt entersRun runsFrom runsOf isMarker groupName closings openings closed opened remains leftoverPiece piecesOf allPieces
 inside = refl
 
 -- a run that closes a group and opens the next has a leftover between
 pub both-jobs : piecesIn "*a****b*" (group 0 1 1 ∷ group 1 2 1 ∷ []) ≡ (2 ∷ 0 ∷ 1 ∷ []) ∷ (2 ∷ 2 ∷ 3 ∷ []) ∷ (0 ∷ 3 ∷ 5 ∷ []) ∷ (2 ∷ 5 ∷ 6 ∷ []) ∷ (2 ∷ 7 ∷ 8 ∷ []) ∷ []
-unfolding piecesIn shown bytes split splitFrom stretchOf nameOf choose and after byteAt byteBefore entersRun runsFrom runsOf isMarker groupName closings openings closed opened remains leftoverPiece piecesOf allPieces
+unfolding piecesIn shown bytes split splitFrom stretchOf nameOf choose and after byteAt entersRun runsFrom runsOf isMarker groupName closings openings closed opened remains leftoverPiece piecesOf allPieces
 both-jobs = refl
 
 -- there are accepted records

@@ -3,14 +3,14 @@
 use Prim.Native.Nat.{ℕ, _+_, _%_}
 use mathlib.Core.Path.{_≡_, refl, sym, ap, _∙_}
 use mathlib.Core.Bool.{Bool, true, false, not, _&&_, _||_, true≢false}
-use mathlib.Core.Option.{Option, none, some}
 use native.Mathlib.Omega.{arith}
 use lib.Dec.{eqb}
 use Rattle.record.specs.Options.{optionOn}
 use borrow.Author.Tests.{eqb-true, eqb-false}
-use Rattle.classes.specs.Class.{classOf, standardClass, amended, whitespace, punctuation}
+use Rattle.classes.specs.Class.{classOf, standardClass, asciiClass, amended, whitespace, punctuation}
 use Rattle.classes.specs.declared.Class.{Class}
 use Rattle.classes.specs.declared.Class.the-variants.{Other, Whitespace, Punctuation}
+use Rattle.unicode.specs.Beside.{Neighbour, Edge, Character, Malformed}
 use Rattle.runs.specs.Flanking.{isWhitespace, isPunctuation, classBeside, besideMarker, leftFlanking, rightFlanking, flanksLeft, flanksRight, canOpen, canClose}
 use Rattle.runs.specs.Rule.{threes, tildes, ruleOver}
 use Rattle.runs.specs.Paragraph.{isOther, firstOpen, firstClose, opens, closes, skips, OpenAsWritten, CloseAsWritten, TakenAsWritten}
@@ -35,7 +35,7 @@ preceded first false Other h = refl
 preceded first false Whitespace h = refl
 preceded first false Punctuation h = refl
 
--- a whitespace byte is no byte that isn't one
+-- a whitespace character is none that isn't one
 another : (b x : ℕ) → classOf b ≡ Whitespace → isWhitespace (classOf x) ≡ false → eqb b x ≡ false
 another b x h f = go (eqb b x) refl
   where
@@ -50,23 +50,24 @@ never true = refl
 never false = refl
 
 -- a marker is punctuation, so what is whitespace is no marker
-blank-unmarked : (strike : Bool) (marker : ℕ) (n : Option ℕ) → classBeside n ≡ Whitespace → besideMarker strike marker n ≡ false
-unfolding besideMarker classBeside classOf standardClass amended whitespace punctuation
-blank-unmarked strike marker none h = refl
-blank-unmarked strike marker (some b) h =
-    rw (another b 42 h refl, another b 95 h refl, another b 126 h refl) (never (not (eqb marker 126)))
+blank-unmarked : (strike : Bool) (marker : ℕ) (n : Neighbour) → classBeside n ≡ Whitespace → besideMarker strike marker n ≡ false
+unfolding besideMarker classBeside classOf standardClass asciiClass amended whitespace punctuation
+blank-unmarked strike marker Edge h = refl
+blank-unmarked strike marker (Character c) h =
+    rw (another c 42 h refl, another c 95 h refl, another c 126 h refl) (never (not (eqb marker 126)))
+blank-unmarked strike marker Malformed h = refl
 
 -- where whitespace stands before, the first results say that the run can't close
-pub blank-shut : (strike : Bool) (marker : ℕ) (before after : Option ℕ) → classBeside before ≡ Whitespace → firstClose strike marker before after ≡ false
+pub blank-shut : (strike : Bool) (marker : ℕ) (before after : Neighbour) → classBeside before ≡ Whitespace → firstClose strike marker before after ≡ false
 unfolding firstOpen
 blank-shut strike marker before after h = rw (h, blank-unmarked strike marker before h)
 
 -- left-flanking with the amendment is the paper's first result for opening, and right-flanking its first result for closing
-left-first : (strike : Bool) (marker : ℕ) (before after : Option ℕ) → flanksLeft true strike marker before after ≡ firstOpen strike marker before after
+left-first : (strike : Bool) (marker : ℕ) (before after : Neighbour) → flanksLeft true strike marker before after ≡ firstOpen strike marker before after
 unfolding flanksLeft firstOpen
 left-first strike marker before after = flanks-first (classBeside before) (classBeside after) (besideMarker strike marker after)
 
-right-first : (strike : Bool) (marker : ℕ) (before after : Option ℕ) → flanksRight true strike marker before after ≡ firstClose strike marker before after
+right-first : (strike : Bool) (marker : ℕ) (before after : Neighbour) → flanksRight true strike marker before after ≡ firstClose strike marker before after
 unfolding flanksRight firstOpen leftFlanking rightFlanking
 right-first strike marker before after = flanks-first (classBeside after) (classBeside before) (besideMarker strike marker before)
 

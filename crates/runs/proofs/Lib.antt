@@ -2,3 +2,4 @@ pub mod AsWritten
 pub mod Marks
 pub mod OneChain
 pub mod Firsts
+pub mod MarkerBytes

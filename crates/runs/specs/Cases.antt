@@ -14,9 +14,13 @@ use Rattle.record.specs.Options.{optionOn}
 use Rattle.record.specs.Event.{enter, exit, flat, sectionBytes}
 use Rattle.record.specs.Stack.{after}
 use Rattle.record.specs.declared.event.Event.{Event}
-use Rattle.classes.specs.Class.{classOf, standardClass, amended, whitespace, punctuation}
-use Rattle.runs.specs.Texts.{bytes}
-use Rattle.runs.specs.Runs.{Run, byteAt, byteBefore, standardBefore, entersRun, runsFrom, runsOf, isMarker, allowed, leftAtOnce, allAre, runBetween, shaped, offenderFrom, offender}
+use Rattle.unicode.specs.Ranges.{member}
+use Rattle.unicode.specs.Tables.{punctuationRanges, spaceRanges}
+use Rattle.unicode.specs.Utf8.{utf8, wellFormedRows, fits, fitsOne, wellFormed, valueOf, characterOf}
+use Rattle.unicode.specs.Beside.{characterFrom, characterUpTo, neighbourBefore, neighbourAfter}
+use Rattle.classes.specs.Class.{classOf, standardClass, asciiClass, wideClass, amended, whitespace, punctuation}
+use Rattle.runs.specs.Texts.{bytes, wideBytes}
+use Rattle.runs.specs.Runs.{Run, byteAt, standardBefore, entersRun, runsFrom, runsOf, isMarker, allowed, leftAtOnce, allAre, runBetween, shaped, offenderFrom, offender}
 use Rattle.runs.specs.Flanking.{classBeside, leftFlanking, rightFlanking, besideMarker, flanksLeft, flanksRight, canOpen, canClose}
 use Rattle.runs.specs.Rule.{Profile, threes, tildes, ruleOver, crateRule, standardRule, crate, standard}
 use Rattle.runs.specs.Plain.{Group, group, opener, closer, sameContainer, candidate, takes, back, look, forth, amount, alter, matched, rounds, total, plain}
@@ -66,13 +70,15 @@ pub record Shown : Type 0 where
 abbrev pub shows : List Event → List ℕ → ℕ → Shown
 shows gs ls t = record { groups = gs; leftovers = ls; tried = t }
 
--- what a text comes to
-unfoldable pub shown : Profile → ℕ → String → Shown
-shown profile options s =
-    let doc = bytes s in
+-- what a text comes to, by its bytes, and between quotes
+abbrev pub shownOf : Profile → ℕ → List ℕ → Shown
+shownOf profile options doc =
     let es = split doc in
     let whole = outcome profile options doc es in
     shows (groupEvents (output profile options doc es)) (leftovers (whole .groups) 0 (runsOf doc es)) (whole .tried)
+
+unfoldable pub shown : Profile → ℕ → String → Shown
+shown profile options s = shownOf profile options (bytes s)
 
 -- a case: the text and what it shows. Document 01's twelve stand in crates/claims, where all definitions are seen alike
 pub record Row : Type 0 where
@@ -109,13 +115,40 @@ trials =
     ∷ []
 
 pub departures : map (λ (t : Trial). shown (t .profile) (t .options) (t .case .text)) trials ≡ map (λ (t : Trial). t .case .expected) trials
-unfolding trials shown bytes split splitFrom stretchOf nameOf groupEvents leftovers choose and after classOf standardClass amended whitespace punctuation optionOn byteAt byteBefore entersRun runsFrom runsOf isMarker classBeside leftFlanking rightFlanking besideMarker flanksLeft flanksRight canOpen canClose threes tildes ruleOver opener closer sameContainer candidate takes back look forth amount alter matched rounds total plain standing outcome groupName closings openings closed opened remains closingEvents openingEvents leftoverEvents runEvents replaced output
+unfolding trials shown bytes split splitFrom stretchOf nameOf groupEvents leftovers choose and after classOf standardClass asciiClass amended whitespace punctuation optionOn byteAt neighbourBefore neighbourAfter characterFrom characterUpTo characterOf wellFormed wellFormedRows fitsOne fits valueOf entersRun runsFrom runsOf isMarker classBeside leftFlanking rightFlanking besideMarker flanksLeft flanksRight canOpen canClose threes tildes ruleOver opener closer sameContainer candidate takes back look forth amount alter matched rounds total plain standing outcome groupName closings openings closed opened remains closingEvents openingEvents leftoverEvents runEvents replaced output
 departures = refl
+
+-- quotation marks, dashes and spaces past ASCII: « and —, which are punctuation, stand before a `_` that opens; a `*` in a word does not open against «, nor one
+-- before a no-break space, which is whitespace; 「 and 」 stand round a group
+unfoldable pub wideTrials : List Trial
+wideTrials =
+    trial crate 59 (row "«_a_»" (enter 2 2 ∷ exit 2 5 ∷ []) [] 1)
+    ∷ trial crate 59 (row "—_a_—" (enter 2 3 ∷ exit 2 6 ∷ []) [] 1)
+    ∷ trial crate 59 (row "a*«b»*c" [] (1 ∷ 7 ∷ []) 0)
+    ∷ trial crate 59 (row "*\u{a0}a*" [] (0 ∷ 4 ∷ []) 0)
+    ∷ trial crate 59 (row "「_a_」" (enter 2 3 ∷ exit 2 6 ∷ []) [] 1)
+    ∷ []
+
+pub wide : map (λ (t : Trial). shownOf (t .profile) (t .options) (wideBytes (t .case .text))) wideTrials ≡ map (λ (t : Trial). t .case .expected) wideTrials
+unfolding wideTrials wideBytes utf8 split splitFrom stretchOf nameOf groupEvents leftovers choose and after classOf standardClass asciiClass wideClass member spaceRanges punctuationRanges amended whitespace punctuation optionOn byteAt neighbourBefore neighbourAfter characterFrom characterUpTo characterOf wellFormed wellFormedRows fitsOne fits valueOf entersRun runsFrom runsOf isMarker classBeside leftFlanking rightFlanking besideMarker flanksLeft flanksRight canOpen canClose threes tildes ruleOver opener closer sameContainer candidate takes back look forth amount alter matched rounds total plain standing outcome groupName closings openings closed opened remains closingEvents openingEvents leftoverEvents runEvents replaced output
+wide = refl
+
+-- by bytes: `_a_` behind an emoji, behind U+FFFD and behind `C2 C2 A0`, a no-break space, is a group; behind or before a cut form it is none, as in a word
+pub beside-bytes : map (λ (doc : List ℕ). shownOf crate 59 doc .groups)
+    ((240 ∷ 159 ∷ 152 ∷ 128 ∷ 95 ∷ 97 ∷ 95 ∷ [])
+    ∷ (239 ∷ 191 ∷ 189 ∷ 95 ∷ 97 ∷ 95 ∷ [])
+    ∷ (194 ∷ 194 ∷ 160 ∷ 95 ∷ 97 ∷ 95 ∷ [])
+    ∷ (194 ∷ 95 ∷ 97 ∷ 95 ∷ [])
+    ∷ (95 ∷ 97 ∷ 95 ∷ 194 ∷ [])
+    ∷ [])
+    ≡ (enter 2 4 ∷ exit 2 7 ∷ []) ∷ (enter 2 3 ∷ exit 2 6 ∷ []) ∷ (enter 2 3 ∷ exit 2 6 ∷ []) ∷ [] ∷ [] ∷ []
+unfolding split splitFrom stretchOf nameOf groupEvents leftovers choose and after classOf standardClass asciiClass wideClass member spaceRanges punctuationRanges amended whitespace punctuation optionOn byteAt neighbourBefore neighbourAfter characterFrom characterUpTo characterOf wellFormed wellFormedRows fitsOne fits valueOf entersRun runsFrom runsOf isMarker classBeside leftFlanking rightFlanking besideMarker flanksLeft flanksRight canOpen canClose threes tildes ruleOver opener closer sameContainer candidate takes back look forth amount alter matched rounds total plain standing outcome groupName closings openings closed opened remains closingEvents openingEvents leftoverEvents runEvents replaced output
+beside-bytes = refl
 
 -- and the events that come out are as many as the formula says
 pub sizes : map (λ (t : Trial). resultSize (t .profile) (t .options) (bytes (t .case .text)) (split (bytes (t .case .text)))) trials
     ≡ map (λ (t : Trial). length (output (t .profile) (t .options) (bytes (t .case .text)) (split (bytes (t .case .text))))) trials
-unfolding trials emptied resultSize bytes split splitFrom stretchOf nameOf groupEvents leftovers choose and after classOf standardClass amended whitespace punctuation optionOn byteAt byteBefore entersRun runsFrom runsOf isMarker classBeside leftFlanking rightFlanking besideMarker flanksLeft flanksRight canOpen canClose threes tildes ruleOver opener closer sameContainer candidate takes back look forth amount alter matched rounds total plain standing outcome groupName closings openings closed opened remains closingEvents openingEvents leftoverEvents runEvents replaced output
+unfolding trials emptied resultSize bytes split splitFrom stretchOf nameOf groupEvents leftovers choose and after classOf standardClass asciiClass amended whitespace punctuation optionOn byteAt neighbourBefore neighbourAfter characterFrom characterUpTo characterOf wellFormed wellFormedRows fitsOne fits valueOf entersRun runsFrom runsOf isMarker classBeside leftFlanking rightFlanking besideMarker flanksLeft flanksRight canOpen canClose threes tildes ruleOver opener closer sameContainer candidate takes back look forth amount alter matched rounds total plain standing outcome groupName closings openings closed opened remains closingEvents openingEvents leftoverEvents runEvents replaced output
 sizes = refl
 
 -- "Whole case (+ enter, - exit): `*a*` with events +1@0, -1@1, +0@1, -0@2, +1@2, -1@3 gives 10 events", byte by byte: those events, and the
@@ -137,7 +170,7 @@ pub wholeSection : sectionBytes (output crate 59 (bytes "*a*") (split (bytes "*a
     ∷ 1 ∷ 3 ∷ 0 ∷ 0 ∷ 3 ∷ 0 ∷ 0 ∷ 0
     ∷ 1 ∷ 2 ∷ 0 ∷ 0 ∷ 3 ∷ 0 ∷ 0 ∷ 0
     ∷ []
-unfolding flat sectionBytes bytes split splitFrom stretchOf nameOf choose and after classOf standardClass amended whitespace punctuation optionOn byteAt byteBefore entersRun runsFrom runsOf isMarker classBeside leftFlanking rightFlanking besideMarker flanksLeft flanksRight canOpen canClose threes tildes ruleOver opener closer sameContainer candidate takes back look forth amount alter matched rounds total plain standing outcome groupName closings openings closed opened remains closingEvents openingEvents leftoverEvents runEvents replaced output
+unfolding flat sectionBytes bytes split splitFrom stretchOf nameOf choose and after classOf standardClass asciiClass amended whitespace punctuation optionOn byteAt neighbourBefore neighbourAfter characterFrom characterUpTo characterOf wellFormed wellFormedRows fitsOne fits valueOf entersRun runsFrom runsOf isMarker classBeside leftFlanking rightFlanking besideMarker flanksLeft flanksRight canOpen canClose threes tildes ruleOver opener closer sameContainer candidate takes back look forth amount alter matched rounds total plain standing outcome groupName closings openings closed opened remains closingEvents openingEvents leftoverEvents runEvents replaced output
 wholeSection = refl
 
 -- a record and the event that breaks the shape rule, if one does
@@ -174,7 +207,7 @@ offenders = refl
 -- the containers of the runs of `*[a*b]*`, where [ and ] stand for the enter, event 2, and the exit of a container
 pub contained : map (λ (r : Run). r .container)
     (runsOf (bytes "*a*b*") (enter 1 0 ∷ exit 1 1 ∷ enter 24 1 ∷ enter 1 2 ∷ exit 1 3 ∷ exit 24 4 ∷ enter 1 4 ∷ exit 1 5 ∷ [])) ≡ none ∷ some 2 ∷ none ∷ []
-unfolding bytes choose and after entersRun byteAt byteBefore runsFrom runsOf
+unfolding bytes choose and after entersRun byteAt runsFrom runsOf
 contained = refl
 
 -- a run of a line whose content begins at a place, with the neighbour before it that the standard has
@@ -205,5 +238,5 @@ on-quotes : (groupsAt 1 ">*.**" ≡ group 0 1 1 ∷ [])
     × (groupsHere "*.**" ≡ group 0 1 1 ∷ [])
     × (groupsAt 1 "\n*.**" ≡ group 0 1 1 ∷ [])
     × (groupsHere "\n*.**" ≡ group 0 1 1 ∷ [])
-unfolding groupsAt groupsHere standardBefore bytes split splitFrom stretchOf nameOf choose and after classOf standardClass amended whitespace punctuation optionOn byteAt byteBefore entersRun runsFrom runsOf isMarker classBeside leftFlanking rightFlanking besideMarker flanksLeft flanksRight canOpen canClose threes tildes ruleOver opener closer sameContainer candidate takes back look forth amount alter matched rounds total plain standing outcome
+unfolding groupsAt groupsHere standardBefore bytes split splitFrom stretchOf nameOf choose and after classOf standardClass asciiClass amended whitespace punctuation optionOn byteAt neighbourBefore neighbourAfter characterFrom characterUpTo characterOf wellFormed wellFormedRows fitsOne fits valueOf entersRun runsFrom runsOf isMarker classBeside leftFlanking rightFlanking besideMarker flanksLeft flanksRight canOpen canClose threes tildes ruleOver opener closer sameContainer candidate takes back look forth amount alter matched rounds total plain standing outcome
 on-quotes = (refl, refl, refl, refl, refl, refl)

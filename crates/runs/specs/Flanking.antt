@@ -4,12 +4,12 @@
 -- Assumes nothing.
 use Prim.Native.Nat.{ℕ}
 use mathlib.Core.Bool.{Bool, true, false, not, _&&_, _||_}
-use mathlib.Core.Option.{Option, none, some}
 use lib.Dec.{eqb}
 use Rattle.record.specs.Choice.{choose}
 use Rattle.classes.specs.Class.{classOf}
 use Rattle.classes.specs.declared.Class.{Class}
 use Rattle.classes.specs.declared.Class.the-variants.{Other, Whitespace, Punctuation}
+use Rattle.unicode.specs.Beside.{Neighbour, Edge, Character, Malformed}
 
 abbrev pub isWhitespace : Class → Bool
 isWhitespace Other = false
@@ -23,10 +23,12 @@ isPunctuation Punctuation = true
 
 -- the class of what stands beside a run: "the beginning and the end of the line count as Unicode whitespace". In document 01 they are those
 -- of the document; a line's own are its line feeds, which are whitespace too. Amendment D19: where a line begins behind the mark of a block
--- quote, that mark is what stands before a run there (`standardBefore` in specs/Runs.antt is the standard's).
-unfoldable pub classBeside : Option ℕ → Class
-classBeside none = Whitespace
-classBeside (some b) = classOf b
+-- quote, that mark is what stands before a run there (`standardBefore` in specs/Runs.antt is the standard's). "A malformed or cut UTF-8 sequence
+-- next to a run is other": the standard speaks of characters alone.
+unfoldable pub classBeside : Neighbour → Class
+classBeside Edge = Whitespace
+classBeside (Character c) = classOf c
+classBeside Malformed = Other
 
 -- "A left-flanking delimiter run is a delimiter run that is (1) not followed by Unicode whitespace, and either (2a) not followed by a Unicode
 -- punctuation character, or (2b) followed by a Unicode punctuation character and preceded by Unicode whitespace or a Unicode punctuation
@@ -44,17 +46,19 @@ rightFlanking before after =
     not (isWhitespace before)
     && (not (isPunctuation before) || (isPunctuation before && (isWhitespace after || isPunctuation after)))
 
--- Amendment D4: "the marker isn't `~` and the next byte is `*`, `_`, or (option 2) `~`". `strike` says whether option 2 is on.
-unfoldable pub besideMarker : Bool → ℕ → Option ℕ → Bool
-besideMarker strike marker none = false
-besideMarker strike marker (some b) = not (eqb marker 126) && (eqb b 42 || (eqb b 95 || (eqb b 126 && strike)))
+-- Amendment D4: "the marker isn't `~` and the next byte is `*`, `_`, or (option 2) `~`". `strike` says whether option 2 is on. Such a byte is a
+-- character by itself, and no part of another.
+unfoldable pub besideMarker : Bool → ℕ → Neighbour → Bool
+besideMarker strike marker Edge = false
+besideMarker strike marker (Character c) = not (eqb marker 126) && (eqb c 42 || (eqb c 95 || (eqb c 126 && strike)))
+besideMarker strike marker Malformed = false
 
 -- left- and right-flanking, as a profile has them: `amended` says whether amendment D4 holds
-unfoldable pub flanksLeft : Bool → Bool → ℕ → Option ℕ → Option ℕ → Bool
+unfoldable pub flanksLeft : Bool → Bool → ℕ → Neighbour → Neighbour → Bool
 flanksLeft amended strike marker before after =
     leftFlanking (classBeside before) (classBeside after) || (amended && besideMarker strike marker after)
 
-unfoldable pub flanksRight : Bool → Bool → ℕ → Option ℕ → Option ℕ → Bool
+unfoldable pub flanksRight : Bool → Bool → ℕ → Neighbour → Neighbour → Bool
 flanksRight amended strike marker before after =
     rightFlanking (classBeside before) (classBeside after) || (amended && besideMarker strike marker before)
 
@@ -81,14 +85,14 @@ abbrev pub lineCloses : Bool → Bool → Class → Bool
 lineCloses left right after = right && (not left || (left && isPunctuation after))
 
 -- whether a run of this marker, between these neighbours, can open
-unfoldable pub canOpen : Bool → Bool → ℕ → Option ℕ → Option ℕ → Bool
+unfoldable pub canOpen : Bool → Bool → ℕ → Neighbour → Neighbour → Bool
 canOpen amended strike marker before after =
     let left = flanksLeft amended strike marker before after in
     let right = flanksRight amended strike marker before after in
     choose (eqb marker 95) (lineOpens left right (classBeside before)) (starOpens left right)
 
 -- whether it can close
-unfoldable pub canClose : Bool → Bool → ℕ → Option ℕ → Option ℕ → Bool
+unfoldable pub canClose : Bool → Bool → ℕ → Neighbour → Neighbour → Bool
 canClose amended strike marker before after =
     let left = flanksLeft amended strike marker before after in
     let right = flanksRight amended strike marker before after in

@@ -10,6 +10,7 @@ use lib.Dec.{eqb}
 use Rattle.record.specs.Choice.{choose}
 use Rattle.record.specs.Event.{enter, exit}
 use Rattle.record.specs.declared.event.Event.{Event}
+use Rattle.unicode.specs.Beside.{Edge}
 use Rattle.runs.specs.Runs.{Run, entersRun, runsOf}
 use Rattle.runs.specs.Rule.{Profile}
 use Rattle.runs.specs.Plain.{Group}
@@ -37,7 +38,7 @@ unfoldable pub runEvents : List Group → ℕ → Run → List Event
 runEvents gs q r = closingEvents (closingPieces gs q r) ++ (leftoverEvents gs q r ++ openingEvents (openingPieces gs q r))
 
 abbrev pub noRun : Run
-noRun = record { number = 0; start = 0; size = 0; marker = 0; before = none; after = none; container = none }
+noRun = record { number = 0; start = 0; size = 0; marker = 0; before = Edge; after = Edge; container = none }
 
 -- "Other events stay": some events with each run's enter replaced by what stands for it, and its exit gone; the first run has number q
 unfoldable pub replaced : List Event → List Run → List Group → ℕ → List Event

@@ -1,6 +1,5 @@
 -- The runs of a record, and the shape that they must have. Document 01, section "Attention", its first paragraph and "Container".
--- A number that may be missing is an Option: a neighbour at the document's edge, the container of a run that stands in none, the offender of
--- a record that has none.
+-- A number that may be missing is an Option: the container of a run that stands in none, the offender of a record that has none.
 -- Assumes nothing.
 use Prim.Native.Nat.{ℕ, zero, suc, _+_, _-_}
 use mathlib.Core.Bool.{Bool, true, false, not, _||_}
@@ -12,31 +11,28 @@ use Rattle.record.specs.Choice.{choose, and}
 use Rattle.record.specs.Options.{optionOn}
 use Rattle.record.specs.Stack.{after}
 use Rattle.record.specs.declared.event.Event.{Event}
+use Rattle.unicode.specs.Beside.{neighbourBefore, neighbourAfter}
+use Rattle.unicode.specs.Beside.{Neighbour, Edge}
 
--- a run: the number of its enter event, the place of its first byte, how many bytes it has and which byte they are, the bytes that stand
--- beside it, and the number of the innermost enter that is open there
+-- a run: the number of its enter event, the place of its first byte, how many bytes it has and which byte they are, what stands before it and after
+-- it, and the number of the innermost enter that is open there
 pub record Run : Type 0 where
   pub number : ℕ
   pub start : ℕ
   pub size : ℕ
   pub marker : ℕ
-  pub before : Option ℕ
-  pub after : Option ℕ
+  pub before : Neighbour
+  pub after : Neighbour
   pub container : Option ℕ
 
 -- the byte of a document at a place, if it has one
 unfoldable pub byteAt : List ℕ → ℕ → Option ℕ
 byteAt doc at = choose (ltb at (length doc)) (some (getD doc at 0)) none
 
--- the byte before a place. Amendment D19: it is the document's.
-unfoldable pub byteBefore : List ℕ → ℕ → Option ℕ
-byteBefore doc zero = none
-byteBefore doc (suc at) = byteAt doc at
-
--- the standard's: on a line whose content begins at `from`, behind the marks of the block quotes and items that the line stands in, nothing
--- stands before that place. What follows does not use it.
-unfoldable pub standardBefore : ℕ → List ℕ → ℕ → Option ℕ
-standardBefore from doc at = choose (eqb at from) none (byteBefore doc at)
+-- the standard's neighbour before a place: on a line whose content begins at `from`, behind the marks of the block quotes and items that the line stands
+-- in, nothing stands before that place. What follows does not use it. Amendment D19: the neighbours here are the document's.
+unfoldable pub standardBefore : ℕ → List ℕ → ℕ → Neighbour
+standardBefore from doc at = choose (eqb at from) Edge (neighbourBefore doc at)
 
 -- "Container: the innermost event open at the run, or none."
 abbrev pub innermostOf : List ℕ → Option ℕ
@@ -60,8 +56,8 @@ runOf doc e es i held =
       start = e .place;
       size = firstPlace es - e .place;
       marker = getD doc (e .place) 0;
-      before = byteBefore doc (e .place);
-      after = byteAt doc (firstPlace es);
+      before = neighbourBefore doc (e .place);
+      after = neighbourAfter doc (firstPlace es);
       container = innermostOf held;
     }
 
@@ -93,7 +89,7 @@ unfoldable pub allAre : ℕ → ℕ → List ℕ → ℕ → Bool
 allAre zero marker doc at = true
 allAre (suc n) marker doc at = and (eqb (getD doc at 0) marker) (allAre n marker doc (at + 1))
 
--- whether a neighbour is this byte
+-- whether a byte is there and is this one
 abbrev pub isByte : ℕ → Option ℕ → Bool
 isByte marker none = false
 isByte marker (some b) = eqb b marker

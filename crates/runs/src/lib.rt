@@ -6,8 +6,9 @@
 use classes::Class;
 use classes::class_of;
 ghost use mathlib.Core.Path.{_≡_};
-ghost use mathlib.Core.Bool.{true, not, _&&_};
-ghost use mathlib.Core.Option.{some};
+ghost use mathlib.Core.Bool.{true, false, not, _&&_};
+ghost use Rattle.unicode.specs.Beside.{Character};
+ghost use Rattle.classes.specs.Lent.{Lent, lacks};
 ghost use Rattle.runs.specs.Flanking.{besideMarker, canOpen, canClose};
 ghost use Rattle.runs.specs.Paragraph.{isOther, firstBy, opensBy};
 ghost use Rattle.runs.specs.Rule.{threes as threesOf, tildes as tildesOf};
@@ -24,20 +25,20 @@ pub enum Next {
     },
 }
 
-// Whether a neighbour is a marker that lets a run of this marker open or close beside it.
-fn beside_marker(strike: bool, marker: u8, byte: u8) -> bool
-    ensures { λ r. ⌜ r ≡ besideMarker strike marker (some byte) ⌝ }
+// Whether a character is a marker that lets a run of this marker open or close beside it.
+fn beside_marker(strike: bool, marker: u8, c: u32) -> bool
+    ensures { λ r. ⌜ r ≡ besideMarker strike marker (Character c) ⌝ }
 {
     if marker == 126 {
         return false;
     }
-    if byte == 42 {
+    if c == 42 {
         return true;
     }
-    if byte == 95 {
+    if c == 95 {
         return true;
     }
-    if byte == 126 {
+    if c == 126 {
         return strike;
     }
     false
@@ -54,16 +55,16 @@ fn is_other(class: Class) -> bool
     }
 }
 
-// The first result: whether a run can open between bytes of these classes, of which the second is `byte`, before what `_` asks beyond it.
-fn first_open(strike: bool, marker: u8, before: Class, after: Class, byte: u8) -> bool
-    ensures { λ r. ⌜ r ≡ firstBy strike marker before after byte ⌝ }
+// The first result: whether a run can open between characters of these classes, of which the second is `beside`, before what `_` asks beyond it.
+fn first_open(strike: bool, marker: u8, before: Class, after: Class, beside: u32) -> bool
+    ensures { λ r. ⌜ r ≡ firstBy strike marker before after (Character beside) ⌝ }
 {
     match after {
         Class::Other => true,
-        Class::Whitespace => beside_marker(strike, marker, byte),
+        Class::Whitespace => beside_marker(strike, marker, beside),
         Class::Punctuation => {
             if is_other(before) {
-                return beside_marker(strike, marker, byte);
+                return beside_marker(strike, marker, beside);
             }
             true
         }
@@ -71,8 +72,8 @@ fn first_open(strike: bool, marker: u8, before: Class, after: Class, byte: u8) -
 }
 
 // Whether it can open: the first result, and for `_` what is asked beyond it.
-fn opens_by(strike: bool, marker: u8, before: Class, left: u8, after: Class, right: u8) -> bool
-    ensures { λ r. ⌜ r ≡ opensBy strike marker before left after right ⌝ }
+fn opens_by(strike: bool, marker: u8, before: Class, left: u32, after: Class, right: u32) -> bool
+    ensures { λ r. ⌜ r ≡ opensBy strike marker before (Character left) after (Character right) ⌝ }
 {
     if first_open(strike, marker, before, after, right) {
         if marker != 95 {
@@ -92,13 +93,21 @@ pub struct Flanks {
     pub closes: bool,
 }
 
-// What a run of this marker can do between these two bytes; a line feed stands for the document's edge. To close is to open with before and after
-// exchanged. Each class is looked up once.
-pub fn flanking(strike: bool, marker: u8, before: u8, after: u8) -> Flanks
-    ensures { λ r. ⌜ (r .opens ≡ canOpen true strike marker (some before) (some after)) × (r .closes ≡ canClose true strike marker (some before) (some after)) ⌝ }
+// What a run of this marker can do between these two characters. To close is to open with before and after exchanged. Each class is looked up once, by the
+// two tables that are lent: neither lacks the ranges.
+pub fn flanking(
+    ascii: &[u8],
+    marks: &[u32],
+    strike: bool,
+    marker: u8,
+    before: u32,
+    after: u32,
+) -> Flanks
+    requires { ⌜ Lent (now ascii) (now marks) × (lacks (now marks) before ≡ false) × (lacks (now marks) after ≡ false) ⌝ }
+    ensures { λ r. ⌜ (r .opens ≡ canOpen true strike marker (Character before) (Character after)) × (r .closes ≡ canClose true strike marker (Character before) (Character after)) ⌝ }
 {
-    let left = class_of(before);
-    let right = class_of(after);
+    let left = class_of(ascii, marks, before);
+    let right = class_of(ascii, marks, after);
     Flanks {
         opens: opens_by(strike, marker, left, before, right, after),
         closes: opens_by(strike, marker, right, after, left, before),

@@ -59,12 +59,15 @@ pub fn is_punctuation(table: &[u32], c: u32) -> bool
     in_ranges(&table[129..], c, from, to - from + 1)
 }
 
-// Whether c is of the general category Zs. Most letters stand past the last one, the ideographic space.
+// Whether c is of the general category Zs. Most letters stand past the last one, the ideographic space, or below the third, the Ogham space mark.
 pub fn is_space(c: u32) -> bool
     ensures { λ r. ⌜ r ≡ member spaceRanges c ⌝ }
 {
     if 12288 < c {
         return false;
+    }
+    if c < 5760 {
+        return in_ranges(&SPACES, c, 0, 2);
     }
     in_ranges(&SPACES, c, 0, 7)
 }

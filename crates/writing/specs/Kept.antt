@@ -61,7 +61,7 @@ openingsIn w n q marker from = openingEvents (openings (groupsIn w n) q marker (
 -- the run that the slot q keeps, its first byte at a place; what a slot does not keep of a run is not asked for its events
 abbrev pub runKept : List ℕ → ℕ → ℕ → Run
 runKept w q from =
-    record { number = 0; start = from; size = wholeOf w q; marker = markerOf w q; before = none; after = none; container = none }
+    record { number = 0; start = from; size = wholeOf w q; marker = markerOf w q; before = noRun .before; after = noRun .after; container = none }
 
 -- the slots keep these runs
 pub record Slotted (w : List ℕ) (runs : ℕ) (rs : List Run) : Type 0 where

@@ -1,4 +1,4 @@
--- `runs::first_open` meets its contract: the paragraph's first sentence by the class of the byte after. Assumes nothing.
+-- `runs::first_open` meets its contract: the paragraph's first sentence by the class of what stands after. Assumes nothing.
 use mathlib.Core.Path.{sym, _∙_}
 use Rattle.runs.proofs.Firsts.{other-opens, blank-beside, sign-opens, sign-beside}
 use borrow.Author.Needs.{needs}

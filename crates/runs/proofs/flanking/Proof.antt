@@ -1,4 +1,4 @@
--- `runs::flanking` meets its contract: by the classes of the two bytes, each looked up once. Assumes nothing.
+-- `runs::flanking` meets its contract: by the classes of the two characters, each looked up once. Assumes nothing.
 use Rattle.runs.proofs.Firsts.{flanked}
 use borrow.Author.Needs.{needs}
 use Rattle.runs.proofs.flanking.Statement.{statement}

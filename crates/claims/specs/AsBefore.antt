@@ -1,0 +1,114 @@
+-- "On ASCII documents every call answers as before." Before the neighbours of a run were characters they were bytes, and every byte from 128 up was other.
+-- What stands here of that time, under names that say so, stands for this alone. Of the calls only lark_resolve_attention looks at neighbours.
+-- proofs/AsBefore.antt proves the statements, each under its name in small letters.
+-- Assumes nothing.
+use Prim.Native.Nat.{ℕ, zero, suc, _+_, _-_, _<_}
+use mathlib.Core.Path.{_≡_, refl}
+use mathlib.Core.Bool.{cond}
+use mathlib.Core.List.{List, [], _∷_, map}
+use mathlib.Core.Option.{Option, none, some}
+use lib.Dec.{leb}
+use lib.ListN.{length, getD}
+use Rattle.record.specs.Choice.{choose, and}
+use Rattle.record.specs.Options.{optionOn}
+use Rattle.record.specs.Check.{admitted}
+use Rattle.record.specs.Event.{documentOf, eventsOf, enter, exit}
+use Rattle.record.specs.Outcome.{Resolution, Outcome, accepted, refused, outcome}
+use Rattle.record.specs.Promise.{Writes}
+use Rattle.record.specs.Stack.{after}
+use Rattle.record.specs.declared.event.Event.{Event}
+use Rattle.unicode.specs.Ranges.{member}
+use Rattle.unicode.specs.Tables.{punctuationRanges, spaceRanges}
+use Rattle.unicode.specs.Utf8.{wellFormedRows, fits, fitsOne, wellFormed, valueOf, characterOf}
+use Rattle.unicode.specs.Beside.{Neighbour, Edge, Character, Malformed, characterFrom, characterUpTo, neighbourBefore, neighbourAfter}
+use Rattle.classes.specs.Class.{classOf, standardClass, asciiClass, wideClass, amended, whitespace, punctuation, classByBytes}
+use Rattle.classes.specs.declared.Class.{Class}
+use Rattle.classes.specs.declared.Class.the-variants.{Whitespace}
+use Rattle.runs.specs.Flanking.{classBeside, leftFlanking, rightFlanking, besideMarker, flanksLeft, flanksRight, canOpen, canClose}
+use Rattle.runs.specs.Runs.{Run, byteAt, innermostOf, firstPlace, entersRun, runsFrom, runsOf, offender}
+use Rattle.runs.specs.Rule.{Profile, threes, tildes, ruleOver, crate}
+use Rattle.runs.specs.Plain.{Outcome as Matching, group, opener, closer, sameContainer, candidate, takes, back, look, forth, amount, alter, matched, rounds, total, plain}
+use Rattle.runs.specs.Pieces.{standing, outcome as matching}
+use Rattle.runs.specs.Output.{replaced}
+use Rattle.attention.specs.Attention.{unlessOffended}
+use Rattle.attention.specs.declared.call.Answer.{Answer}
+use Rattle.attention.specs.declared.call.Answer.the-variants.{Resolved, Refused}
+use Rattle.ledgerlark.specs.Answers.{larkAttention, AttentionAs}
+use Rattle.ledgerlark.specs.declared.resolve.LarkResolved.{LarkResolved}
+use Rattle.claims.specs.Records.{docOf, allEvents}
+
+-- the byte before a place, if there is one
+unfoldable pub byteBefore : List ℕ → ℕ → Option ℕ
+byteBefore doc zero = none
+byteBefore doc (suc at) = byteAt doc at
+
+-- the class of a byte, or of an edge, as it was
+abbrev pub classBesideBefore : Option ℕ → Class
+classBesideBefore none = Whitespace
+classBesideBefore (some b) = classByBytes b
+
+-- a byte as a neighbour: one from 128 up was other, and no marker, as what is malformed is
+abbrev pub byteNeighbour : Option ℕ → Neighbour
+byteNeighbour none = Edge
+byteNeighbour (some b) = cond (leb 128 b) Malformed (Character b)
+
+-- so it has the class that it had
+abbrev pub ClassAsBefore : Type 0
+ClassAsBefore = (b : Option ℕ) → classBeside (byteNeighbour b) ≡ classBesideBefore b
+
+-- a run with the bytes that stand beside it, and the runs of some events
+abbrev pub runBefore : List ℕ → Event → List Event → ℕ → List ℕ → Run
+runBefore doc e es i held =
+    record {
+      number = i;
+      start = e .place;
+      size = firstPlace es - e .place;
+      marker = getD doc (e .place) 0;
+      before = byteNeighbour (byteBefore doc (e .place));
+      after = byteNeighbour (byteAt doc (firstPlace es));
+      container = innermostOf held;
+    }
+
+unfoldable pub runsBefore : List ℕ → List Event → ℕ → List ℕ → List Run
+runsBefore doc [] i held = []
+runsBefore doc (e ∷ es) i held =
+    let rest = runsBefore doc es (i + 1) (after e i held) in
+    choose (entersRun e) (runBefore doc e es i held ∷ rest) rest
+
+-- what was made of a record: the groups and candidates, the events, and what a call came to and answered
+unfoldable pub matchingBefore : Profile → ℕ → List ℕ → List Event → Matching
+matchingBefore profile options doc es = plain (profile .rule options) (map (standing profile options) (runsBefore doc es 0 []))
+
+unfoldable pub attentionBefore : Profile → ℕ → List ℕ → List Event → Resolution
+attentionBefore profile options doc es =
+    unlessOffended (offender doc options es) (replaced es (runsBefore doc es 0 []) (matchingBefore profile options doc es .groups) 0)
+
+abbrev pub comesBefore : Profile → List ℕ → ℕ → ℕ → ℕ → Outcome
+comesBefore profile s options outs works =
+    outcome (admitted s options works) (λ d e. attentionBefore profile options (documentOf s d) (eventsOf s d e)) outs
+
+abbrev pub answerBefore : Matching → Outcome → Answer
+answerBefore made (accepted rs) = Resolved (length rs) (length (made .groups)) (made .tried)
+answerBefore made (refused r) = Refused r
+
+-- the promise of lark_resolve_attention as it was
+abbrev pub AttentionBefore : Profile → List ℕ → ℕ → List ℕ → List ℕ → LarkResolved → List ℕ → List ℕ → Type 0
+AttentionBefore profile s options out work r out′ work′ =
+    Writes (comesBefore profile s options) (λ (o : Outcome). larkAttention (answerBefore (matchingBefore profile options (docOf s) (allEvents s)) o)) out work r out′ work′
+
+-- every byte of a document is an ASCII character
+abbrev pub Ascii : List ℕ → Type 0
+Ascii doc = (at : ℕ) → at < length doc → getD doc at 0 < 128
+
+-- on such a document the promise is what it was: the answer, the output and the work memory
+abbrev pub AnswersAsBefore : Type 0
+AnswersAsBefore =
+    (profile : Profile) (s : List ℕ) (options : ℕ) (out work : List ℕ) (r : LarkResolved) (out′ work′ : List ℕ) → Ascii (docOf s) →
+    (AttentionAs profile s options out work r out′ work′ → AttentionBefore profile s options out work r out′ work′)
+    × (AttentionBefore profile s options out work r out′ work′ → AttentionAs profile s options out work r out′ work′)
+
+-- what differs, computed: of `«_a_»` there was no group, since « was other bytes, and there is one now
+on-quotation : (matchingBefore crate 59 (194 ∷ 171 ∷ 95 ∷ 97 ∷ 95 ∷ 194 ∷ 187 ∷ []) (enter 1 2 ∷ exit 1 3 ∷ enter 1 4 ∷ exit 1 5 ∷ []) .groups ≡ [])
+    × (matching crate 59 (194 ∷ 171 ∷ 95 ∷ 97 ∷ 95 ∷ 194 ∷ 187 ∷ []) (enter 1 2 ∷ exit 1 3 ∷ enter 1 4 ∷ exit 1 5 ∷ []) .groups ≡ group 0 1 1 ∷ [])
+unfolding matchingBefore matching runsBefore runsFrom runsOf byteBefore byteAt neighbourBefore neighbourAfter characterFrom characterUpTo characterOf wellFormed wellFormedRows fitsOne fits valueOf choose and after classOf standardClass asciiClass wideClass amended whitespace punctuation member spaceRanges punctuationRanges optionOn entersRun classBeside leftFlanking rightFlanking besideMarker flanksLeft flanksRight canOpen canClose threes tildes ruleOver opener closer sameContainer candidate takes back look forth amount alter matched rounds total plain standing
+on-quotation = (refl, refl)
