@@ -3,7 +3,7 @@
  */
 #include <time.h>
 
-#ifdef MOVED
+#if MOVED
 #define QUOTED(number) #number
 #define SKIP(number) __asm__(".section .text.moved,\"ax\"\n.skip " QUOTED(number) "\n.text")
 SKIP(MOVED);
