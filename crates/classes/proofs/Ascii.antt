@@ -11,7 +11,7 @@ use borrow.Author.Tests.{ne-eqb, le-leb, lt-leb, leb-true, leb-false}
 use Rattle.unicode.specs.Ranges.{member}
 use Rattle.unicode.specs.Tables.{punctuationRanges, spaceRanges}
 use Rattle.classes.specs.Class.{whitespace, punctuation, replaced, asciiClass, wideClass, standardClass, amended, classOf, classByBytes, codeOf}
-use Rattle.classes.specs.Laws.{unicodeWhitespace, unicodePunctuation, ByCategories, AsciiAsByBytes, AsAsked}
+use Rattle.classes.specs.Laws.{unicodeWhitespace, unicodePunctuation, ByCategories, AsciiAsByBytes, asked, AsAsked}
 use Rattle.classes.specs.Lent.{AsciiTable}
 use Rattle.classes.specs.declared.Class.{Class}
 use Rattle.classes.specs.declared.Class.the-variants.{Other, Whitespace, Punctuation}
@@ -77,9 +77,6 @@ ascii-as-by-bytes c h = one-code (classOf c) (classByBytes c) (eqb→eq (codeOf 
 pub high-by-bytes : (c : ℕ) → 128 ≤ c → classByBytes c ≡ Other
 unfolding classByBytes
 high-by-bytes c h = simp (ne-eqb c 13 (λ e. omega arith), le-leb 128 c h)
-
-abbrev asked : ℕ → Class
-asked c = cond (member spaceRanges c || (eqb c 9 || (eqb c 10 || eqb c 12))) Whitespace (cond (member punctuationRanges c) Punctuation Other)
 
 unfoldable as-asked-at : ℕ → Bool
 as-asked-at c = eqb (codeOf (classOf c)) (codeOf (asked c))

@@ -25,8 +25,10 @@ ByCategories = (c : ℕ) → standardClass c ≡ cond (unicodeWhitespace c) Whit
 abbrev pub AsciiAsByBytes : Type 0
 AsciiAsByBytes = (c : ℕ) → c < 128 → classOf c ≡ classByBytes c
 
--- "whitespace is Zs with tab, line feed, form feed; punctuation is category P or S": the class of every character, with the amendments
+-- "category Zs with tab, line feed, form feed; punctuation is category P or S, as 0.31 has it; all else is other"
+abbrev pub asked : ℕ → Class
+asked c = cond (member spaceRanges c || (eqb c 9 || (eqb c 10 || eqb c 12))) Whitespace (cond (member punctuationRanges c) Punctuation Other)
+
+-- which is the class of every character, with the amendments
 abbrev pub AsAsked : Type 0
-AsAsked =
-    (c : ℕ) →
-    classOf c ≡ cond (member spaceRanges c || (eqb c 9 || (eqb c 10 || eqb c 12))) Whitespace (cond (member punctuationRanges c) Punctuation Other)
+AsAsked = (c : ℕ) → classOf c ≡ asked c

@@ -11,7 +11,8 @@ use Rattle.record.specs.Bytes.{u32At}
 use Rattle.record.specs.Event.{documentOf, eventAt}
 use Rattle.record.specs.declared.event.Event.{Event}
 use Rattle.record.proofs.Parts.{document-byte}
-use Rattle.unicode.specs.Beside.{Character, standIn, neighbourBefore, neighbourAfter}
+use Rattle.unicode.specs.Beside.{Character, neighbourBefore, neighbourAfter}
+use Rattle.unicode.specs.StandIn.{standIn}
 use Rattle.classes.specs.Lent.{lacks}
 use Rattle.classes.proofs.Codes.{lacked}
 use Rattle.runs.specs.Runs.{isMarker, innermostOf, runOf}

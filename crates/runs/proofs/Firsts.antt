@@ -10,7 +10,8 @@ use Rattle.record.specs.Choice.{choose}
 use Rattle.classes.specs.Class.{classOf, standardClass, asciiClass, amended, whitespace, punctuation}
 use Rattle.classes.specs.declared.Class.{Class}
 use Rattle.classes.specs.declared.Class.the-variants.{Other, Whitespace, Punctuation}
-use Rattle.unicode.specs.Beside.{Neighbour, Edge, Character, Malformed, standIn}
+use Rattle.unicode.specs.Beside.{Neighbour, Edge, Character, Malformed}
+use Rattle.unicode.specs.StandIn.{standIn}
 use Rattle.runs.specs.Flanking.{classBeside, besideMarker, flanksLeft, flanksRight, canOpen, canClose}
 use Rattle.runs.specs.Paragraph.{isOther, firstOpen, firstBy, opensBy, opens, closes}
 use Rattle.runs.proofs.AsWritten.{open-as-written, close-as-written, never, threes-as-written}

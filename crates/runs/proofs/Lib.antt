@@ -3,3 +3,4 @@ pub mod Marks
 pub mod OneChain
 pub mod Firsts
 pub mod MarkerBytes
+pub mod Neighbours

@@ -119,7 +119,8 @@ unfolding trials shown bytes split splitFrom stretchOf nameOf groupEvents leftov
 departures = refl
 
 -- quotation marks, dashes and spaces past ASCII: « and —, which are punctuation, stand before a `_` that opens; a `*` in a word does not open against «, nor one
--- before a no-break space, which is whitespace; 「 and 」 stand round a group
+-- before a no-break space, which is whitespace; 「 and 」 stand round a group; a document's beginning is whitespace, whatever its end; a sign of four bytes is
+-- punctuation, a letter with an accent other; `~~` goes by the same classes as `*`
 unfoldable pub wideTrials : List Trial
 wideTrials =
     trial crate 59 (row "«_a_»" (enter 2 2 ∷ exit 2 5 ∷ []) [] 1)
@@ -127,6 +128,11 @@ wideTrials =
     ∷ trial crate 59 (row "a*«b»*c" [] (1 ∷ 7 ∷ []) 0)
     ∷ trial crate 59 (row "*\u{a0}a*" [] (0 ∷ 4 ∷ []) 0)
     ∷ trial crate 59 (row "「_a_」" (enter 2 3 ∷ exit 2 6 ∷ []) [] 1)
+    ∷ trial crate 59 (row "_a_»" (enter 2 0 ∷ exit 2 3 ∷ []) [] 1)
+    ∷ trial crate 59 (row "🤔_a_" (enter 2 4 ∷ exit 2 7 ∷ []) [] 1)
+    ∷ trial crate 59 (row "ê_a_" [] (2 ∷ 4 ∷ []) 0)
+    ∷ trial crate 59 (row "~~\u{a0}a~~" [] (0 ∷ 5 ∷ []) 0)
+    ∷ trial crate 59 (row "~~\u{c}a~~" [] (0 ∷ 4 ∷ []) 0)
     ∷ []
 
 pub wide : map (λ (t : Trial). shownOf (t .profile) (t .options) (wideBytes (t .case .text))) wideTrials ≡ map (λ (t : Trial). t .case .expected) wideTrials

@@ -5,6 +5,7 @@ pub mod Paragraph
 pub mod Plain
 pub mod Chains
 pub mod Pieces
+pub mod Neighbours
 pub mod Output
 pub mod Texts
 pub mod Cases

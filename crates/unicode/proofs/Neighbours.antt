@@ -9,7 +9,7 @@ use lib.ListN.{length, getD}
 use borrow.Author.Tests.{lt-ltb, le-ltb}
 use Rattle.unicode.specs.Utf8.{characterOf, valueOf}
 use Rattle.unicode.specs.Beside.{characterFrom, characterUpTo, found, neighbourBefore, neighbourAfter}
-use Rattle.unicode.specs.Laws.{EdgeAfter, EdgeBefore, AsciiAfter, AsciiBefore, Past, malformed, character, PastAfter, PastBefore}
+use Rattle.unicode.specs.Laws.{EdgeFirst, EdgeAfter, EdgeBefore, AsciiAfter, AsciiBefore, Past, malformed, character, PastAfter, PastBefore}
 use Rattle.unicode.specs.Beside.{Edge, Character, Malformed}
 use Rattle.unicode.proofs.Forms.{Lead, Shape, form-shape, form-value, formed}
 use Rattle.unicode.proofs.Leads.{by-lead, lead-few, shape-past}
@@ -25,13 +25,16 @@ pub edge-before : EdgeBefore
 unfolding neighbourBefore
 edge-before doc at h = rw (le-ltb at (length doc) h)
 
--- nothing stands before the document's beginning
-pub edge-first : (doc : List ℕ) (at : ℕ) → at ≡ 0 → neighbourBefore doc at ≡ Edge
+pub edge-first : EdgeFirst
 unfolding neighbourBefore
-edge-first doc at e = rw e
+edge-first doc = refl
+
+-- the same of a place that is 0
+pub edge-at : (doc : List ℕ) (at : ℕ) → at ≡ 0 → neighbourBefore doc at ≡ Edge
+edge-at doc at e = rw e (edge-first doc)
 
 module _ (doc : List ℕ) (at : ℕ) where
-  after-found : at < length doc → neighbourAfter doc at ≡ found (characterFrom doc at)
+  pub after-found : at < length doc → neighbourAfter doc at ≡ found (characterFrom doc at)
   unfolding neighbourAfter
   after-found h = rw (lt-ltb at (length doc) h)
 
@@ -52,7 +55,7 @@ ascii-after doc at h low = sym (formed (getD doc at 0 ∷ []) (omega arith) ∙ 
     one : (k : ℕ) → Lead k (getD doc at 0) → k ≡ 1
     one k w = by-lead (λ (m : ℕ). m ≡ 1) k (getD doc at 0) w (omega arith)
 
-before-found : (doc : List ℕ) (at : ℕ) → 0 < at → at ≤ length doc → neighbourBefore doc at ≡ found (characterUpTo doc at)
+pub before-found : (doc : List ℕ) (at : ℕ) → 0 < at → at ≤ length doc → neighbourBefore doc at ≡ found (characterUpTo doc at)
 unfolding neighbourBefore
 before-found doc zero p h = absurd (omega arith)
 before-found doc (suc at) p h = rw (lt-ltb at (length doc) h)

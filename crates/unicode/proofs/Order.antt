@@ -8,7 +8,7 @@ use native.Mathlib.Omega.{arith}
 use lib.Dec.{leb}
 use lib.ListN.{length, getD}
 use borrow.Author.Tests.{le-leb, lt-leb, leb-true}
-use Rattle.unicode.specs.Ranges.{within, member, rising, low, high, In, MemberIn, Apart}
+use Rattle.unicode.specs.Ranges.{within, member, rising, low, high, In, MemberIn, RangesApart}
 
 pub and-left : (a b : Bool) → a && b ≡ true → a ≡ true
 and-left true b e = refl
@@ -152,5 +152,5 @@ member-of (lo ∷ hi ∷ t) c e = first-or-later lo hi t c (within lo hi c) refl
 pub member-in : MemberIn
 member-in t c = (member-of t c, λ k i. is-member t k c i)
 
-pub apart-law : Apart
-apart-law t e j k l h = (filled 0 t e j (omega arith), apart 0 t e j k l h)
+pub ranges-apart : RangesApart
+ranges-apart t e j k l h = (filled 0 t e j (omega arith), apart 0 t e j k l h)

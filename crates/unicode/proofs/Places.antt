@@ -8,16 +8,15 @@ use native.Mathlib.Omega.{arith}
 use lib.ListN.{length, getD, take, drop, take-append-drop, length-append}
 use lib.Seq.{take-append-seam, drop-at, length-take-le}
 use Rattle.unicode.specs.Utf8.{characterOf, isCharacter, utf8}
-use Rattle.unicode.specs.Beside.{characterFrom, characterUpTo, found, neighbourBefore, neighbourAfter}
-use Rattle.unicode.specs.Beside.{Neighbour}
-use Rattle.unicode.specs.Beside.{Edge, Character, Malformed}
-use borrow.Author.Tests.{lt-ltb}
-use Rattle.unicode.specs.Laws.{Form, FoundBegins, BeginsFound, FoundEnds, EndsFound, CharacterAfter, CharacterBefore}
+use Rattle.unicode.specs.Beside.{characterFrom, characterUpTo, found}
+use Rattle.unicode.specs.Beside.{Neighbour, Edge, Character, Malformed}
+use Rattle.unicode.specs.Laws.{Form, FoundBegins, BeginsFound, FoundEnds, EndsFound, CharacterAfter, CharacterBefore, MalformedAfter, MalformedBefore}
 use Rattle.unicode.proofs.Forms.{Lead, Shape, form-shape}
 use Rattle.unicode.proofs.Leads.{shape-lead, lead-few, same-lead}
 use Rattle.unicode.proofs.Parts.{found-part}
 use Rattle.unicode.proofs.Sides.{firstBytes, from-lead, from-place, lastBytes, Trailing, up-to-trailing, up-to-place, same-trailing}
 use Rattle.unicode.proofs.Decoding.{decoded-is-form, form-is-decoded}
+use Rattle.unicode.proofs.Neighbours.{after-found, before-found}
 
 pub found-begins : FoundBegins
 unfolding characterFrom
@@ -87,13 +86,24 @@ found-some none c e = absurd (subst is-some (sym e) tt)
 found-some (some d) c e = ap some (ap character-or e)
 
 pub character-after : CharacterAfter
-unfolding neighbourAfter
-character-after doc at c h =
-    let f : neighbourAfter doc at ≡ found (characterFrom doc at) = rw (lt-ltb at (length doc) h) in
-    (λ e. found-begins doc at c (found-some (characterFrom doc at) c (sym f ∙ e)), λ b. f ∙ ap found (begins-found doc at c b))
+character-after doc at c h = (
+  λ e. found-begins doc at c (found-some (characterFrom doc at) c (sym (after-found doc at h) ∙ e)),
+  λ b. after-found doc at h ∙ ap found (begins-found doc at c b),
+)
 
 pub character-before : CharacterBefore
-unfolding neighbourBefore
-character-before doc at c h =
-    let f : neighbourBefore doc (suc at) ≡ found (characterUpTo doc (suc at)) = rw (lt-ltb at (length doc) h) in
-    (λ e. found-ends doc (suc at) c (found-some (characterUpTo doc (suc at)) c (sym f ∙ e)), λ b. f ∙ ap found (ends-found doc (suc at) c h b))
+character-before doc at c h = (
+  λ e. found-ends doc (suc at) c (found-some (characterUpTo doc (suc at)) c (sym (before-found doc (suc at) (omega arith) h) ∙ e)),
+  λ b. before-found doc (suc at) (omega arith) h ∙ ap found (ends-found doc (suc at) c h b),
+)
+
+-- where no character is found
+none-found : (o : Option ℕ) → ((c : ℕ) → o ≡ some c → ⊥) → found o ≡ Malformed
+none-found none n = refl
+none-found (some c) n = absurd (n c refl)
+
+pub malformed-after : MalformedAfter
+malformed-after doc at h n = after-found doc at h ∙ none-found (characterFrom doc at) (λ c e. n c (found-begins doc at c e))
+
+pub malformed-before : MalformedBefore
+malformed-before doc at h n = before-found doc (suc at) (omega arith) h ∙ none-found (characterUpTo doc (suc at)) (λ c e. n c (found-ends doc (suc at) c e))

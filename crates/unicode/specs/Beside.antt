@@ -14,12 +14,6 @@ pub data Neighbour : Type 0 where
   Character : ℕ → Neighbour
   Malformed : Neighbour
 
--- the character that stands for a neighbour in the code: a line feed for an edge, and for what is malformed the zero byte
-abbrev pub standIn : Neighbour → ℕ
-standIn Edge = 10
-standIn (Character c) = c
-standIn Malformed = 0
-
 abbrev pub orElse : Option ℕ → Option ℕ → Option ℕ
 orElse (some c) other = some c
 orElse none other = other

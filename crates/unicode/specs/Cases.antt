@@ -1,6 +1,6 @@
 -- Bytes beside a place, computed: whole characters of one to four bytes, and what is none.
 -- Assumes nothing.
-use Prim.Native.Nat.{ℕ, _+_, _-_}
+use Prim.Native.Nat.{ℕ, _+_, _-_, _*_, _%_}
 use mathlib.Core.Path.{_≡_, refl}
 use mathlib.Core.List.{List, [], _∷_, map}
 use mathlib.Core.Bool.{true, false}
@@ -88,3 +88,27 @@ counted (first ∷ last ∷ t) = (last + 1 - first) + counted t
 pub counts : (counted punctuationRanges ≡ 9369) × (length punctuationRanges ≡ 698) × (counted spaceRanges ≡ 17) × (length spaceRanges ≡ 14)
 unfolding counted punctuationRanges spaceRanges
 counts = (refl, refl, refl, refl)
+
+-- a checksum of each table, which crates/unicode/tables takes from Unicode's file: the bounds as the digits of one number in base 1,114,112, by 2,147,483,647. A
+-- range that is moved in the definition and in the code alike, so that the counts hold, shows here
+unfoldable pub checksum : ℕ → List ℕ → ℕ
+checksum sum [] = sum
+checksum sum (bound ∷ t) = checksum ((sum * 1114112 + bound) % 2147483647) t
+
+pub checksums : (checksum 0 punctuationRanges ≡ 580437807) × (checksum 0 spaceRanges ≡ 923714379)
+unfolding checksum punctuationRanges spaceRanges
+checksums = (refl, refl)
+
+-- how many forms a row of table 3-7 has, and all rows: one for each of the 1,112,064 characters, so that none is left out
+unfoldable pub formsOf : List ℕ → ℕ
+formsOf [] = 1
+formsOf (least ∷ []) = 0
+formsOf (least ∷ most ∷ row) = (most + 1 - least) * formsOf row
+
+unfoldable pub formsIn : List (List ℕ) → ℕ
+formsIn [] = 0
+formsIn (row ∷ rows) = formsOf row + formsIn rows
+
+pub all-forms : formsIn wellFormedRows ≡ 1112064
+unfolding formsIn formsOf wellFormedRows
+all-forms = refl

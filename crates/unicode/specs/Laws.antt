@@ -53,6 +53,10 @@ FoundEnds = (doc : List ℕ) (at c : ℕ) → characterUpTo doc at ≡ some c �
 abbrev pub EndsFound : Type 0
 EndsFound = (doc : List ℕ) (at c : ℕ) → at ≤ length doc → Ends doc at c → characterUpTo doc at ≡ some c
 
+-- nothing stands before the document's beginning
+abbrev pub EdgeFirst : Type 0
+EdgeFirst = (doc : List ℕ) → neighbourBefore doc 0 ≡ Edge
+
 -- the document's end has nothing after it, and a place past the end has nothing before it either
 abbrev pub EdgeAfter : Type 0
 EdgeAfter = (doc : List ℕ) (at : ℕ) → length doc ≤ at → neighbourAfter doc at ≡ Edge
@@ -79,7 +83,7 @@ PastAfter = (doc : List ℕ) (at : ℕ) → at < length doc → 128 ≤ getD doc
 abbrev pub PastBefore : Type 0
 PastBefore = (doc : List ℕ) (at : ℕ) → at < length doc → 128 ≤ getD doc at 0 → Past (neighbourBefore doc (suc at))
 
--- inside the document: a character stands after a place just where one begins, and before it just where one ends; else what stands there is malformed
+-- inside the document: a character stands after a place just where one begins, and before it just where one ends
 abbrev pub CharacterAfter : Type 0
 CharacterAfter =
     (doc : List ℕ) (at c : ℕ) → at < length doc → (neighbourAfter doc at ≡ Character c → Begins doc at c) × (Begins doc at c → neighbourAfter doc at ≡ Character c)
@@ -88,3 +92,10 @@ abbrev pub CharacterBefore : Type 0
 CharacterBefore =
     (doc : List ℕ) (at c : ℕ) → at < length doc →
     (neighbourBefore doc (suc at) ≡ Character c → Ends doc (suc at) c) × (Ends doc (suc at) c → neighbourBefore doc (suc at) ≡ Character c)
+
+-- and where none begins, or none ends, what stands there is malformed
+abbrev pub MalformedAfter : Type 0
+MalformedAfter = (doc : List ℕ) (at : ℕ) → at < length doc → ((c : ℕ) → Begins doc at c → ⊥) → neighbourAfter doc at ≡ Malformed
+
+abbrev pub MalformedBefore : Type 0
+MalformedBefore = (doc : List ℕ) (at : ℕ) → at < length doc → ((c : ℕ) → Ends doc (suc at) c → ⊥) → neighbourBefore doc (suc at) ≡ Malformed

@@ -4,5 +4,6 @@ pub mod Ordered
 pub mod Index
 pub mod Utf8
 pub mod Beside
+pub mod StandIn
 pub mod Laws
 pub mod Cases

@@ -50,10 +50,12 @@ pub record Between (t : List ℕ) (c from to : ℕ) : Type 0 where
   pub below : (k : ℕ) → k < from → high t k < c
   pub above : (k : ℕ) → to ≤ k → 2 * k + 1 < length t → c < low t k
 
+-- What holds of tables. proofs/Order.antt proves these two, each under its name in small letters.
+
 -- a member is what lies in one of the ranges, whatever their order
 abbrev pub MemberIn : Type 0
 MemberIn = (t : List ℕ) (c : ℕ) → (member t c ≡ true → (k : ℕ) × In t k c) × ((k : ℕ) → In t k c → member t c ≡ true)
 
 -- of a table in rising order and apart: a range ends two below the beginning of any later one at most
-abbrev pub Apart : Type 0
-Apart = (t : List ℕ) → rising 0 t ≡ true → (j k : ℕ) → j < k → 2 * k + 1 < length t → (low t j ≤ high t j) × (high t j + 2 ≤ low t k)
+abbrev pub RangesApart : Type 0
+RangesApart = (t : List ℕ) → rising 0 t ≡ true → (j k : ℕ) → j < k → 2 * k + 1 < length t → (low t j ≤ high t j) × (high t j + 2 ≤ low t k)

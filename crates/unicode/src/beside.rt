@@ -11,7 +11,8 @@ ghost use mathlib.Core.List.{[], _∷_};
 ghost use Prim.Native.Nat.{_-_, _≤_, _<_};
 ghost use lib.ListN.{length, getD};
 ghost use Rattle.unicode.specs.Utf8.{characterOf};
-ghost use Rattle.unicode.specs.Beside.{standIn, found, neighbourBefore, neighbourAfter};
+ghost use Rattle.unicode.specs.Beside.{found, neighbourBefore, neighbourAfter};
+ghost use Rattle.unicode.specs.StandIn.{standIn};
 
 // The character of two bytes.
 fn of_two(a: u32, b: u32) -> u32

@@ -5,7 +5,7 @@ use mathlib.Core.Path.{ap, _≡_, _∙_}
 use native.Mathlib.Omega.{arith}
 use mir.Facts.{fits-widen}
 use borrow.Author.Needs.{needs}
-use Rattle.unicode.specs.Beside.{standIn}
+use Rattle.unicode.specs.StandIn.{standIn}
 use Rattle.unicode.proofs.Leads.{by-lead}
 use Rattle.unicode.proofs.Neighbours.{after-bytes, after-cut}
 use Rattle.unicode.proofs.beside.leads.Statement.{statement}

@@ -3,7 +3,7 @@
 use mathlib.Core.Path.{ap, sym}
 use native.Mathlib.Omega.{arith}
 use borrow.Author.Needs.{needs}
-use Rattle.unicode.specs.Beside.{standIn}
+use Rattle.unicode.specs.StandIn.{standIn}
 use Rattle.unicode.proofs.Neighbours.{edge-after, ascii-after}
 use Rattle.unicode.proofs.beside.neighbour_after.Statement.{statement}
 use Rattle.unicode.proofs.beside.neighbour_after.Tie as tie

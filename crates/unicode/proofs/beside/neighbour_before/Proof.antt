@@ -3,13 +3,13 @@
 use mathlib.Core.Path.{ap, sym}
 use native.Mathlib.Omega.{arith}
 use borrow.Author.Needs.{needs}
-use Rattle.unicode.specs.Beside.{standIn}
-use Rattle.unicode.proofs.Neighbours.{edge-first, before-ascii}
+use Rattle.unicode.specs.StandIn.{standIn}
+use Rattle.unicode.proofs.Neighbours.{edge-at, before-ascii}
 use Rattle.unicode.proofs.beside.neighbour_before.Statement.{statement}
 use Rattle.unicode.proofs.beside.neighbour_before.Tie as tie
 
 returns : tie.Need-returns
-returns c = ap standIn (sym (edge-first _ _ (c .if1 .taken)))
+returns c = ap standIn (sym (edge-at _ _ (c .if1 .taken)))
 
 sub-last : tie.Need-sub-last
 sub-last c = search needs

@@ -4,7 +4,7 @@ use mathlib.Core.Path.{ap}
 use native.Mathlib.Omega.{arith}
 use borrow.Author.Needs.{needs}
 use Rattle.unicode.specs.Utf8.{valueOf}
-use Rattle.unicode.specs.Beside.{standIn}
+use Rattle.unicode.specs.StandIn.{standIn}
 use Rattle.unicode.proofs.Forms.{malformed, formed}
 use Rattle.unicode.proofs.beside.of_four.Statement.{statement}
 use Rattle.unicode.proofs.beside.of_four.Tie as tie

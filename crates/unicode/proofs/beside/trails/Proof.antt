@@ -4,7 +4,7 @@ use mathlib.Core.Path.{ap, _∙_}
 use native.Mathlib.Omega.{arith}
 use mir.Facts.{fits-widen}
 use borrow.Author.Needs.{needs}
-use Rattle.unicode.specs.Beside.{standIn}
+use Rattle.unicode.specs.StandIn.{standIn}
 use Rattle.unicode.proofs.Sides.{bare-two, bare-three, bare-four}
 use Rattle.unicode.proofs.Neighbours.{before-led, before-fourth, before-cut}
 use Rattle.unicode.proofs.beside.trails.Statement.{statement}
