@@ -80,8 +80,9 @@
  * Each call needs an output and a work memory of its own; what is only read may be shared. A call that is never gone on with (longjmp out of a
  * handler, a thread that is killed) may leave its work memory unwiped.
  *
- * STACK. Under 2 KiB: at most 1,592 bytes were measured, for lark_resolve_attention, the caller's frame and memset's included. Where memset is
- * bound lazily its very first call takes some KiB more, for the dynamic linker; -Wl,-z,now avoids that. docs/PERFORMANCE.md has every call.
+ * STACK. Under 4 KiB: at most 3,264 bytes were measured, for lark_resolve_attention, the caller's frame and memset's included, and 1,016 for any other
+ * call. Where memset is bound lazily its very first call takes some KiB more, for the dynamic linker; -Wl,-z,now avoids that. docs/PERFORMANCE.md has
+ * every call.
  *
  * PLATFORM. The archive is for x86-64, with the calling convention of System V, in ELF: Linux. Its code is position independent and can be part
  * of a shared library. It needs `memset` and nothing else of a C library.
