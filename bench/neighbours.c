@@ -72,6 +72,7 @@ int main(void) {
     add("nothing", "", 0, 1);
     add("a chat line without runs", "see you at nine, bring the map", 1, 1);
     add("a chat line of 29 bytes", "*hello* to you, see the _map_", 1, 1);
+    add("the same with an accent beside a run", "*hello* to you, see the _maé_", 1, 1);
     english = count;
     add("a paragraph, English", "He said *yes* to the **new** plan, and (_maybe_) to mine. ", 9, 1);
     wide = count;

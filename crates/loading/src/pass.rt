@@ -22,7 +22,7 @@ pub enum Loaded {
     Offends(usize),
 }
 
-// The same of a pass that has no ranges, or that one of the neighbours is past ASCII.
+// The same of a pass that may have no ranges: it is wide where it has none and one of the neighbours is past ASCII.
 pub enum Pass {
     Done(Loaded),
     Wide,

@@ -94,7 +94,7 @@ pub struct Flanks {
 }
 
 // What a run of this marker can do between these two characters. To close is to open with before and after exchanged. Each class is looked up once, by the
-// two tables that are lent: neither lacks the ranges.
+// two tables that are lent, the ranges among them if one of the characters is past ASCII.
 pub fn flanking(
     ascii: &[u8],
     marks: &[u32],
