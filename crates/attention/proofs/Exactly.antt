@@ -8,11 +8,13 @@ use Prim.Native.Nat.{ℕ, _≤_, _<_}
 use native.Mathlib.Omega.{arith}
 use lib.Dec.{leb}
 use borrow.Author.Tests.{leb-true, leb-false}
-use Rattle.record.specs.Event.{documentOf, eventsOf}
-use Rattle.record.specs.Rows.{documentCount, eventCount}
+use Rattle.record.specs.Handed.{formOf, optionsOf}
+use Rattle.record.specs.Event.{documentIn, eventsIn}
+use Rattle.record.specs.Rows.{documentCountIn, eventCountIn}
 use Rattle.record.specs.Outcome.{offends, gives}
 use Rattle.record.specs.Written.{Judges, ExactlyWritten}
 use Rattle.record.specs.declared.event.Event.{Event}
+use Rattle.record.specs.declared.form.Handed.{Handed}
 use Rattle.record.proofs.ExactlyWritten.{exactly-written}
 use Rattle.runs.specs.Runs.{offender}
 use Rattle.runs.specs.Rule.{Profile}
@@ -46,10 +48,10 @@ judges profile options doc es =
       none = λ rs q j b. none-offends doc options es (unnamed (offender doc options es) (output profile options doc es) rs q) j b;
     }
 
-pub exactly-resolved : (profile : Profile) (s : List ℕ) (options works outs : ℕ) →
-    ExactlyWritten s options works (Offends (documentOf s (documentCount s)) options (eventsOf s (documentCount s) (eventCount s)))
-    (λ d e. attention profile options (documentOf s d) (eventsOf s d e)) outs
-exactly-resolved profile s options works outs =
-    exactly-written s options works (Offends (documentOf s (documentCount s)) options (eventsOf s (documentCount s) (eventCount s)))
-    (λ d e. attention profile options (documentOf s d) (eventsOf s d e)) outs
-    (λ q. judges profile options (documentOf s (documentCount s)) (eventsOf s (documentCount s) (eventCount s)))
+pub exactly-resolved : (profile : Profile) (h : Handed) (s : List ℕ) (works outs : ℕ) →
+    ExactlyWritten h s works (Offends (documentIn (formOf h) s (documentCountIn (formOf h) s)) (optionsOf h s) (eventsIn (formOf h) s (documentCountIn (formOf h) s) (eventCountIn (formOf h) s)))
+    (λ d e. attention profile (optionsOf h s) (documentIn (formOf h) s d) (eventsIn (formOf h) s d e)) outs
+exactly-resolved profile h s works outs =
+    exactly-written h s works (Offends (documentIn (formOf h) s (documentCountIn (formOf h) s)) (optionsOf h s) (eventsIn (formOf h) s (documentCountIn (formOf h) s) (eventCountIn (formOf h) s)))
+    (λ d e. attention profile (optionsOf h s) (documentIn (formOf h) s d) (eventsIn (formOf h) s d e)) outs
+    (λ q. judges profile (optionsOf h s) (documentIn (formOf h) s (documentCountIn (formOf h) s)) (eventsIn (formOf h) s (documentCountIn (formOf h) s) (eventCountIn (formOf h) s)))

@@ -12,11 +12,10 @@ use lib.ListN.{length, getD, drop}
 use lib.Seq.{drop-cons, drop-length}
 use borrow.Author.Tests.{eqb-true, eqb-false, lt-ltb, le-ltb}
 use Rattle.record.specs.Choice.{choose}
-use Rattle.record.specs.Event.{documentOf, eventsOf}
-use Rattle.record.specs.Good.{GoodRecord}
-use Rattle.record.proofs.Good.{events-are-sound}
-use Rattle.record.proofs.Parts.{length-document}
-use Rattle.record.proofs.Sections.{length-eventsAt}
+use Rattle.record.specs.Event.{documentIn, eventsIn}
+use Rattle.record.specs.declared.form.Form.{Form}
+use Rattle.record.specs.Good.{GoodIn}
+use Rattle.record.proofs.Parts.{length-events, length-document}
 use Rattle.runs.specs.Runs.{Run, offender, runsOf}
 use Rattle.runs.specs.Rule.{Profile}
 use Rattle.runs.specs.Plain.{Group}
@@ -70,35 +69,37 @@ emptied-on w gs rs (suc m) q h f =
     ∙ ap (λ (k : List Run). emptied gs q k) (sym (drop-cons rs q noRun l))
 
 -- a good record none of whose runs offends is one that the theorems on the output speak of
-pub accepted-record : (options : ℕ) {s : List ℕ} {d e : ℕ} → GoodRecord s d e → offender (documentOf s d) options (eventsOf s d e) ≡ none →
-    Accepted 64 options (documentOf s d) (eventsOf s d e)
-accepted-record options {s} {d} g none-offends =
+pub accepted-record : (options : ℕ) {f : Form} {s : List ℕ} {d e : ℕ} → GoodIn f s d e → offender (documentIn f s d) options (eventsIn f s d e) ≡ none →
+    Accepted 64 options (documentIn f s d) (eventsIn f s d e)
+accepted-record options {f} {s} {d} g none-offends =
     let whole = g .whole in
-    let l : length (documentOf s d) ≡ d = length-document s d (omega arith) in
-    record { events = rw l (events-are-sound g); shapes = none-offends }
+    let l : length (documentIn f s d) ≡ d = length-document f s d (omega arith) in
+    record { events = rw l (g .sound-events); shapes = none-offends }
 
-module _ {profile : Profile} {s : List ℕ} {d e options n groups tried : ℕ} {w : List ℕ} (m : Matched profile s d e options n groups tried w) where
-  pub emptied-same : emptiedFrom n w 0 ≡ emptied (outcome profile options (documentOf s d) (eventsOf s d e) .groups) 0 (runsOf (documentOf s d) (eventsOf s d e))
+module _ {profile : Profile} {f : Form} {s : List ℕ} {d e options n groups tried : ℕ} {w : List ℕ}
+    (m : Matched profile f s d e options n groups tried w) where
+  pub emptied-same : emptiedFrom n w 0 ≡
+      emptied (outcome profile options (documentIn f s d) (eventsIn f s d e) .groups) 0 (runsOf (documentIn f s d) (eventsIn f s d e))
   emptied-same =
       let count = m .count in
-      emptied-on w (outcome profile options (documentOf s d) (eventsOf s d e) .groups) (runsOf (documentOf s d) (eventsOf s d e)) n 0 (omega arith)
-      (λ j h. left-of-run profile options (documentOf s d) (eventsOf s d e) (m .room) (m .count) (m .few) (m .made) j (omega arith))
+      emptied-on w (outcome profile options (documentIn f s d) (eventsIn f s d e) .groups) (runsOf (documentIn f s d) (eventsIn f s d e)) n 0 (omega arith)
+      (λ j h. left-of-run profile options (documentIn f s d) (eventsIn f s d e) (m .room) (m .count) (m .few) (m .made) j (omega arith))
 
-  events-long : length (eventsOf s d e) ≡ e
-  unfolding eventsOf
-  events-long = length-eventsAt e s (8 + d)
+  events-long : length (eventsIn f s d e) ≡ e
+  unfolding eventsIn
+  events-long = length-events (f .width) e s (8 + f .front + d)
 
   -- twice the emptied runs are no more than the events
   pub emptied-within : 2 * emptiedFrom n w 0 ≤ e
   emptied-within =
-      let a = emptied-few profile options (documentOf s d) (eventsOf s d e) 64 (accepted-record options (m .good) (m .none-offends)) in
+      let a = emptied-few profile options (documentIn f s d) (eventsIn f s d e) 64 (accepted-record options (m .good) (m .none-offends)) in
       omega (arith, emptied-same, events-long)
 
   -- document 01's formula
-  pub size-same : e - 2 * emptiedFrom n w 0 + 8 * groups ≡ length (output profile options (documentOf s d) (eventsOf s d e))
+  pub size-same : e - 2 * emptiedFrom n w 0 + 8 * groups ≡ length (output profile options (documentIn f s d) (eventsIn f s d e))
   unfolding resultSize
   size-same =
-      let a : length (output profile options (documentOf s d) (eventsOf s d e)) ≡ resultSize profile options (documentOf s d) (eventsOf s d e) =
-      size-of-output profile options (documentOf s d) (eventsOf s d e) 64 (accepted-record options (m .good) (m .none-offends)) in
-      let b : groups ≡ length (outcome profile options (documentOf s d) (eventsOf s d e) .groups) = m .made .made in
+      let a : length (output profile options (documentIn f s d) (eventsIn f s d e)) ≡ resultSize profile options (documentIn f s d) (eventsIn f s d e) =
+      size-of-output profile options (documentIn f s d) (eventsIn f s d e) 64 (accepted-record options (m .good) (m .none-offends)) in
+      let b : groups ≡ length (outcome profile options (documentIn f s d) (eventsIn f s d e) .groups) = m .made .made in
       omega (arith, emptied-same, events-long)

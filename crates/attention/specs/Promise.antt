@@ -3,11 +3,14 @@
 use Prim.Native.Nat.{ℕ}
 use mathlib.Core.List.{List}
 use lib.ListN.{length}
-use Rattle.record.specs.Event.{documentOf, eventsOf}
+use Rattle.record.specs.Handed.{formOf, optionsOf}
+use Rattle.record.specs.Event.{documentIn, eventsIn}
 use Rattle.record.specs.Check.{admitted}
-use Rattle.record.specs.Rows.{documentCount, eventCount}
+use Rattle.record.specs.Rows.{documentCountIn, eventCountIn}
 use Rattle.record.specs.Outcome.{Outcome, accepted, refused, settled, outcome}
 use Rattle.record.specs.declared.event.Event.{Event}
+use Rattle.record.specs.declared.form.Handed.{Handed}
+use Rattle.record.specs.declared.form.Form.{Form}
 use Rattle.record.specs.Promise.{Answered, Writes}
 use Rattle.runs.specs.Rule.{Profile}
 use Rattle.runs.specs.Pieces.{outcome as matching}
@@ -15,9 +18,10 @@ use Rattle.attention.specs.Attention.{attention}
 use Rattle.attention.specs.declared.call.Answer.{Answer}
 use Rattle.attention.specs.declared.call.Answer.the-variants.{Resolved, Refused}
 
--- what a call comes to, of the record, the options and the lengths of the output and of the work memory
-unfoldable pub outcomeOf : Profile → List ℕ → ℕ → ℕ → ℕ → Outcome
-outcomeOf profile s options outs works = outcome (admitted s options works) (λ d e. attention profile options (documentOf s d) (eventsOf s d e)) outs
+-- what a call comes to, of the record as it is handed over and the lengths of the output and of the work memory
+unfoldable pub outcomeOf : Profile → Handed → List ℕ → ℕ → ℕ → Outcome
+outcomeOf profile h s outs works =
+    outcome (formOf h) (admitted h s works) (λ d e. attention profile (optionsOf h s) (documentIn (formOf h) s d) (eventsIn (formOf h) s d e)) outs
 
 -- what it then answers, of the document and the events: the events written, the groups of the plain rule, and "exactly the candidates that
 -- rule counts as tried"
@@ -26,17 +30,20 @@ answerAt profile options doc es (accepted rs) = Resolved (length rs) (length (ma
 answerAt profile options doc es (refused r) = Refused r
 
 -- the same of the record
-abbrev pub answerOf : Profile → List ℕ → ℕ → Outcome → Answer
-answerOf profile s options = answerAt profile options (documentOf s (documentCount s)) (eventsOf s (documentCount s) (eventCount s))
+abbrev pub answerOf : Profile → Handed → List ℕ → Outcome → Answer
+answerOf profile h s =
+    answerAt profile (optionsOf h s) (documentIn (formOf h) s (documentCountIn (formOf h) s))
+    (eventsIn (formOf h) s (documentCountIn (formOf h) s) (eventCountIn (formOf h) s))
 
--- the answer and the output, of a good record with the counts d and e
-abbrev pub Made : Profile → List ℕ → ℕ → ℕ → ℕ → List ℕ → Answer → List ℕ → Type 0
-Made profile s d e options out r out′ =
-    Answered (settled d (attention profile options (documentOf s d) (eventsOf s d e)) (length out)) (answerAt profile options (documentOf s d) (eventsOf s d e)) out r out′
+-- the answer and the output, of a good record of a form, with the counts d and e
+abbrev pub Made : Profile → Form → List ℕ → ℕ → ℕ → ℕ → List ℕ → Answer → List ℕ → Type 0
+Made profile f s d e options out r out′ =
+    Answered f (settled f d (attention profile options (documentIn f s d) (eventsIn f s d e)) (length out))
+    (answerAt profile options (documentIn f s d) (eventsIn f s d e)) out r out′
 
 -- the whole promise, that of every call that writes: r is answered, and out′ and work′ are what the two buffers then hold
-abbrev pub Promise : Profile → List ℕ → ℕ → List ℕ → List ℕ → Answer → List ℕ → List ℕ → Type 0
-Promise profile s options out work r out′ work′ = Writes (outcomeOf profile s options) (answerOf profile s options) out work r out′ work′
+abbrev pub Promise : Profile → Handed → List ℕ → List ℕ → List ℕ → Answer → List ℕ → List ℕ → Type 0
+Promise profile h s out work r out′ work′ = Writes (formOf h) (outcomeOf profile h s) (answerOf profile h s) out work r out′ work′
 
 -- document 01's numbers of an answer: "A refusal returns its number and place, all else zero"
 pub record Numbers : Type 0 where

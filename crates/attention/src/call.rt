@@ -12,11 +12,17 @@ use record::bytes::wipe;
 use record::check::Reading;
 use record::check::Refusal;
 use record::check::admit;
+use record::form::Form;
+use record::form::Handed;
+use record::form::form_of;
+use record::form::options_of;
+use record::form::place_of;
 use record::limits::OPTION_SINGLE_TILDE;
 ghost use mathlib.Core.Path.{_≡_};
 ghost use lib.ListN.{length};
-ghost use Rattle.record.specs.Event.{documentOf, eventsOf};
-ghost use Rattle.record.specs.Good.{GoodRecord};
+ghost use Rattle.record.specs.Event.{documentIn, eventsIn};
+ghost use Rattle.record.specs.Good.{GoodIn};
+ghost use Rattle.record.specs.Handed.{formOf};
 ghost use Rattle.record.specs.Promise.{Answered};
 ghost use Rattle.runs.specs.Rule.{crate};
 ghost use Rattle.slots.specs.Layout.{Room};
@@ -44,6 +50,7 @@ fn refused(number: usize, place: usize) -> Answer
 // The groups are found: numbers 7 and 8, or the section.
 fn finish(
     s: &[u8],
+    form: Form,
     d: usize,
     e: usize,
     options: u32,
@@ -53,10 +60,10 @@ fn finish(
     tried: usize,
     out: &mut [u8],
 ) -> Answer
-    requires { ⌜ Matched crate (now s) d e options n groups tried (now w) ⌝ }
-    ensures { λ r. ⌜ Made crate (now (s .entry)) d e options (now (out .entry)) r (now (out .exit)) ⌝ }
+    requires { ⌜ Matched crate form (now s) d e options n groups tried (now w) ⌝ }
+    ensures { λ r. ⌜ Made crate form (now (s .entry)) d e options (now (out .entry)) r (now (out .exit)) ⌝ }
 {
-    match write_result(s, d, e, options, w, n, groups, tried, out) {
+    match write_result(s, form, d, e, options, w, n, groups, tried, out) {
         Written::Long => {
             return refused(7, 0);
         }
@@ -76,6 +83,7 @@ fn finish(
 // The runs are in their slots: the groups, and the rest.
 fn match_runs(
     s: &[u8],
+    form: Form,
     d: usize,
     e: usize,
     options: u32,
@@ -83,8 +91,8 @@ fn match_runs(
     n: usize,
     out: &mut [u8],
 ) -> Answer
-    requires { ⌜ GoodRecord (now s) d e × Room (now w) × Ready crate (documentOf (now s) d) (eventsOf (now s) d e) options n (now w) ⌝ }
-    ensures { λ r. ⌜ Made crate (now (s .entry)) d e options (now (out .entry)) r (now (out .exit)) ⌝ }
+    requires { ⌜ GoodIn form (now s) d e × Room (now w) × Ready crate (documentIn form (now s) d) (eventsIn form (now s) d e) options n (now w) ⌝ }
+    ensures { λ r. ⌜ Made crate form (now (s .entry)) d e options (now (out .entry)) r (now (out .exit)) ⌝ }
 {
     let single = option_on(options, OPTION_SINGLE_TILDE);
     clear_heads(w);
@@ -93,46 +101,56 @@ fn match_runs(
             return refused(7, 0);
         }
         Found::Groups { groups, tried } => {
-            return finish(s, d, e, options, w, n, groups, tried, out);
+            return finish(s, form, d, e, options, w, n, groups, tried, out);
         }
     }
 }
 
-// Numbers 6 to 8, or the section: of a good record with these two counts.
-fn resolve_good(s: &[u8], d: usize, e: usize, options: u32, w: &mut [u8], out: &mut [u8]) -> Answer
-    requires { ⌜ GoodRecord (now s) d e × Room (now w) ⌝ }
-    ensures { λ r. ⌜ Made crate (now (s .entry)) d e options (now (out .entry)) r (now (out .exit)) ⌝ }
+// Numbers 6 to 8, or the section: of a good record of a form, with these two counts.
+fn resolve_good(
+    s: &[u8],
+    form: Form,
+    d: usize,
+    e: usize,
+    options: u32,
+    w: &mut [u8],
+    out: &mut [u8],
+) -> Answer
+    requires { ⌜ GoodIn form (now s) d e × Room (now w) ⌝ }
+    ensures { λ r. ⌜ Made crate form (now (s .entry)) d e options (now (out .entry)) r (now (out .exit)) ⌝ }
 {
-    match load(s, d, e, options, w) {
+    match load(s, form, d, e, options, w) {
         Loaded::Offends(k) => {
-            return refused(6, 8 + d + 8 * k);
+            return refused(6, place_of(form, d, k));
         }
         Loaded::Runs(n) => {
-            return match_runs(s, d, e, options, w, n, out);
+            return match_runs(s, form, d, e, options, w, n, out);
         }
     }
 }
 
 // The answer and the output; work memory is left in any state.
-fn answer_attention(s: &[u8], options: u32, out: &mut [u8], work: &mut [u8]) -> Answer
-    ensures { λ r. ⌜ Answered (outcomeOf crate (now (s .entry)) options (length (now (out .entry))) (length (now (work .entry)))) (answerOf crate (now (s .entry)) options) (now (out .entry)) r (now (out .exit)) ⌝ }
+fn answer_attention(handed: Handed, s: &[u8], out: &mut [u8], work: &mut [u8]) -> Answer
+    ensures { λ r. ⌜ Answered (formOf handed) (outcomeOf crate handed (now (s .entry)) (length (now (out .entry))) (length (now (work .entry)))) (answerOf crate handed (now (s .entry))) (now (out .entry)) r (now (out .exit)) ⌝ }
 {
-    match admit(s, options, work.len()) {
+    match admit(handed, s, work.len()) {
         Reading::Refused(refusal) => {
             return Answer::Refused(refusal);
         }
         Reading::Good { document, events } => {
-            return resolve_good(s, document, events, options, work, out);
+            let form = form_of(handed);
+            let options = options_of(handed, s);
+            return resolve_good(s, form, document, events, options, work, out);
         }
     }
 }
 
 // Resolves the attention runs of a record into an output; the whole of the work memory is zero afterwards, whatever it held and whatever is
 // answered.
-pub fn resolve_attention(s: &[u8], options: u32, out: &mut [u8], work: &mut [u8]) -> Answer
-    ensures { λ r. ⌜ Promise crate (now (s .entry)) options (now (out .entry)) (now (work .entry)) r (now (out .exit)) (now (work .exit)) ⌝ }
+pub fn resolve_attention(handed: Handed, s: &[u8], out: &mut [u8], work: &mut [u8]) -> Answer
+    ensures { λ r. ⌜ Promise crate handed (now (s .entry)) (now (out .entry)) (now (work .entry)) r (now (out .exit)) (now (work .exit)) ⌝ }
 {
-    let found = answer_attention(s, options, out, work);
+    let found = answer_attention(handed, s, out, work);
     wipe(work);
     found
 }

@@ -1,6 +1,8 @@
 // The end of a call, once the groups are found: how many events come out, whether they fit, and the section written.
 
+use partners::finish;
 use record::bytes::put_u32;
+use record::form::Form;
 use record::limits::MAX_RESULT;
 use slots::layout::left;
 use writing::write_events;
@@ -36,6 +38,7 @@ pub fn count_emptied(w: &[u8], n: usize) -> usize
 // Numbers 7 and 8, or the section.
 pub fn write_result(
     s: &[u8],
+    form: Form,
     d: usize,
     e: usize,
     options: u32,
@@ -45,18 +48,20 @@ pub fn write_result(
     tried: usize,
     out: &mut [u8],
 ) -> Written
-    requires { ⌜ Matched crate (now s) d e options n groups tried (now w) ⌝ }
-    ensures { λ r. ⌜ Ended crate (now (s .entry)) d e options (now (out .entry)) r (now (out .exit)) ⌝ }
+    requires { ⌜ Matched crate form (now s) d e options n groups tried (now w) ⌝ }
+    ensures { λ r. ⌜ Ended crate form (now (s .entry)) d e options (now (out .entry)) r (now (out .exit)) ⌝ }
 {
     let emptied = count_emptied(w, n);
     let size = e - 2 * emptied + 8 * groups;
     if size > MAX_RESULT {
         return Written::Long;
     }
-    if out.len() < 4 + 8 * size {
+    let width = form.width;
+    if out.len() < 4 + width * size {
         return Written::Short;
     }
     put_u32(out, 0, size);
-    write_events(out, s, d, e, w, groups, n);
+    write_events(out, s, form, d, e, w, groups, n);
+    finish(out, form, d, size);
     Written::Events(size)
 }

@@ -12,6 +12,7 @@ use lib.Dec.{ltb}
 use borrow.Author.Tests.{ltb-true, ltb-false}
 use Rattle.record.specs.Choice.{choose}
 use Rattle.record.specs.Order.{rank, Least}
+use Rattle.record.specs.Form.{old}
 use Rattle.record.specs.Outcome.{sized, accepted, refusing}
 use Rattle.record.specs.declared.check.Refusal.{Refusal}
 use Rattle.record.proofs.Order.{lower-first}
@@ -75,7 +76,7 @@ module _ (s : List ℕ) (options column outs : ℕ) where
         room h n p (row-8 i w a b) = omega arith
 
       came-sized : Came (WritingRow s options column outs) HeadedRefused (Heading (length (headingEvents (lineOf s))))
-          (headed (sized (headingEvents (lineOf s)) outs) .answer)
+          (headed (sized old (headingEvents (lineOf s)) outs) .answer)
       unfolding sized choose
       came-sized = go (ltb 8000 (length (headingEvents (lineOf s)))) refl (ltb outs (4 + 8 * length (headingEvents (lineOf s)))) refl
         where
@@ -92,7 +93,7 @@ module _ (s : List ℕ) (options column outs : ℕ) where
       where
         go : (z : Bool) → isHeading (lineOf s) options column ≡ z →
             Came (WritingRow s options column outs) HeadedRefused (choose z (Heading (length (headingEvents (lineOf s)))) NotHeading)
-            (choose z (headed (sized (headingEvents (lineOf s)) outs)) (nothing NotHeading) .answer)
+            (choose z (headed (sized old (headingEvents (lineOf s)) outs)) (nothing NotHeading) .answer)
         go true e = came-sized e
         go false e = no-row refl (no-heading e)
 

@@ -9,6 +9,7 @@ use lib.Dec.{leb}
 use Rattle.record.specs.Choice.{choose, and}
 use Rattle.record.specs.Options.{optionOn}
 use Rattle.record.specs.Event.{enter, exit, sectionBytes}
+use Rattle.record.specs.Form.{old}
 use Rattle.record.specs.Outcome.{Outcome, accepted, refused, sized}
 use Rattle.record.specs.declared.event.Event.{Event}
 use Rattle.scan.specs.Run.{or, spaceOrTab, filled, hash, leading, first, blanks}
@@ -93,7 +94,7 @@ headed (refused r) = nothing (Refused r)
 
 -- on a line, with an output of `outs` bytes: numbers 7 and 8 as for every call that writes a section
 unfoldable pub headedIn : List ℕ → ℕ → ℕ → ℕ → Result
-headedIn l options column outs = choose (isHeading l options column) (headed (sized (headingEvents l) outs)) (nothing NotHeading)
+headedIn l options column outs = choose (isHeading l options column) (headed (sized old (headingEvents l) outs)) (nothing NotHeading)
 
 -- of the line, the options, the column and the output's length alone
 unfoldable pub headedOf : List ℕ → ℕ → ℕ → ℕ → Result

@@ -146,8 +146,8 @@ fn explain_heading(section: &[u8], events: usize, k: usize)
         return;
     }
     let inside = 12 + 8 * k;
-    let n = before_first(section, inside, events - k - 1, Sought::HeadingExit);
-    if !is_headed(section, inside, n) {
+    let n = before_first(section, inside, 8, events - k - 1, Sought::HeadingExit);
+    if !is_headed(section, inside, 8, n) {
         because(b"the heading does not begin with its # run");
         return;
     }

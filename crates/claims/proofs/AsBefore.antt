@@ -13,10 +13,12 @@ use borrow.Author.Tests.{ltb-true, ltb-false, lt-leb, leb-true, leb-false, ne-eq
 use Rattle.record.specs.Choice.{choose}
 use Rattle.record.specs.Options.{optionOn}
 use Rattle.record.specs.Check.{admitted}
-use Rattle.record.specs.Event.{documentOf, eventsOf}
+use Rattle.record.specs.Handed.{optionsOf}
+use Rattle.record.specs.Event.{documentIn, eventsIn}
 use Rattle.record.specs.Outcome.{Outcome, accepted, refused, outcome}
 use Rattle.record.specs.Stack.{after}
 use Rattle.record.specs.declared.event.Event.{Event}
+use Rattle.record.specs.declared.form.Handed.{Handed}
 use Rattle.record.specs.declared.check.Reading.{Reading}
 use Rattle.record.specs.declared.check.Reading.the-variants.{Good, Refused}
 use Rattle.record.proofs.Exactly.{exactly}
@@ -129,28 +131,28 @@ module _ (doc : List ℕ) (a : Ascii doc) where
     attention-as-before es = rw (matching-as-before es)
 
 -- what a call comes to: the check is the same, and a good record's document is its own
-comes-as-before : (profile : Profile) (s : List ℕ) (options outs works : ℕ) → Ascii (docOf s) →
-    outcomeOf profile s options outs works ≡ comesBefore profile s options outs works
+comes-as-before : (profile : Profile) (h : Handed) (s : List ℕ) (outs works : ℕ) → Ascii (docOf h s) →
+    outcomeOf profile h s outs works ≡ comesBefore profile h s outs works
 unfolding outcomeOf
-comes-as-before profile s options outs works a = go (admitted s options works) refl
+comes-as-before profile h s outs works a = go (admitted h s works) refl
   where
-    go : (r : Reading) → admitted s options works ≡ r → outcomeOf profile s options outs works ≡ comesBefore profile s options outs works
+    go : (r : Reading) → admitted h s works ≡ r → outcomeOf profile h s outs works ≡ comesBefore profile h s outs works
     go (Refused r) e = rw e
     go (Good d n) e =
-        let g = exactly s options works .good d n e in
-        rw (e, g .0, g .1, attention-as-before (docOf s) a profile options (allEvents s))
+        let g = exactly h s works .good d n e in
+        rw (e, g .0, g .1, attention-as-before (docOf h s) a profile (optionsOf h s) (allEvents h s))
 
-answers-alike : (profile : Profile) (s : List ℕ) (options : ℕ) → Ascii (docOf s) → (o : Outcome) →
-    larkAttention (answerOf profile s options o) ≡ larkAttention (answerBefore (matchingBefore profile options (docOf s) (allEvents s)) o)
-answers-alike profile s options a (accepted rs) = rw (matching-as-before (docOf s) a profile options (allEvents s))
-answers-alike profile s options a (refused r) = refl
+answers-alike : (profile : Profile) (h : Handed) (s : List ℕ) → Ascii (docOf h s) → (o : Outcome) →
+    larkAttention (answerOf profile h s o) ≡ larkAttention (answerBefore (matchingBefore profile (optionsOf h s) (docOf h s) (allEvents h s)) o)
+answers-alike profile h s a (accepted rs) = rw (matching-as-before (docOf h s) a profile (optionsOf h s) (allEvents h s))
+answers-alike profile h s a (refused r) = refl
 
 pub answers-as-before : AnswersAsBefore
-answers-as-before profile s options out work r out′ work′ a =
-    let here = outcomeOf profile s options (length out) (length work) in
-    let before = comesBefore profile s options (length out) (length work) in
-    let c : here ≡ before = comes-as-before profile s options (length out) (length work) a in
-    let f = answers-alike profile s options a in (
+answers-as-before profile h s out work r out′ work′ a =
+    let here = outcomeOf profile h s (length out) (length work) in
+    let before = comesBefore profile h s (length out) (length work) in
+    let c : here ≡ before = comes-as-before profile h s (length out) (length work) a in
+    let f = answers-alike profile h s a in (
       λ p. record { answer = p .answer ∙ f here ∙ rw c; output = p .output ∙ rw c; wiped = p .wiped },
       λ p. record { answer = p .answer ∙ sym (f before) ∙ rw c; output = p .output ∙ rw c; wiped = p .wiped },
     )

@@ -13,6 +13,7 @@ use Rattle.record.proofs.Sections.{length-section}
 use Rattle.record.specs.Event.{sectionBytes}
 use Rattle.record.specs.declared.event.Event.{Event}
 use Rattle.record.specs.Choice.{choose, and}
+use Rattle.record.specs.Form.{old}
 use Rattle.record.specs.Outcome.{Outcome, accepted, refused, refusing, sized, onto}
 use Rattle.record.specs.declared.check.Refusal.{Refusal}
 use Rattle.scan.specs.Line.{lineOf, refusal, checkedLine, reading}
@@ -264,8 +265,8 @@ silent : (s : List ℕ) (options column outs : ℕ) → Silent (headedOf s optio
 unfolding headedOf headedIn
 silent s options column outs =
     silent-reading (checkedLine s options column)
-    (choose (isHeading (lineOf s) options column) (headed (sized (headingEvents (lineOf s)) outs)) (nothing NotHeading))
-    (silent-choice (isHeading (lineOf s) options column) (sized (headingEvents (lineOf s)) outs))
+    (choose (isHeading (lineOf s) options column) (headed (sized old (headingEvents (lineOf s)) outs)) (nothing NotHeading))
+    (silent-choice (isHeading (lineOf s) options column) (sized old (headingEvents (lineOf s)) outs))
 
 -- what is answered where a heading is found, or none is, comes with what is written then
 abbrev GoesWith : List Event → Bool → Result → Type 0
@@ -277,7 +278,7 @@ with-sized es true short q = let z : _≡_ {A = ℕ} 0 1 = cc in absurd (omega a
 with-sized es false true q = let z : _≡_ {A = ℕ} 0 1 = cc in absurd (omega arith)
 with-sized es false false q = refl
 
-with-choice : (es : List Event) (outs : ℕ) (z : Bool) → GoesWith es z (choose z (headed (sized es outs)) (nothing NotHeading))
+with-choice : (es : List Event) (outs : ℕ) (z : Bool) → GoesWith es z (choose z (headed (sized old es outs)) (nothing NotHeading))
 unfolding choose sized
 with-choice es outs true q = with-sized es (ltb 8000 (length es)) (ltb outs (4 + 8 * length es)) q
 with-choice es outs false q = refl
@@ -292,7 +293,7 @@ goes-with : (s : List ℕ) (options column outs : ℕ) → GoesWith (headingEven
 unfolding headedOf headedIn
 goes-with s options column outs =
     with-reading (checkedLine s options column) (headingEvents (lineOf s)) (isHeading (lineOf s) options column)
-    (choose (isHeading (lineOf s) options column) (headed (sized (headingEvents (lineOf s)) outs)) (nothing NotHeading))
+    (choose (isHeading (lineOf s) options column) (headed (sized old (headingEvents (lineOf s)) outs)) (nothing NotHeading))
     (with-choice (headingEvents (lineOf s)) outs (isHeading (lineOf s) options column))
 
 -- what is written fits
@@ -302,7 +303,7 @@ unfolding choose
 within-choice true a b outs f g = g
 within-choice false a b outs f g = f refl
 
-within-sized : (es : List Event) (outs : ℕ) → length (headed (sized es outs) .bytes) ≤ outs
+within-sized : (es : List Event) (outs : ℕ) → length (headed (sized old es outs) .bytes) ≤ outs
 unfolding sized
 within-sized es outs =
     within-choice (ltb 8000 (length es)) _ _ outs
@@ -323,8 +324,8 @@ within : (s : List ℕ) (options column outs : ℕ) → length (headedOf s optio
 unfolding headedOf headedIn
 within s options column outs =
     within-reading (checkedLine s options column)
-    (choose (isHeading (lineOf s) options column) (headed (sized (headingEvents (lineOf s)) outs)) (nothing NotHeading)) outs
-    (within-line (isHeading (lineOf s) options column) (sized (headingEvents (lineOf s)) outs) outs (within-sized (headingEvents (lineOf s)) outs))
+    (choose (isHeading (lineOf s) options column) (headed (sized old (headingEvents (lineOf s)) outs)) (nothing NotHeading)) outs
+    (within-line (isHeading (lineOf s) options column) (sized old (headingEvents (lineOf s)) outs) outs (within-sized (headingEvents (lineOf s)) outs))
 
 pub heading-claim : (s : List ℕ) (options column : ℕ) → HeadingClaim s options column
 heading-claim s options column =

@@ -6,11 +6,13 @@ use mathlib.Core.Path.{_≡_, refl, sym, ap, _∙_}
 use mathlib.Core.List.{List}
 use mathlib.Core.Option.{Option, none, some}
 use lib.ListN.{length}
-use Rattle.record.specs.Event.{sectionBytes}
+use Rattle.record.specs.Handed.{formOf, optionsOf}
+use Rattle.record.specs.Partners.{sectionIn}
 use Rattle.record.specs.Written.{by-check, row-7}
 use Rattle.record.proofs.Exactly.{exactly}
 use Rattle.record.specs.Outcome.{gives, onto}
 use Rattle.record.specs.declared.event.Event.{Event}
+use Rattle.record.specs.declared.form.Handed.{Handed}
 use Rattle.runs.specs.Runs.{offender}
 use Rattle.runs.specs.Rule.{Rule, Profile}
 use Rattle.runs.specs.Plain.{Standing, plain}
@@ -44,50 +46,50 @@ none-offended none all es q = refl
 none-offended (some j) all es q = let z : _≡_ {A = ℕ} 0 1 = cc in absurd (omega arith)
 
 -- what attention makes of a record is the output
-pub made-output : (profile : Profile) (s : List ℕ) (options : ℕ) (es : List Event) → attention profile options (docOf s) (allEvents s) ≡ gives es → es ≡ output profile options (docOf s) (allEvents s)
+pub made-output : (profile : Profile) (h : Handed) (s : List ℕ) (es : List Event) → attention profile (optionsOf h s) (docOf h s) (allEvents h s) ≡ gives es → es ≡ output profile (optionsOf h s) (docOf h s) (allEvents h s)
 unfolding attention
-made-output profile s options es q = the-output (offender (docOf s) options (allEvents s)) (output profile options (docOf s) (allEvents s)) es q
+made-output profile h s es q = the-output (offender (docOf h s) (optionsOf h s) (allEvents h s)) (output profile (optionsOf h s) (docOf h s) (allEvents h s)) es q
 
 pub accepted-as-the-plain-rule : AcceptedAsThePlainRule
 unfolding attention
-accepted-as-the-plain-rule profile s options out work r out′ work′ p z =
-    let a = attention-claim profile s options .accepts out work r out′ work′ p z in
-    let none = attention-claim profile s options .exactly out work r out′ work′ p .none-holds z in
-    let good = no-row-sound s options (length work) (λ n q x. none n q (by-check x)) in
-    let same = made-output profile s options (a .events) (a .made-so) in
+accepted-as-the-plain-rule profile h s out work r out′ work′ p z =
+    let a = attention-claim profile h s .accepts out work r out′ work′ p z in
+    let none = attention-claim profile h s .exactly out work r out′ work′ p .none-holds z in
+    let good = no-row-sound h s (length work) (λ n q x. none n q (by-check x)) in
+    let same = made-output profile h s (a .events) (a .made-so) in
     record {
       record-good =
           record {
             events = rw (good .0) (good .1);
-            shapes = none-offended (offender (docOf s) options (allEvents s)) (output profile options (docOf s) (allEvents s)) (a .events) (a .made-so);
+            shapes = none-offended (offender (docOf h s) (optionsOf h s) (allEvents h s)) (output profile (optionsOf h s) (docOf h s) (allEvents h s)) (a .events) (a .made-so);
           };
       groups = ap (λ (y : LarkResolved). y .groups) (a .answer);
       tried = ap (λ (y : LarkResolved). y .tried) (a .answer);
       events = ap (λ (y : LarkResolved). y .events) (a .answer) ∙ ap (λ (l : List Event). length l) same;
-      written = a .written ∙ ap (λ (l : List Event). onto (sectionBytes l) out) same;
+      written = a .written ∙ ap (λ (l : List Event). onto (sectionIn (formOf h) l) out) same;
     }
 
 pub accepted-nests : AcceptedNests
-accepted-nests profile s options out work r out′ work′ a z =
-    let good = accepted-as-the-plain-rule profile s options out work r out′ work′ a z .record-good in
+accepted-nests profile h s out work r out′ work′ a z =
+    let good = accepted-as-the-plain-rule profile h s out work r out′ work′ a z .record-good in
     record {
-      groups-never-cross = groups.groups-never-cross profile options (docOf s) (allEvents s) 64 (length (docOf s)) (good .events);
-      containers-never-crossed = groups.containers-never-crossed profile options (docOf s) (allEvents s) 64 (length (docOf s)) (good .events);
-      container-is-one = groups.container-is-one profile options (docOf s) (allEvents s);
-      each-held = groups.each-held profile options (docOf s) (allEvents s) 64 (length (docOf s)) (good .events);
-      each-marker-once = pieces.each-marker-once profile options (docOf s) (allEvents s) 64 good;
-      only-markers = pieces.only-markers profile options (docOf s) (allEvents s);
+      groups-never-cross = groups.groups-never-cross profile (optionsOf h s) (docOf h s) (allEvents h s) 64 (length (docOf h s)) (good .events);
+      containers-never-crossed = groups.containers-never-crossed profile (optionsOf h s) (docOf h s) (allEvents h s) 64 (length (docOf h s)) (good .events);
+      container-is-one = groups.container-is-one profile (optionsOf h s) (docOf h s) (allEvents h s);
+      each-held = groups.each-held profile (optionsOf h s) (docOf h s) (allEvents h s) 64 (length (docOf h s)) (good .events);
+      each-marker-once = pieces.each-marker-once profile (optionsOf h s) (docOf h s) (allEvents h s) 64 good;
+      only-markers = pieces.only-markers profile (optionsOf h s) (docOf h s) (allEvents h s);
     }
 
 pub groups-are-the-plain-rule's : GroupsAreThePlainRule's
 groups-are-the-plain-rule's rule w n made tried w′ a = (a .along, λ rs f. let x = a .of rs f in (x .made, x .count, x .grouped))
 
 pub accepted-begins : AcceptedBegins
-accepted-begins profile s options n w w₁ w₂ room l c = let same = l .same-length in begins (omega arith) (l .runs n refl) c
+accepted-begins profile h s n w w₁ w₂ room l c = let same = l .same-length in begins (omega arith) (l .runs n refl) c
 
 pub accepted-groups : AcceptedGroups
 unfolding outcome
-accepted-groups profile s options n made tried w w′ f a = groups-are-the-plain-rule's (profile .rule options) w n made tried w′ a .1 (begin profile options (docOf s) (allEvents s)) f
+accepted-groups profile h s n made tried w w′ f a = groups-are-the-plain-rule's (profile .rule (optionsOf h s)) w n made tried w′ a .1 (begin profile (optionsOf h s) (docOf h s) (allEvents h s)) f
 
 -- more than 1,000 groups make a result that is too long
 too-many : (rule : Rule) (rs : List Standing) (n : ℕ) (found : Found) (w : List ℕ) → found ≡ TooMany → Answered rule rs n found w →
@@ -97,15 +99,15 @@ too-many rule rs n TooMany w q a = a
 
 pub accepted-has-room : AcceptedHasRoom
 unfolding outcome
-accepted-has-room profile s options out work r out′ work′ p z n found w w′ f a q =
-    let many = too-many (profile .rule options) (begin profile options (docOf s) (allEvents s)) n found w′ q (a .of (begin profile options (docOf s) (allEvents s)) f) in
-    let long = many-groups-too-long profile options (docOf s) (allEvents s) many in
-    let x = attention-claim profile s options .accepts out work r out′ work′ p z in
-    let none = attention-claim profile s options .exactly out work r out′ work′ p .none-holds z in
+accepted-has-room profile h s out work r out′ work′ p z n found w w′ f a q =
+    let many = too-many (profile .rule (optionsOf h s)) (begin profile (optionsOf h s) (docOf h s) (allEvents h s)) n found w′ q (a .of (begin profile (optionsOf h s) (docOf h s) (allEvents h s)) f) in
+    let long = many-groups-too-long profile (optionsOf h s) (docOf h s) (allEvents h s) many in
+    let x = attention-claim profile h s .accepts out work r out′ work′ p z in
+    let none = attention-claim profile h s .exactly out work r out′ work′ p .none-holds z in
     let few : length (x .events) ≤ 8000 = at-most (length (x .events)) 8000 (λ h. none 7 0 (row-7 (x .events) (x .made-so) h refl refl)) in
-    let same : length (x .events) ≡ length (output profile options (docOf s) (allEvents s)) = ap length (made-output profile s options (x .events) (x .made-so)) in
-    let good = accepted-as-the-plain-rule profile s options out work r out′ work′ p z .record-good in
-    let size = size-of-output profile options (docOf s) (allEvents s) 64 good in
+    let same : length (x .events) ≡ length (output profile (optionsOf h s) (docOf h s) (allEvents h s)) = ap length (made-output profile h s (x .events) (x .made-so)) in
+    let good = accepted-as-the-plain-rule profile h s out work r out′ work′ p z .record-good in
+    let size = size-of-output profile (optionsOf h s) (docOf h s) (allEvents h s) 64 good in
     omega arith
 
 pub stands-by-the-plain-rule : StandsByThePlainRule

@@ -11,16 +11,18 @@ use Rattle.record.specs.Form.{old}
 use Rattle.record.specs.Good.{GoodRecord}
 use Rattle.record.specs.Choice.{choose}
 use Rattle.record.specs.Bytes.{u32At, u32Bytes}
-use Rattle.record.specs.Event.{sectionBytes, sectionAt, recordBytes, documentOf, eventsOf}
-use Rattle.record.specs.Rows.{Row, documentCount, eventCount}
+use Rattle.record.specs.Event.{sectionBytes, sectionAt, recordBytes, documentIn, eventsIn}
+use Rattle.record.specs.Rows.{Row, documentCountIn, eventCountIn}
 use Rattle.record.specs.Sound.{sound}
 use Rattle.record.specs.ReadsBack.{SectionThere, Holdable, AreBytes}
 use Rattle.record.specs.Written.{WrittenRow, by-check, row-7}
 use Rattle.record.specs.Outcome.{Resolution, gives, onto}
+use Rattle.record.specs.Partners.{sectionIn}
 use Rattle.record.specs.declared.event.Event.{Event}
+use Rattle.record.specs.declared.form.Handed.the-variants.{Old}
 use Rattle.record.proofs.Exactly.{exactly}
-use Rattle.record.proofs.Good.{good-record, admission}
-use Rattle.record.proofs.Whole.{record-checked}
+use Rattle.record.proofs.Good.{old-known, good-record, admission}
+use Rattle.record.proofs.Whole.{options-known, enough-work}
 use Rattle.record.proofs.Parts.{length-document}
 use Rattle.record.proofs.Sections.{length-section}
 use Rattle.record.proofs.ReadsBack.{section-reads-back, sound-storable}
@@ -55,80 +57,86 @@ section-there es out out′ n deep d q h w =
 again : (document : List ℕ) (es : List Event) → Holdable document es → ReadAgain document es
 again document es h =
     let t = record-reads-back document es h in
-    let g : GoodRecord (recordBytes document es) (length document) (length es) = good-record old (recordBytes document es) (length document) (length es) (t .good) in
-    let d : documentCount (recordBytes document es) ≡ length document = g .document-count in
-    let e : eventCount (recordBytes document es) ≡ length es = rw (sym d) at (g .event-count) in
+    let g : GoodRecord (recordBytes document es) (length document) (length es) = good-record old (recordBytes document es) (length document) (length es) old-known (t .good) in
+    let d : documentCountIn old (recordBytes document es) ≡ length document = g .document-count in
+    let e : eventCountIn old (recordBytes document es) ≡ length es = rw (sym d) at (g .event-count) in
     record {
       accepted = λ options work r work′ ho hw a.
-          a .answer ∙ ap larkReading (sym (record-checked (recordBytes document es) options (length work) hw ho) ∙ t .good);
-      its-document = ap (λ (n : ℕ). documentOf (recordBytes document es) n) d ∙ t .its-document;
+          a .answer ∙ ap larkReading (sym (enough-work (Old options) (recordBytes document es) (length work) hw) ∙ sym (options-known (recordBytes document es) _ options ho) ∙ t .good);
+      its-document = ap (λ (n : ℕ). documentIn old (recordBytes document es) n) d ∙ t .its-document;
       its-events =
-          ap (λ (n : ℕ). eventsOf (recordBytes document es) n (eventCount (recordBytes document es))) d
-          ∙ ap (λ (n : ℕ). eventsOf (recordBytes document es) (length document) n) e
+          ap (λ (n : ℕ). eventsIn old (recordBytes document es) n (eventCountIn old (recordBytes document es))) d
+          ∙ ap (λ (n : ℕ). eventsIn old (recordBytes document es) (length document) n) e
           ∙ t .its-events;
     }
 
 -- a record that no row refuses
-unrefused-good : (s : List ℕ) (options works : ℕ) → ((n p : ℕ) → Row s options works n p → ⊥) → GoodRecord s (documentCount s) (eventCount s)
-unrefused-good s options works none = admission s options works (documentCount s) (eventCount s) (exactly s options works .accepted none) .good
+unrefused-good : (s : List ℕ) (options works : ℕ) → ((n p : ℕ) → Row (Old options) s works n p → ⊥) → GoodRecord s (documentCountIn old s) (eventCountIn old s)
+unrefused-good s options works none = admission (Old options) s works (documentCountIn old s) (eventCountIn old s) (exactly (Old options) s works .accepted none) .good
 
 -- the front of the record and the section of the output, as they stand
 in-memory : (s : List ℕ) (d : ℕ) (es : List Event) (out out′ : List ℕ) (n : ℕ) → AreBytes s → u32At s 0 ≡ d → 4 + d ≤ length s → n ≡ length es →
-    out′ ≡ onto (sectionBytes es) out → take (4 + d) s ++ take (4 + 8 * n) out′ ≡ recordBytes (documentOf s d) es
+    out′ ≡ onto (sectionBytes es) out → take (4 + d) s ++ take (4 + 8 * n) out′ ≡ recordBytes (documentIn old s d) es
 unfolding recordBytes
 in-memory s d es out out′ n b c h e w =
-    let long : length (documentOf s d) ≡ d = length-document s d h in
-    let front : take (4 + d) s ≡ u32Bytes d ++ documentOf s d =
+    let long : length (documentIn old s d) ≡ d = length-document old s d h in
+    let front : take (4 + d) s ≡ u32Bytes d ++ documentIn old s d =
     ap (λ (l : List ℕ). take (4 + d) l) (front-rewritten s d b h c)
-    ∙ take-at (u32Bytes d ++ documentOf s d) (drop (4 + d) s) (4 + d) (omega (arith, length-append (u32Bytes d) (documentOf s d))) in
+    ∙ take-at (u32Bytes d ++ documentIn old s d) (drop (4 + d) s) (4 + d) (omega (arith, length-append (u32Bytes d) (documentIn old s d))) in
     let size : 4 + 8 * n ≡ length (sectionBytes es) = omega (arith, length-section es) in
     let behind : take (4 + 8 * n) out′ ≡ sectionBytes es = ap (λ (m : ℕ). take m out′) size ∙ seam (sectionBytes es) out out′ w .0 in
     ap (λ (l : List ℕ). l ++ take (4 + 8 * n) out′) front
-    ∙ ap (λ (l : List ℕ). (u32Bytes d ++ documentOf s d) ++ l) behind
-    ∙ ap (λ (m : ℕ). u32Bytes m ++ (documentOf s d ++ sectionBytes es)) (sym long)
+    ∙ ap (λ (l : List ℕ). (u32Bytes d ++ documentIn old s d) ++ l) behind
+    ∙ ap (λ (m : ℕ). u32Bytes m ++ (documentIn old s d ++ sectionBytes es)) (sym long)
+
+-- what is written of a record in the old form is a section of eight bytes to an event
+old-written : {made : Resolution} {groups tried : ℕ} {out : List ℕ} {r : LarkResolved} {out′ : List ℕ} (a : Accepts old made groups tried out r out′) →
+    out′ ≡ onto (sectionBytes (a .events)) out
+unfolding sectionIn choose
+old-written a = a .written
 
 -- the three resolvers, once: a sound section is written over a record that no row refuses
 resolved-back : {made : Resolution} {groups tried options works outs : ℕ} {Offends : ℕ → Type 0} (s out : List ℕ) (r : LarkResolved) (out′ : List ℕ) (deep : ℕ)
-    (a : Accepts made groups tried out r out′) → ((n p : ℕ) → WrittenRow s options works Offends made outs n p → ⊥) →
-    sound deep (documentCount s) (a .events) ≡ true → ResolvedReadsBack made s r out′
+    (a : Accepts old made groups tried out r out′) → ((n p : ℕ) → WrittenRow (Old options) s works Offends made outs n p → ⊥) →
+    sound deep (documentCountIn old s) (a .events) ≡ true → ResolvedReadsBack made s r out′
 resolved-back {options = options} {works = works} s out r out′ deep a none q =
-    let g : GoodRecord s (documentCount s) (eventCount s) = unrefused-good s options works (λ n p x. none n p (by-check x)) in
-    let small : documentCount s ≤ 16384 = g .small in
-    let whole : length s ≡ 8 + documentCount s + 8 * eventCount s = g .whole in
+    let g : GoodRecord s (documentCountIn old s) (eventCountIn old s) = unrefused-good s options works (λ n p x. none n p (by-check x)) in
+    let small : documentCountIn old s ≤ 16384 = g .small in
+    let whole : length s ≡ 8 + documentCountIn old s + 8 * eventCountIn old s = g .whole in
     let few : length (a .events) ≤ 8000 = at-most (length (a .events)) 8000 (λ h. none 7 0 (row-7 (a .events) (a .made-so) h refl refl)) in
-    let long : length (docOf s) ≡ documentCount s = length-document s (documentCount s) (omega arith) in
-    let t = section-there (a .events) out out′ (omega arith) deep (documentCount s) q (omega arith) (a .written) in
+    let long : length (docOf (Old options) s) ≡ documentCountIn old s = length-document old s (documentCountIn old s) (omega arith) in
+    let t = section-there (a .events) out out′ (omega arith) deep (documentCountIn old s) q (omega arith) (old-written a) in
     let same : sectionAt out′ 0 ≡ a .events = t .all in
     let count : r .events ≡ length (a .events) = ap (λ (x : LarkResolved). x .events) (a .answer) in
-    let holds = good-holdable s (documentCount s) (eventCount s) g in
+    let holds = good-holdable s (documentCountIn old s) (eventCountIn old s) g in
     record {
       events = a .made-so ∙ ap gives (sym same);
       count = t .count ∙ sym count;
-      in-memory = λ b. rw same (in-memory s (documentCount s) (a .events) out out′ (r .events) b (g .document-count) (omega arith) count (a .written));
+      in-memory = λ b. rw same (in-memory s (documentCountIn old s) (a .events) out out′ (r .events) b (g .document-count) (omega arith) count (old-written a));
       again = λ few depth.
-          again (docOf s) (sectionAt out′ 0)
+          again (docOf (Old options) s) (sectionAt out′ 0)
           (record {
             small = holds .small;
             no-return = holds .no-return;
             few = rw (same, ← count) few;
-            sound-events = rw (same, long) (sound-shallow 64 deep (documentCount s) (a .events) q (rw same at depth));
+            sound-events = rw (same, long) (sound-shallow 64 deep (documentCountIn old s) (a .events) q (rw same at depth));
           });
     }
 
 pub attention-reads-back : AttentionReadsBack
 attention-reads-back profile s options out work r out′ work′ p z =
-    let n = accepted-attention profile s options out work r out′ work′ p z in
-    resolved-back s out r out′ (length (n .accepted .events)) (n .accepted) (attention-claim profile s options .exactly out work r out′ work′ p .none-holds z) (n .nests)
+    let n = accepted-attention profile (Old options) s out work r out′ work′ p z in
+    resolved-back {options = options} s out r out′ (length (n .accepted .events)) (n .accepted) (attention-claim profile (Old options) s .exactly out work r out′ work′ p .none-holds z) (n .nests)
 
 pub headings-read-back : HeadingsReadBack
 headings-read-back s options out work r out′ work′ p z =
-    let n = accepted-headings s options out work r out′ work′ p z in
-    resolved-back s out r out′ 65 (n .accepted) (headings-claim s options .exactly out work r out′ work′ p .none-holds z) (n .nests)
+    let n = accepted-headings (Old options) s out work r out′ work′ p z in
+    resolved-back {options = options} s out r out′ 65 (n .accepted) (headings-claim (Old options) s .exactly out work r out′ work′ p .none-holds z) (n .nests)
 
 pub lists-read-back : ListsReadBack
 lists-read-back s options out work r out′ work′ p z =
-    let n = accepted-lists s options out work r out′ work′ p z in
-    resolved-back s out r out′ 128 (n .accepted) (lists-claim s options .exactly out work r out′ work′ p .none-holds z) (n .nests)
+    let n = accepted-lists (Old options) s out work r out′ work′ p z in
+    resolved-back {options = options} s out r out′ 128 (n .accepted) (lists-claim (Old options) s .exactly out work r out′ work′ p .none-holds z) (n .nests)
 
 -- the heading reader: what is found has number 0, and is a heading
 found-zero : (a : Headed) → larkHeaded a .found ≡ 1 → larkHeaded a .number ≡ 0

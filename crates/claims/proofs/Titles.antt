@@ -14,12 +14,14 @@ use borrow.Author.Tests.{eqb-true, eqb-false}
 use Rattle.record.specs.Choice.{choose}
 use Rattle.record.specs.Bytes.{u32At}
 use Rattle.record.specs.Check.{admitted}
+use Rattle.record.specs.Form.{old}
 use Rattle.record.specs.Event.{enter, exit, sectionAt, recordBytes}
-use Rattle.record.specs.Rows.{Row, documentCount}
+use Rattle.record.specs.Rows.{Row, documentCountIn}
 use Rattle.record.specs.Written.{WrittenRow, by-check, row-6, row-7, row-8}
 use Rattle.record.specs.Outcome.{Resolution, gives}
 use Rattle.record.specs.declared.event.Event.{Event}
-use Rattle.record.proofs.Sections.{length-eventsAt}
+use Rattle.record.specs.declared.form.Handed.the-variants.{Old}
+use Rattle.record.proofs.Parts.{length-events}
 use Rattle.scan.specs.Line.{lineOf}
 use Rattle.atx.specs.Heading.{isHeading, split, eventsFrom, headingEvents}
 use Rattle.atx.specs.Content.{content, contentFrom, contentTo}
@@ -203,39 +205,39 @@ module _ (s : List ℕ) (options column : ℕ) (out : List ℕ) (r : LarkHeaded)
   again : ReadAgain (lineOf s) (sectionAt out′ 0)
   again = heading-reads-back s options column out r out′ p z .again few
 
-  resolves : headings (allEvents whole) ≡ gives made
+  resolves : headings (allEvents (Old 0) whole) ≡ gives made
   resolves =
       ap headings (again .its-events ∙ heading-reads-back s options column out r out′ p z .events)
       ∙ reads-the-standard options column (lineOf s) (heading-found s options column out r out′ p z)
 
   -- the check finds nothing to refuse
-  checked : (options₂ works n place : ℕ) → options₂ ≤ 63 → 65536 ≤ works → Row whole options₂ works n place → ⊥
+  checked : (options₂ works n place : ℕ) → options₂ ≤ 63 → 65536 ≤ works → Row (Old options₂) whole works n place → ⊥
   checked options₂ works n place ho hw x =
       let work : List ℕ = replicate works 0 in
       let k : length work ≡ works = length-replicate works 0 in
-      let answer : LarkReading = larkReading (admitted whole options₂ (length work)) in
+      let answer : LarkReading = larkReading (admitted (Old options₂) whole (length work)) in
       let q : ReadAs whole options₂ work answer work = record { answer = refl; wiped = ap (λ (m : ℕ). replicate m 0) (sym k) } in
       let e = again .accepted options₂ work answer work ho (omega (arith, k)) q in
-      read-claim whole options₂ .exactly work answer work q .none-holds (ap (λ (y : LarkReading). y .number) e) n place (subst (λ (m : ℕ). Row whole options₂ m n place) (sym k) x)
+      read-claim whole options₂ .exactly work answer work q .none-holds (ap (λ (y : LarkReading). y .number) e) n place (subst (λ (m : ℕ). Row (Old options₂) whole m n place) (sym k) x)
 
   short : length made ≤ 8000
   short =
-      let es : List Event = allEvents whole in
+      let es : List Event = allEvents (Old 0) whole in
       let n : length es ≤ 2048 =
-      omega (arith, ap length (again .its-events), length-eventsAt (u32At out′ 0) out′ 4, heading-reads-back s options column out r out′ p z .count, few)
+      omega (arith, ap length (again .its-events), length-events 8 (u32At out′ 0) out′ 4, heading-reads-back s options column out r out′ p z .count, few)
       in
       omega (arith, ap length (gives-is es made resolves .0), resolved-small 0 es (omega arith))
 
   no-row : (options₂ works outs : ℕ) → options₂ ≤ 63 → 65536 ≤ works → 4 + 8 * length made ≤ outs → (n place : ℕ) →
-      WrittenRow whole options₂ works (Broken (allEvents whole)) (headings (allEvents whole)) outs n place → ⊥
+      WrittenRow (Old options₂) whole works (Broken (allEvents (Old 0) whole)) (headings (allEvents (Old 0) whole)) outs n place → ⊥
   no-row options₂ works outs ho hw fits n place (by-check x) = checked options₂ works n place ho hw x
   no-row options₂ works outs ho hw fits n place (row-6 k o a b) =
-      gives-unbroken (allEvents whole) made 64 (documentCount whole) (no-row-sound whole options₂ works (λ m q x. checked options₂ works m q ho hw x) .1) resolves k o
+      gives-unbroken (allEvents (Old 0) whole) made 64 (documentCountIn old whole) (no-row-sound (Old options₂) whole works (λ m q x. checked options₂ works m q ho hw x) .1) resolves k o
   no-row options₂ works outs ho hw fits n place (row-7 es m h a b) =
-      let e = ap length (same-result (headings (allEvents whole)) es made m resolves) in
+      let e = ap length (same-result (headings (allEvents (Old 0) whole)) es made m resolves) in
       omega (arith, short)
   no-row options₂ works outs ho hw fits n place (row-8 es m h a b) =
-      let e = ap length (same-result (headings (allEvents whole)) es made m resolves) in
+      let e = ap length (same-result (headings (allEvents (Old 0) whole)) es made m resolves) in
       omega arith
 
 pub calls-read-the-standard : CallsReadTheStandard
@@ -244,12 +246,12 @@ calls-read-the-standard s options column out r out′ p z few options₂ out₂ 
     let events : List Event = made s options column out r out′ p z few in
     let resolves-so = resolves s options column out r out′ p z few in
     let number : r₂ .number ≡ 0 =
-    headings-claim rec options₂ .exactly out₂ work r₂ out₂′ work′ q .accepted
+    headings-claim (Old options₂) rec .exactly out₂ work r₂ out₂′ work′ q .accepted
     (no-row s options column out r out′ p z few options₂ (length work) (length out₂) ho hw fits)
     in
-    let a = headings-claim rec options₂ .accepts out₂ work r₂ out₂′ work′ q number in
-    let same : a .events ≡ events = same-result (headings (allEvents rec)) (a .events) events (a .made-so) resolves-so in
+    let a = headings-claim (Old options₂) rec .accepts out₂ work r₂ out₂′ work′ q number in
+    let same : a .events ≡ events = same-result (headings (allEvents (Old 0) rec)) (a .events) events (a .made-so) resolves-so in
     let b = headings-read-back rec options₂ out₂ work r₂ out₂′ work′ q number in (
       a .answer ∙ ap (λ (x : List Event). resolved (length x) 0 0) same,
-      same-result (headings (allEvents rec)) (sectionAt out₂′ 0) events (b .events) resolves-so,
+      same-result (headings (allEvents (Old 0) rec)) (sectionAt out₂′ 0) events (b .events) resolves-so,
     )

@@ -12,11 +12,13 @@ use lib.ListN.{length, getD}
 use Rattle.record.specs.Choice.{choose, and}
 use Rattle.record.specs.Options.{optionOn}
 use Rattle.record.specs.Check.{admitted}
-use Rattle.record.specs.Event.{documentOf, eventsOf, enter, exit}
+use Rattle.record.specs.Handed.{formOf, optionsOf}
+use Rattle.record.specs.Event.{documentIn, eventsIn, enter, exit}
 use Rattle.record.specs.Outcome.{Resolution, Outcome, accepted, refused, outcome}
 use Rattle.record.specs.Promise.{Writes}
 use Rattle.record.specs.Stack.{after}
 use Rattle.record.specs.declared.event.Event.{Event}
+use Rattle.record.specs.declared.form.Handed.{Handed}
 use Rattle.unicode.specs.Ranges.{member}
 use Rattle.unicode.specs.Tables.{punctuationRanges, spaceRanges}
 use Rattle.unicode.specs.Utf8.{wellFormedRows, fits, fitsOne, wellFormed, valueOf, characterOf}
@@ -98,18 +100,18 @@ unfoldable pub attentionBefore : Profile → ℕ → List ℕ → List Event →
 attentionBefore profile options doc es =
     unlessOffended (offender doc options es) (replaced es (runsOf doc es) (matchingBefore profile options doc es .groups) 0)
 
-abbrev pub comesBefore : Profile → List ℕ → ℕ → ℕ → ℕ → Outcome
-comesBefore profile s options outs works =
-    outcome (admitted s options works) (λ d e. attentionBefore profile options (documentOf s d) (eventsOf s d e)) outs
+abbrev pub comesBefore : Profile → Handed → List ℕ → ℕ → ℕ → Outcome
+comesBefore profile h s outs works =
+    outcome (formOf h) (admitted h s works) (λ d e. attentionBefore profile (optionsOf h s) (documentIn (formOf h) s d) (eventsIn (formOf h) s d e)) outs
 
 abbrev pub answerBefore : Matching → Outcome → Answer
 answerBefore made (accepted rs) = Resolved (length rs) (length (made .groups)) (made .tried)
 answerBefore made (refused r) = Refused r
 
 -- the promise of lark_resolve_attention as it was
-abbrev pub AttentionBefore : Profile → List ℕ → ℕ → List ℕ → List ℕ → LarkResolved → List ℕ → List ℕ → Type 0
-AttentionBefore profile s options out work r out′ work′ =
-    Writes (comesBefore profile s options) (λ (o : Outcome). larkAttention (answerBefore (matchingBefore profile options (docOf s) (allEvents s)) o)) out work r out′ work′
+abbrev pub AttentionBefore : Profile → Handed → List ℕ → List ℕ → List ℕ → LarkResolved → List ℕ → List ℕ → Type 0
+AttentionBefore profile h s out work r out′ work′ =
+    Writes (formOf h) (comesBefore profile h s) (λ (o : Outcome). larkAttention (answerBefore (matchingBefore profile (optionsOf h s) (docOf h s) (allEvents h s)) o)) out work r out′ work′
 
 -- every byte of a document is an ASCII character
 abbrev pub Ascii : List ℕ → Type 0
@@ -118,9 +120,9 @@ Ascii doc = (at : ℕ) → at < length doc → getD doc at 0 < 128
 -- on such a document the promise is what it was: the answer, the output and the work memory
 abbrev pub AnswersAsBefore : Type 0
 AnswersAsBefore =
-    (profile : Profile) (s : List ℕ) (options : ℕ) (out work : List ℕ) (r : LarkResolved) (out′ work′ : List ℕ) → Ascii (docOf s) →
-    (AttentionAs profile s options out work r out′ work′ → AttentionBefore profile s options out work r out′ work′)
-    × (AttentionBefore profile s options out work r out′ work′ → AttentionAs profile s options out work r out′ work′)
+    (profile : Profile) (h : Handed) (s : List ℕ) (out work : List ℕ) (r : LarkResolved) (out′ work′ : List ℕ) → Ascii (docOf h s) →
+    (AttentionAs profile h s out work r out′ work′ → AttentionBefore profile h s out work r out′ work′)
+    × (AttentionBefore profile h s out work r out′ work′ → AttentionAs profile h s out work r out′ work′)
 
 -- what differs, computed: of `«_a_»` there was no group, since « was other bytes, and there is one now
 on-quotation : (matchingBefore crate 59 (194 ∷ 171 ∷ 95 ∷ 97 ∷ 95 ∷ 194 ∷ 187 ∷ []) (enter 1 2 ∷ exit 1 3 ∷ enter 1 4 ∷ exit 1 5 ∷ []) .groups ≡ [])

@@ -22,9 +22,11 @@ use Prim.Native.Nat.{ℕ, _+_, _<_, _≤_}
 use mathlib.Core.Path.{_≡_}
 use mathlib.Core.List.{List}
 use lib.ListN.{length}
-use Rattle.record.specs.Event.{sectionBytes}
-use Rattle.record.specs.Rows.{documentCount, eventCount}
+use Rattle.record.specs.Handed.{formOf, optionsOf}
+use Rattle.record.specs.Partners.{sectionIn}
+use Rattle.record.specs.Rows.{documentCountIn, eventCountIn}
 use Rattle.record.specs.Outcome.{onto}
+use Rattle.record.specs.declared.form.Handed.{Handed}
 use Rattle.runs.specs.Runs.{runsOf}
 use Rattle.runs.specs.Plain.{Standing, Group, forth, plain}
 use Rattle.runs.specs.Rule.{Rule, Profile}
@@ -56,40 +58,40 @@ use Rattle.claims.specs.ChainsAsLists.{ChainsList}
 use Rattle.claims.specs.Positions.{plainUpTo, roundsLeft, Stands, StandsAt, Leads}
 
 -- the groups that the plain rule makes of a record
-abbrev pub plainGroups : Profile → List ℕ → ℕ → List Group
-plainGroups profile s options = groupsOf profile options (docOf s) (allEvents s)
+abbrev pub plainGroups : Profile → Handed → List ℕ → List Group
+plainGroups profile h s = groupsOf profile (optionsOf h s) (docOf h s) (allEvents h s)
 
 -- the call: with number 0 it reports how many groups the plain rule makes and how many candidates that rule counts, and writes the events that these
 -- groups make; and the record is one that the theorems on groups speak of
-pub record AsThePlainRule (profile : Profile) (s : List ℕ) (options : ℕ) (out : List ℕ) (r : LarkResolved) (out′ : List ℕ) : Type 0 where
-  pub record-good : Accepted 64 options (docOf s) (allEvents s)
-  pub groups : r .groups ≡ length (plainGroups profile s options)
-  pub tried : r .tried ≡ outcome profile options (docOf s) (allEvents s) .tried
-  pub events : r .events ≡ length (output profile options (docOf s) (allEvents s))
-  pub written : out′ ≡ onto (sectionBytes (output profile options (docOf s) (allEvents s))) out
+pub record AsThePlainRule (profile : Profile) (h : Handed) (s : List ℕ) (out : List ℕ) (r : LarkResolved) (out′ : List ℕ) : Type 0 where
+  pub record-good : Accepted 64 (optionsOf h s) (docOf h s) (allEvents h s)
+  pub groups : r .groups ≡ length (plainGroups profile h s)
+  pub tried : r .tried ≡ outcome profile (optionsOf h s) (docOf h s) (allEvents h s) .tried
+  pub events : r .events ≡ length (output profile (optionsOf h s) (docOf h s) (allEvents h s))
+  pub written : out′ ≡ onto (sectionIn (formOf h) (output profile (optionsOf h s) (docOf h s) (allEvents h s))) out
 
 abbrev pub AcceptedAsThePlainRule : Type 0
 AcceptedAsThePlainRule =
-    (profile : Profile) (s : List ℕ) (options : ℕ) (out work : List ℕ) (r : LarkResolved) (out′ work′ : List ℕ) →
-    AttentionAs profile s options out work r out′ work′ → r .number ≡ 0 → AsThePlainRule profile s options out r out′
+    (profile : Profile) (h : Handed) (s : List ℕ) (out work : List ℕ) (r : LarkResolved) (out′ work′ : List ℕ) →
+    AttentionAs profile h s out work r out′ work′ → r .number ≡ 0 → AsThePlainRule profile h s out r out′
 
 -- of an accepted record: no two groups cross; no group crosses a container, that is any pair of the record that is no run, and both its runs stand in
 -- one; each group is where its pieces are; and each marker byte of a run lies in exactly one piece of a group or one leftover, which hold no
 -- other byte
-pub record Nests (profile : Profile) (s : List ℕ) (options : ℕ) : Type 0 where
-  pub groups-never-cross : NeverCross (runsOf (docOf s) (allEvents s)) (plainGroups profile s options)
-  pub containers-never-crossed : NeverCrosses (allEvents s) (runsOf (docOf s) (allEvents s)) (plainGroups profile s options)
-  pub container-is-one : OneContainer (runsOf (docOf s) (allEvents s)) (plainGroups profile s options)
-  pub each-held : (i : ℕ) → i < length (plainGroups profile s options) → Held (runsOf (docOf s) (allEvents s)) (plainGroups profile s options) i
-  pub each-marker-once : (at : ℕ) → Marker at (runsOf (docOf s) (allEvents s)) →
-      holding at (allPieces (plainGroups profile s options) 0 (runsOf (docOf s) (allEvents s))) ≡ 1
-  pub only-markers : (at : ℕ) → 0 < holding at (allPieces (plainGroups profile s options) 0 (runsOf (docOf s) (allEvents s))) →
-      Marker at (runsOf (docOf s) (allEvents s))
+pub record Nests (profile : Profile) (h : Handed) (s : List ℕ) : Type 0 where
+  pub groups-never-cross : NeverCross (runsOf (docOf h s) (allEvents h s)) (plainGroups profile h s)
+  pub containers-never-crossed : NeverCrosses (allEvents h s) (runsOf (docOf h s) (allEvents h s)) (plainGroups profile h s)
+  pub container-is-one : OneContainer (runsOf (docOf h s) (allEvents h s)) (plainGroups profile h s)
+  pub each-held : (i : ℕ) → i < length (plainGroups profile h s) → Held (runsOf (docOf h s) (allEvents h s)) (plainGroups profile h s) i
+  pub each-marker-once : (at : ℕ) → Marker at (runsOf (docOf h s) (allEvents h s)) →
+      holding at (allPieces (plainGroups profile h s) 0 (runsOf (docOf h s) (allEvents h s))) ≡ 1
+  pub only-markers : (at : ℕ) → 0 < holding at (allPieces (plainGroups profile h s) 0 (runsOf (docOf h s) (allEvents h s))) →
+      Marker at (runsOf (docOf h s) (allEvents h s))
 
 abbrev pub AcceptedNests : Type 0
 AcceptedNests =
-    (profile : Profile) (s : List ℕ) (options : ℕ) (out work : List ℕ) (r : LarkResolved) (out′ work′ : List ℕ) →
-    AttentionAs profile s options out work r out′ work′ → r .number ≡ 0 → Nests profile s options
+    (profile : Profile) (h : Handed) (s : List ℕ) (out work : List ℕ) (r : LarkResolved) (out′ work′ : List ℕ) →
+    AttentionAs profile h s out work r out′ work′ → r .number ≡ 0 → Nests profile h s
 
 -- the chained matcher forms the same groups in the same order, and tries exactly as many candidates: whatever runs the memory held before the first
 -- match, after it the memory holds the plain rule's groups of them in match order
@@ -104,22 +106,22 @@ GroupsAreThePlainRule's =
 -- (crates/attention). After both the memory is as before the first match, for the runs of this record: here the statements on chains begin
 abbrev pub AcceptedBegins : Type 0
 AcceptedBegins =
-    (profile : Profile) (s : List ℕ) (options n : ℕ) (w w₁ w₂ : List ℕ) → Room w → Loads profile s (documentCount s) (eventCount s) options w (Runs n) w₁ →
-    Cleared w₁ 6147 w₂ → Fresh w₂ (begin profile options (docOf s) (allEvents s)) n
+    (profile : Profile) (h : Handed) (s : List ℕ) (n : ℕ) (w w₁ w₂ : List ℕ) → Room w → Loads profile (formOf h) s (documentCountIn (formOf h) s) (eventCountIn (formOf h) s) (optionsOf h s) w (Runs n) w₁ →
+    Cleared w₁ 6147 w₂ → Fresh w₂ (begin profile (optionsOf h s) (docOf h s) (allEvents h s)) n
 
 -- so the groups that the memory then holds are those that are reported and written
 abbrev pub AcceptedGroups : Type 0
 AcceptedGroups =
-    (profile : Profile) (s : List ℕ) (options n made tried : ℕ) (w w′ : List ℕ) → Fresh w (begin profile options (docOf s) (allEvents s)) n →
-    Answers (profile .rule options) w n (Groups made tried) w′ →
-    (made ≡ length (plainGroups profile s options)) × (tried ≡ outcome profile options (docOf s) (allEvents s) .tried) × Grouped w′ (plainGroups profile s options) n
+    (profile : Profile) (h : Handed) (s : List ℕ) (n made tried : ℕ) (w w′ : List ℕ) → Fresh w (begin profile (optionsOf h s) (docOf h s) (allEvents h s)) n →
+    Answers (profile .rule (optionsOf h s)) w n (Groups made tried) w′ →
+    (made ≡ length (plainGroups profile h s)) × (tried ≡ outcome profile (optionsOf h s) (docOf h s) (allEvents h s) .tried) × Grouped w′ (plainGroups profile h s) n
 
 -- and there is room for them: of a record that the call accepts, the matcher does not come to more groups than a result can hold
 abbrev pub AcceptedHasRoom : Type 0
 AcceptedHasRoom =
-    (profile : Profile) (s : List ℕ) (options : ℕ) (out work : List ℕ) (r : LarkResolved) (out′ work′ : List ℕ) →
-    AttentionAs profile s options out work r out′ work′ → r .number ≡ 0 → (n : ℕ) (found : Found) (w w′ : List ℕ) →
-    Fresh w (begin profile options (docOf s) (allEvents s)) n → Answers (profile .rule options) w n found w′ → (found ≡ TooMany → ⊥)
+    (profile : Profile) (h : Handed) (s : List ℕ) (out work : List ℕ) (r : LarkResolved) (out′ work′ : List ℕ) →
+    AttentionAs profile h s out work r out′ work′ → r .number ≡ 0 → (n : ℕ) (found : Found) (w w′ : List ℕ) →
+    Fresh w (begin profile (optionsOf h s) (docOf h s) (allEvents h s)) n → Answers (profile .rule (optionsOf h s)) w n found w′ → (found ≡ TooMany → ⊥)
 
 -- where the matcher stands after a run, as Positions.antt has it, the plain rule stands too: it has made as many groups, which the memory holds, and
 -- has tried as many candidates; and what it makes of the first runs is what the rounds that are left make of the runs as they stand then

@@ -12,6 +12,7 @@ use Rattle.record.specs.Choice.{choose}
 use Rattle.record.specs.Event.{enter, exit, sectionAt, recordBytes}
 use Rattle.record.specs.Outcome.{gives}
 use Rattle.record.specs.declared.event.Event.{Event}
+use Rattle.record.specs.declared.form.Handed.the-variants.{Old}
 use Rattle.scan.specs.Line.{lineOf}
 use Rattle.atx.specs.Heading.{isHeading, split, eventsFrom, headingEvents}
 use Rattle.atx.specs.Content.{content, contentFrom, contentTo}
@@ -53,5 +54,5 @@ abbrev pub CallsReadTheStandard : Type 0
 CallsReadTheStandard =
     (s : List ℕ) (options column : ℕ) (out : List ℕ) (r : LarkHeaded) (out′ : List ℕ) → HeadedAs s options column out r out′ → r .found ≡ 1 → r .events ≤ 2048 →
     (options₂ : ℕ) (out₂ work : List ℕ) (r₂ : LarkResolved) (out₂′ work′ : List ℕ) → options₂ ≤ 63 → 65536 ≤ length work →
-    4 + 8 * length (heading (lineOf s)) ≤ length out₂ → HeadingsAs (recordBytes (lineOf s) (sectionAt out′ 0)) options₂ out₂ work r₂ out₂′ work′ →
+    4 + 8 * length (heading (lineOf s)) ≤ length out₂ → HeadingsAs (Old options₂) (recordBytes (lineOf s) (sectionAt out′ 0)) out₂ work r₂ out₂′ work′ →
     (r₂ ≡ resolved (length (heading (lineOf s))) 0 0) × (sectionAt out₂′ 0 ≡ heading (lineOf s))

@@ -6,6 +6,7 @@ use ledgerlark::line::LarkItem;
 use ledgerlark::line::LarkSpaces;
 use ledgerlark::resolve::LarkReading;
 use ledgerlark::resolve::LarkResolved;
+use record::form::Handed;
 ghost use Rattle.runs.specs.Rule.{crate};
 ghost use Rattle.ledgerlark.specs.Answers.{ReadAs, AttentionAs, HeadingsAs, ListsAs, SpacesAs, ItemAs, GoingAs, HeadedAs};
 
@@ -17,19 +18,19 @@ pub fn read(s: &[u8], options: u32, work: &mut [u8]) -> LarkReading
 }
 
 pub fn resolve_attention(s: &[u8], options: u32, out: &mut [u8], work: &mut [u8]) -> LarkResolved
-    ensures { λ r. ⌜ AttentionAs crate (now (s .entry)) options (now (out .entry)) (now (work .entry)) r (now (out .exit)) (now (work .exit)) ⌝ }
+    ensures { λ r. ⌜ AttentionAs crate (Handed.Old options) (now (s .entry)) (now (out .entry)) (now (work .entry)) r (now (out .exit)) (now (work .exit)) ⌝ }
 {
     ledgerlark::resolve::lark_resolve_attention(s, options, out, work)
 }
 
 pub fn resolve_headings(s: &[u8], options: u32, out: &mut [u8], work: &mut [u8]) -> LarkResolved
-    ensures { λ r. ⌜ HeadingsAs (now (s .entry)) options (now (out .entry)) (now (work .entry)) r (now (out .exit)) (now (work .exit)) ⌝ }
+    ensures { λ r. ⌜ HeadingsAs (Handed.Old options) (now (s .entry)) (now (out .entry)) (now (work .entry)) r (now (out .exit)) (now (work .exit)) ⌝ }
 {
     ledgerlark::resolve::lark_resolve_headings(s, options, out, work)
 }
 
 pub fn resolve_lists(s: &[u8], options: u32, out: &mut [u8], work: &mut [u8]) -> LarkResolved
-    ensures { λ r. ⌜ ListsAs (now (s .entry)) options (now (out .entry)) (now (work .entry)) r (now (out .exit)) (now (work .exit)) ⌝ }
+    ensures { λ r. ⌜ ListsAs (Handed.Old options) (now (s .entry)) (now (out .entry)) (now (work .entry)) r (now (out .exit)) (now (work .exit)) ⌝ }
 {
     ledgerlark::resolve::lark_resolve_lists(s, options, out, work)
 }

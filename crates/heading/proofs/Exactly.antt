@@ -6,13 +6,15 @@ use mathlib.Core.List.{List}
 use Prim.Native.Nat.{ℕ, _≤_}
 use lib.Dec.{leb}
 use borrow.Author.Tests.{leb-true, leb-false}
-use Rattle.record.specs.Event.{eventsOf}
+use Rattle.record.specs.Handed.{formOf}
+use Rattle.record.specs.Event.{eventsIn}
 use Rattle.record.specs.Check.{admitted}
-use Rattle.record.specs.Rows.{documentCount, eventCount}
+use Rattle.record.specs.Rows.{documentCountIn, eventCountIn}
 use Rattle.record.specs.Written.{Judges, ExactlyWritten}
 use Rattle.record.specs.declared.event.Event.{Event}
+use Rattle.record.specs.declared.form.Handed.{Handed}
 use Rattle.record.specs.declared.check.Reading.the-variants.{Good}
-use Rattle.record.proofs.Good.{events-are-sound, admission}
+use Rattle.record.proofs.Good.{admission}
 use Rattle.record.proofs.ExactlyWritten.{exactly-written}
 use Rattle.heading.specs.Headings.{headings}
 use Rattle.heading.specs.Shape.{Broken, Earliest}
@@ -25,18 +27,18 @@ not-before es k j f b = go (leb k j) refl
     go true e = leb-true _ _ e
     go false e = absurd (f .first j (leb-false _ _ e) b)
 
-pub exactly-resolved : (s : List ℕ) (options works outs : ℕ) →
-    ExactlyWritten s options works (Broken (eventsOf s (documentCount s) (eventCount s))) (λ d e. headings (eventsOf s d e)) outs
-exactly-resolved s options works outs =
-    exactly-written s options works (Broken (eventsOf s (documentCount s) (eventCount s))) (λ d e. headings (eventsOf s d e)) outs judges
+pub exactly-resolved : (h : Handed) (s : List ℕ) (works outs : ℕ) →
+    ExactlyWritten h s works (Broken (eventsIn (formOf h) s (documentCountIn (formOf h) s) (eventCountIn (formOf h) s))) (λ d e. headings (eventsIn (formOf h) s d e)) outs
+exactly-resolved h s works outs =
+    exactly-written h s works (Broken (eventsIn (formOf h) s (documentCountIn (formOf h) s) (eventCountIn (formOf h) s))) (λ d e. headings (eventsIn (formOf h) s d e)) outs judges
   where
-    judges : admitted s options works ≡ Good (documentCount s) (eventCount s) →
-        Judges (Broken (eventsOf s (documentCount s) (eventCount s))) (headings (eventsOf s (documentCount s) (eventCount s)))
+    judges : admitted h s works ≡ Good (documentCountIn (formOf h) s) (eventCountIn (formOf h) s) →
+        Judges (Broken (eventsIn (formOf h) s (documentCountIn (formOf h) s) (eventCountIn (formOf h) s))) (headings (eventsIn (formOf h) s (documentCountIn (formOf h) s) (eventCountIn (formOf h) s)))
     judges q =
-        let s₁ = events-are-sound (admission s options works (documentCount s) (eventCount s) q .good) in
+        let s₁ = admission h s works (documentCountIn (formOf h) s) (eventCountIn (formOf h) s) q .good .sound-events in
         record {
           earliest = λ k e.
-              let f = earliest-offends (eventsOf s (documentCount s) (eventCount s)) 64 (documentCount s) k s₁ e in
-              (f .broken, λ j b. not-before (eventsOf s (documentCount s) (eventCount s)) k j f b);
-          none = λ rs e j b. gives-unbroken (eventsOf s (documentCount s) (eventCount s)) rs 64 (documentCount s) s₁ e j b;
+              let f = earliest-offends (eventsIn (formOf h) s (documentCountIn (formOf h) s) (eventCountIn (formOf h) s)) 64 (documentCountIn (formOf h) s) k s₁ e in
+              (f .broken, λ j b. not-before (eventsIn (formOf h) s (documentCountIn (formOf h) s) (eventCountIn (formOf h) s)) k j f b);
+          none = λ rs e j b. gives-unbroken (eventsIn (formOf h) s (documentCountIn (formOf h) s) (eventCountIn (formOf h) s)) rs 64 (documentCountIn (formOf h) s) s₁ e j b;
         }

@@ -13,21 +13,24 @@ use lib.Seq.{drop-append-seam, drop-cons, length-take-le}
 use lib.Dec.{eqb, ltb}
 use borrow.Author.Tests.{eqb-false, le-ltb}
 use Rattle.record.specs.Choice.{choose, and}
-use Rattle.record.specs.Event.{event, enter, exit, eventsOf}
+use Rattle.record.specs.Handed.{formOf}
+use Rattle.record.specs.Event.{event, enter, exit, eventsIn}
 use Rattle.record.specs.Stack.{nth}
 use Rattle.record.specs.Check.{admitted}
 use Rattle.record.specs.Outcome.{Resolution, offends, gives, Outcome, accepted, refused, refusing, sized, settled}
 use Rattle.record.specs.declared.event.Event.{Event}
+use Rattle.record.specs.declared.form.Handed.{Handed}
+use Rattle.record.specs.declared.form.Form.{Form}
 use Rattle.record.specs.declared.check.Reading.the-variants.{Good}
 use Rattle.record.proofs.Good.{admission}
-use Rattle.record.proofs.Sections.{length-eventsAt}
+use Rattle.record.proofs.Parts.{length-events}
 use Rattle.heading.specs.Headings.{isOf, beforeFirst, throughLast, innerOf, leaves, shaped, isDataOrRun, beforeText, toLast, beforeClosing, withoutClosing, textEvents, throughText, textRound, withText, resolvedFrom, earliest, headings}
 use Rattle.heading.specs.Text.{Texted, text, closed, empty}
 use Rattle.heading.specs.Outside.{outsideFrom, outside}
 use Rattle.heading.proofs.Seeking.{before-le, before-here}
 use Rattle.heading.proofs.Leaves.{of-is, not-of, before-past}
 use Rattle.heading.proofs.Passes.{inner-leaves, other-passed, other-resolved, heading-passed, heading-resolved, heading-shaped}
-use Rattle.heading.proofs.Settling.{either}
+use Rattle.heading.proofs.Judging.{either}
 use Rattle.heading.proofs.Offence.{before-is, none-before, at-most, leaves-of}
 use Rattle.heading.proofs.Texted.{before-pairs, behind-pairs}
 use Rattle.heading.proofs.TextAsSaid.{texted}
@@ -178,29 +181,32 @@ resolved-small zero (e ∷ es) h = go (isOf 0 11 e) (resolved-small 0 es (omega 
         omega
         (arith, length-append (withText (innerOf es)) (resolvedFrom (beforeFirst (isOf 1 11) es) es), text-small (innerOf es), length-take-le (beforeFirst (isOf 1 11) es) es (before-le (isOf 1 11) es))
 
-few-events : (s : List ℕ) (d e : ℕ) → e ≤ 2048 → length (eventsOf s d e) ≤ 2048
-unfolding eventsOf
-few-events s d e h = omega (arith, length-eventsAt e s (8 + d))
+few-events : (f : Form) (s : List ℕ) (d e : ℕ) → e ≤ 2048 → length (eventsIn f s d e) ≤ 2048
+unfolding eventsIn
+few-events f s d e h = omega (arith, length-events (f .width) e s (8 + f .front + d))
 
 abbrev numberOf : Outcome → ℕ
 numberOf (accepted es) = 0
 numberOf (refused r) = r .number
 
-fits-seven : (rs : List Event) (outs : ℕ) → length rs ≤ 8000 → sized rs outs ≡ refusing 7 0 → ⊥
+fits-seven : (f : Form) (rs : List Event) (outs : ℕ) → length rs ≤ 8000 → sized f rs outs ≡ refusing 7 0 → ⊥
 unfolding sized choose
-fits-seven rs outs h r = go (ltb outs (4 + 8 * length rs)) (rw (le-ltb 8000 (length rs) h) at r)
+fits-seven f rs outs h r = go (ltb outs (4 + f .width * length rs)) (rw (le-ltb 8000 (length rs) h) at r)
   where
     go : (b : Bool) → choose b (refusing 8 0) (accepted rs) ≡ refusing 7 0 → ⊥
     go true q = omega (arith, ap numberOf q)
     go false q = omega (arith, ap numberOf q)
 
 -- number 7 cannot come
-pub seven-never : (s : List ℕ) (options works d e outs : ℕ) → admitted s options works ≡ Good d e → settled d (headings (eventsOf s d e)) outs ≡ refusing 7 0 → ⊥
-seven-never s options works d e outs q = go (headings (eventsOf s d e)) refl
+pub seven-never : (h : Handed) (s : List ℕ) (works d e outs : ℕ) → admitted h s works ≡ Good d e →
+    settled (formOf h) d (headings (eventsIn (formOf h) s d e)) outs ≡ refusing 7 0 → ⊥
+seven-never h s works d e outs q = go (headings (eventsIn (formOf h) s d e)) refl
   where
-    few : length (eventsOf s d e) ≤ 2048
-    few = few-events s d e (admission s options works d e q .good .few)
+    few : length (eventsIn (formOf h) s d e) ≤ 2048
+    few = few-events (formOf h) s d e (admission h s works d e q .good .few)
 
-    go : (h : Resolution) → headings (eventsOf s d e) ≡ h → settled d h outs ≡ refusing 7 0 → ⊥
+    go : (m : Resolution) → headings (eventsIn (formOf h) s d e) ≡ m → settled (formOf h) d m outs ≡ refusing 7 0 → ⊥
     go (offends k) p r = omega (arith, ap numberOf r)
-    go (gives rs) p r = fits-seven rs outs (omega (arith, few, ap length (gives-is (eventsOf s d e) rs p .0), resolved-small 0 (eventsOf s d e) (omega arith))) r
+    go (gives rs) p r =
+        fits-seven (formOf h) rs outs
+        (omega (arith, few, ap length (gives-is (eventsIn (formOf h) s d e) rs p .0), resolved-small 0 (eventsIn (formOf h) s d e) (omega arith))) r

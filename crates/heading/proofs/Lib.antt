@@ -6,9 +6,10 @@ pub mod Texted
 pub mod TextAsSaid
 pub mod Texts
 pub mod Passes
-pub mod Settling
+pub mod Judging
 pub mod Offence
 pub mod Resound
+pub mod Settling
 pub mod Kept
 pub mod ResultAsSaid
 pub mod Exactly

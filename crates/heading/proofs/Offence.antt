@@ -23,7 +23,7 @@ use Rattle.heading.specs.Headings.{isOf, beforeFirst, innerOf, leaf, lea
 use Rattle.heading.specs.Shape.{LeafName, Pairs, none, pair, Shape, bare, spaced, Follows, Broken, Earliest}
 use Rattle.heading.proofs.Seeking.{before-le, before-here, before-next}
 use Rattle.heading.proofs.Leaves.{is-of, of-is, first-leaf, rest-leaves, leaf-apart, before-past}
-use Rattle.heading.proofs.Settling.{either}
+use Rattle.heading.proofs.Judging.{either}
 
 -- an event is its three numbers
 pub event-is : (e : Event) (k n : ℕ) → e .kind ≡ k → e .name ≡ n → e ≡ event k n (e .place)

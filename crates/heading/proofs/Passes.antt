@@ -9,16 +9,17 @@ use lib.ListN.{length, take, drop, length-append, take-append-drop}
 use lib.Seq.{length-take-le}
 use Rattle.record.specs.Choice.{choose, and}
 use Rattle.record.specs.Bytes.{Wrote}
-use Rattle.record.specs.Event.{flat, eventAt, eventsAt}
+use Rattle.record.specs.Event.{flat, eventAt, eventsBy}
 use Rattle.record.specs.Outcome.{Resolution, offends, gives}
 use Rattle.record.specs.declared.event.Event.{Event}
 use Rattle.record.proofs.Bools.{and-right}
 use Rattle.record.proofs.Splice.{wrote-then, wrote-none, wrote-length}
-use Rattle.record.proofs.Sections.{length-eventsAt, length-flat, flat-append}
+use Rattle.record.proofs.Parts.{length-events, drop-events, events-cons, events-none}
+use Rattle.record.proofs.Sections.{length-flat, flat-append}
 use Rattle.heading.specs.Headings.{isOf, beforeFirst, innerOf, leaves, shaped, withText, resolvedFrom, offending, earliest, headings}
 use Rattle.heading.specs.Steps.{judgedOf}
 use Rattle.heading.specs.declared.judge.Judged.the-variants.{Offends, Sized}
-use Rattle.heading.proofs.Lists.{events-step, events-none, events-take, events-drop}
+use Rattle.heading.proofs.Lists.{events-take}
 use Rattle.heading.proofs.Seeking.{before-le}
 use Rattle.heading.proofs.Leaves.{first-leaf, rest-leaves, leaf-apart}
 
@@ -88,63 +89,65 @@ module _ (e : Event) (es : List Event) (q : isOf 0 11 e ≡ true) where
           absurd (omega arith)
 
 -- a heading as it stands in a record: n inner events after its enter, which is event i of e
-module _ (s : List ℕ) (at i e n : ℕ) (l : i < e) (q : isOf 0 11 (eventAt s at) ≡ true)
-    (en : n ≡ beforeFirst (isOf 1 11) (eventsAt (e - i - 1) s (at + 8))) (ln : n ≤ e - i - 1) where
-  first : eventsAt (e - i) s at ≡ eventAt s at ∷ eventsAt (e - i - 1) s (at + 8)
-  first = events-step (e - i) (e - i - 1) s at (omega arith)
+module _ (s : List ℕ) (at w i e n : ℕ) (l : i < e) (q : isOf 0 11 (eventAt s at) ≡ true)
+    (en : n ≡ beforeFirst (isOf 1 11) (eventsBy w (e - i - 1) s (at + w))) (ln : n ≤ e - i - 1) where
+  first : eventsBy w (e - i) s at ≡ eventAt s at ∷ eventsBy w (e - i - 1) s (at + w)
+  first = events-cons w (e - i) (e - i - 1) s at (omega arith)
 
-  inner : innerOf (eventsAt (e - i - 1) s (at + 8)) ≡ eventsAt n s (at + 8)
+  inner : innerOf (eventsBy w (e - i - 1) s (at + w)) ≡ eventsBy w n s (at + w)
   unfolding innerOf
-  inner = rw (← en) (events-take n (e - i - 1) s (at + 8) ln)
+  inner = rw (← en) (events-take w (e - i - 1) n s (at + w) ln)
 
-  behind : drop (beforeFirst (isOf 1 11) (eventsAt (e - i - 1) s (at + 8))) (eventsAt (e - i - 1) s (at + 8)) ≡ eventsAt (e - (i + (1 + n))) s (at + 8 + 8 * n)
-  behind = rw (← en) (events-drop n (e - i - 1) (e - (i + (1 + n))) s (at + 8) (at + 8 + 8 * n) (omega arith) refl)
+  behind : drop (beforeFirst (isOf 1 11) (eventsBy w (e - i - 1) s (at + w))) (eventsBy w (e - i - 1) s (at + w)) ≡ eventsBy w (e - (i + (1 + n))) s (at + w + w * n)
+  behind =
+      let k : e - i - 1 - n ≡ e - (i + (1 + n)) = omega arith in
+      rw (← en) (drop-events w (e - i - 1) n s (at + w) ln ∙ rw k)
 
-  refused-here : (good : Resolution) → shaped (eventsAt n s (at + 8)) ≡ false → earliest i (eventsAt (e - i) s at) good ≡ offends i
+  refused-here : (good : Resolution) → shaped (eventsBy w n s (at + w)) ≡ false → earliest i (eventsBy w (e - i) s at) good ≡ offends i
   refused-here good h =
-      ap (λ (es : List Event). earliest i es good) first ∙ heading-refused (eventAt s at) (eventsAt (e - i - 1) s (at + 8)) q i good (ap shaped inner ∙ h)
+      ap (λ (es : List Event). earliest i es good) first ∙ heading-refused (eventAt s at) (eventsBy w (e - i - 1) s (at + w)) q i good (ap shaped inner ∙ h)
 
-  passed-here : (good : Resolution) → shaped (eventsAt n s (at + 8)) ≡ true →
-      earliest i (eventsAt (e - i) s at) good ≡ earliest (i + (1 + n)) (eventsAt (e - (i + (1 + n))) s (at + 8 + 8 * n)) good
+  passed-here : (good : Resolution) → shaped (eventsBy w n s (at + w)) ≡ true →
+      earliest i (eventsBy w (e - i) s at) good ≡ earliest (i + (1 + n)) (eventsBy w (e - (i + (1 + n))) s (at + w + w * n)) good
   passed-here good h =
-      let k : i + 1 + beforeFirst (isOf 1 11) (eventsAt (e - i - 1) s (at + 8)) ≡ i + (1 + n) = omega (arith, en) in
+      let k : i + 1 + beforeFirst (isOf 1 11) (eventsBy w (e - i - 1) s (at + w)) ≡ i + (1 + n) = omega (arith, en) in
       ap (λ (es : List Event). earliest i es good) first
-      ∙ heading-passed (eventAt s at) (eventsAt (e - i - 1) s (at + 8)) q i good (ap shaped inner ∙ h)
-      ∙ ap (λ (m : ℕ). earliest m (drop (beforeFirst (isOf 1 11) (eventsAt (e - i - 1) s (at + 8))) (eventsAt (e - i - 1) s (at + 8))) good) k
+      ∙ heading-passed (eventAt s at) (eventsBy w (e - i - 1) s (at + w)) q i good (ap shaped inner ∙ h)
+      ∙ ap (λ (m : ℕ). earliest m (drop (beforeFirst (isOf 1 11) (eventsBy w (e - i - 1) s (at + w))) (eventsBy w (e - i - 1) s (at + w))) good) k
       ∙ ap (λ (es : List Event). earliest (i + (1 + n)) es good) behind
 
-  resolved-here : resolvedFrom 0 (eventsAt (e - i) s at)
-      ≡ eventAt s at ∷ (withText (eventsAt n s (at + 8)) ++ resolvedFrom 0 (eventsAt (e - (i + (1 + n))) s (at + 8 + 8 * n)))
+  resolved-here : resolvedFrom 0 (eventsBy w (e - i) s at)
+      ≡ eventAt s at ∷ (withText (eventsBy w n s (at + w)) ++ resolvedFrom 0 (eventsBy w (e - (i + (1 + n))) s (at + w + w * n)))
   resolved-here =
       ap (λ (es : List Event). resolvedFrom 0 es) first
-      ∙ heading-resolved (eventAt s at) (eventsAt (e - i - 1) s (at + 8)) q
-      ∙ ap (λ (es : List Event). eventAt s at ∷ (withText es ++ resolvedFrom 0 (drop (beforeFirst (isOf 1 11) (eventsAt (e - i - 1) s (at + 8))) (eventsAt (e - i - 1) s (at + 8))))) inner
-      ∙ ap (λ (es : List Event). eventAt s at ∷ (withText (eventsAt n s (at + 8)) ++ resolvedFrom 0 es)) behind
+      ∙ heading-resolved (eventAt s at) (eventsBy w (e - i - 1) s (at + w)) q
+      ∙ ap (λ (es : List Event). eventAt s at ∷ (withText es ++ resolvedFrom 0 (drop (beforeFirst (isOf 1 11) (eventsBy w (e - i - 1) s (at + w))) (eventsBy w (e - i - 1) s (at + w))))) inner
+      ∙ ap (λ (es : List Event). eventAt s at ∷ (withText (eventsBy w n s (at + w)) ++ resolvedFrom 0 es)) behind
 
 -- any other event
-module _ (s : List ℕ) (at i e : ℕ) (l : i < e) (q : isOf 0 11 (eventAt s at) ≡ false) where
-  other : eventsAt (e - i) s at ≡ eventAt s at ∷ eventsAt (e - (i + 1)) s (at + 8)
-  other = events-step (e - i) (e - (i + 1)) s at (omega arith)
+module _ (s : List ℕ) (at w i e : ℕ) (l : i < e) (q : isOf 0 11 (eventAt s at) ≡ false) where
+  other : eventsBy w (e - i) s at ≡ eventAt s at ∷ eventsBy w (e - (i + 1)) s (at + w)
+  other = events-cons w (e - i) (e - (i + 1)) s at (omega arith)
 
-  passed-other : (good : Resolution) → earliest i (eventsAt (e - i) s at) good ≡ earliest (i + 1) (eventsAt (e - (i + 1)) s (at + 8)) good
-  passed-other good = ap (λ (es : List Event). earliest i es good) other ∙ other-passed (eventAt s at) (eventsAt (e - (i + 1)) s (at + 8)) q i good
+  passed-other : (good : Resolution) → earliest i (eventsBy w (e - i) s at) good ≡ earliest (i + 1) (eventsBy w (e - (i + 1)) s (at + w)) good
+  passed-other good = ap (λ (es : List Event). earliest i es good) other ∙ other-passed (eventAt s at) (eventsBy w (e - (i + 1)) s (at + w)) q i good
 
-  resolved-other : resolvedFrom 0 (eventsAt (e - i) s at) ≡ eventAt s at ∷ resolvedFrom 0 (eventsAt (e - (i + 1)) s (at + 8))
-  resolved-other = ap (λ (es : List Event). resolvedFrom 0 es) other ∙ other-resolved (eventAt s at) (eventsAt (e - (i + 1)) s (at + 8)) q
+  resolved-other : resolvedFrom 0 (eventsBy w (e - i) s at) ≡ eventAt s at ∷ resolvedFrom 0 (eventsBy w (e - (i + 1)) s (at + w))
+  resolved-other = ap (λ (es : List Event). resolvedFrom 0 es) other ∙ other-resolved (eventAt s at) (eventsBy w (e - (i + 1)) s (at + w)) q
 
-nothing-left : (s : List ℕ) (at i e : ℕ) → e ≤ i → eventsAt (e - i) s at ≡ []
-nothing-left s at i e h = events-none (e - i) s at (omega arith)
+nothing-left : (s : List ℕ) (at w i e : ℕ) → e ≤ i → eventsBy w (e - i) s at ≡ []
+nothing-left s at w i e h = events-none w (e - i) s at (omega arith)
 
 -- the first pass: i events are judged, and come to `size` events
-pub record Judging (s : List ℕ) (from e at i size : ℕ) : Type 0 where
-  pub place : at ≡ from + 8 * i
+pub record Judging (s : List ℕ) (from w e at i size : ℕ) : Type 0 where
+  pub place : at ≡ from + w * i
   pub low : i ≤ e
-  pub same : (good : Resolution) → earliest i (eventsAt (e - i) s at) good ≡ earliest 0 (eventsAt e s from) good
-  pub count : size + length (resolvedFrom 0 (eventsAt (e - i) s at)) ≡ length (resolvedFrom 0 (eventsAt e s from))
+  pub same : (good : Resolution) → earliest i (eventsBy w (e - i) s at) good ≡ earliest 0 (eventsBy w e s from) good
+  pub count : size + length (resolvedFrom 0 (eventsBy w (e - i) s at)) ≡ length (resolvedFrom 0 (eventsBy w e s from))
   pub small : size ≤ 4 * i
 
-pub judging-start : (s : List ℕ) (from e : ℕ) → Judging s from e from 0 0
-judging-start s from e =
+pub judging-start : (s : List ℕ) (from w e : ℕ) → Judging s from w e from 0 0
+judging-start s from w e =
     let k : e - 0 ≡ e = omega arith in
     record {
       place = omega arith;
@@ -154,59 +157,59 @@ judging-start s from e =
       small = omega arith;
     }
 
-module _ {s : List ℕ} {from e at i size : ℕ} (v : Judging s from e at i size) (l : i < e) where
-  pub judging-other : isOf 0 11 (eventAt s at) ≡ false → Judging s from e (at + 8) (i + 1) (size + 1)
+module _ {s : List ℕ} {from w e at i size : ℕ} (v : Judging s from w e at i size) (l : i < e) where
+  pub judging-other : isOf 0 11 (eventAt s at) ≡ false → Judging s from w e (at + w) (i + 1) (size + 1)
   judging-other q =
       record {
         place = omega (arith, v .place);
         low = omega arith;
-        same = λ good. sym (passed-other s at i e l q good) ∙ v .same good;
-        count = omega (arith, v .count, ap length (resolved-other s at i e l q));
+        same = λ good. sym (passed-other s at w i e l q good) ∙ v .same good;
+        count = omega (arith, v .count, ap length (resolved-other s at w i e l q));
         small = omega (arith, v .small);
       }
 
-  module _ (n : ℕ) (q : isOf 0 11 (eventAt s at) ≡ true) (en : n ≡ beforeFirst (isOf 1 11) (eventsAt (e - i - 1) s (at + 8))) (ln : n ≤ e - i - 1) where
-    pub judging-refused : shaped (eventsAt n s (at + 8)) ≡ false → Offends i ≡ judgedOf (headings (eventsAt e s from))
+  module _ (n : ℕ) (q : isOf 0 11 (eventAt s at) ≡ true) (en : n ≡ beforeFirst (isOf 1 11) (eventsBy w (e - i - 1) s (at + w))) (ln : n ≤ e - i - 1) where
+    pub judging-refused : shaped (eventsBy w n s (at + w)) ≡ false → Offends i ≡ judgedOf (headings (eventsBy w e s from))
     unfolding headings
     judging-refused h =
         ap judgedOf
-        (sym (refused-here s at i e n l q en ln (gives (resolvedFrom 0 (eventsAt e s from))) h) ∙ v .same (gives (resolvedFrom 0 (eventsAt e s from))))
+        (sym (refused-here s at w i e n l q en ln (gives (resolvedFrom 0 (eventsBy w e s from))) h) ∙ v .same (gives (resolvedFrom 0 (eventsBy w e s from))))
 
-    pub judging-heading : (t : ℕ) → shaped (eventsAt n s (at + 8)) ≡ true → t ≡ length (withText (eventsAt n s (at + 8))) → t ≤ n + 3 →
-        Judging s from e (at + 8 + 8 * n) (i + (1 + n)) (size + (1 + t))
+    pub judging-heading : (t : ℕ) → shaped (eventsBy w n s (at + w)) ≡ true → t ≡ length (withText (eventsBy w n s (at + w))) → t ≤ n + 3 →
+        Judging s from w e (at + w + w * n) (i + (1 + n)) (size + (1 + t))
     judging-heading t h et lt =
-        let r = ap length (resolved-here s at i e n l q en ln) in
-        let a = length-append (withText (eventsAt n s (at + 8))) (resolvedFrom 0 (eventsAt (e - (i + (1 + n))) s (at + 8 + 8 * n))) in
+        let r = ap length (resolved-here s at w i e n l q en ln) in
+        let a = length-append (withText (eventsBy w n s (at + w))) (resolvedFrom 0 (eventsBy w (e - (i + (1 + n))) s (at + w + w * n))) in
         record {
           place = omega (arith, v .place);
           low = omega arith;
-          same = λ good. sym (passed-here s at i e n l q en ln good h) ∙ v .same good;
+          same = λ good. sym (passed-here s at w i e n l q en ln good h) ∙ v .same good;
           count = omega (arith, v .count, r, a);
           small = omega (arith, v .small);
         }
 
-pub judging-done : {s : List ℕ} {from e at i size : ℕ} → Judging s from e at i size → e ≤ i → Sized size ≡ judgedOf (headings (eventsAt e s from))
+pub judging-done : {s : List ℕ} {from w e at i size : ℕ} → Judging s from w e at i size → e ≤ i → Sized size ≡ judgedOf (headings (eventsBy w e s from))
 unfolding headings earliest resolvedFrom
-judging-done {s} {from} {e} {at} {i} {size} v h =
-    let r : List Event = resolvedFrom 0 (eventsAt e s from) in
-    let a : earliest i (eventsAt (e - i) s at) (gives r) ≡ gives r = ap (λ (es : List Event). earliest i es (gives r)) (nothing-left s at i e h) in
-    let b : length (resolvedFrom 0 (eventsAt (e - i) s at)) ≡ 0 = ap (λ (es : List Event). length (resolvedFrom 0 es)) (nothing-left s at i e h) in
+judging-done {s} {from} {w} {e} {at} {i} {size} v h =
+    let r : List Event = resolvedFrom 0 (eventsBy w e s from) in
+    let a : earliest i (eventsBy w (e - i) s at) (gives r) ≡ gives r = ap (λ (es : List Event). earliest i es (gives r)) (nothing-left s at w i e h) in
+    let b : length (resolvedFrom 0 (eventsBy w (e - i) s at)) ≡ 0 = ap (λ (es : List Event). length (resolvedFrom 0 es)) (nothing-left s at w i e h) in
     let c : size ≡ length r = omega (arith, v .count, b) in
     ap (λ (m : ℕ). Sized m) c ∙ ap judgedOf (sym a ∙ v .same (gives r))
 
 -- the second pass: what is written so far, with what is left behind it, is the whole
-pub record Writing (s : List ℕ) (from e : ℕ) (out₀ : List ℕ) (to at i : ℕ) (out : List ℕ) (next : ℕ) : Type 0 where
-  pub place : at ≡ from + 8 * i
+pub record Writing (s : List ℕ) (from w e : ℕ) (out₀ : List ℕ) (to at i : ℕ) (out : List ℕ) (next : ℕ) : Type 0 where
+  pub place : at ≡ from + w * i
   pub low : i ≤ e
-  pub fine : earliest i (eventsAt (e - i) s at) (gives (resolvedFrom 0 (eventsAt e s from))) ≡ gives (resolvedFrom 0 (eventsAt e s from))
-  pub room : next + 8 * length (resolvedFrom 0 (eventsAt (e - i) s at)) ≡ to + 8 * length (resolvedFrom 0 (eventsAt e s from))
+  pub fine : earliest i (eventsBy w (e - i) s at) (gives (resolvedFrom 0 (eventsBy w e s from))) ≡ gives (resolvedFrom 0 (eventsBy w e s from))
+  pub room : next + 8 * length (resolvedFrom 0 (eventsBy w (e - i) s at)) ≡ to + 8 * length (resolvedFrom 0 (eventsBy w e s from))
   pub kept : length out ≡ length out₀
-  pub same : (d : List ℕ) → Wrote out next (flat (resolvedFrom 0 (eventsAt (e - i) s at))) d → Wrote out₀ to (flat (resolvedFrom 0 (eventsAt e s from))) d
+  pub same : (d : List ℕ) → Wrote out next (flat (resolvedFrom 0 (eventsBy w (e - i) s at))) d → Wrote out₀ to (flat (resolvedFrom 0 (eventsBy w e s from))) d
 
-pub writing-start : (s : List ℕ) (from e : ℕ) (out : List ℕ) (to : ℕ) → headings (eventsAt e s from) ≡ gives (resolvedFrom 0 (eventsAt e s from)) →
-    Writing s from e out to from 0 out to
+pub writing-start : (s : List ℕ) (from w e : ℕ) (out : List ℕ) (to : ℕ) → headings (eventsBy w e s from) ≡ gives (resolvedFrom 0 (eventsBy w e s from)) →
+    Writing s from w e out to from 0 out to
 unfolding headings
-writing-start s from e out to h =
+writing-start s from w e out to h =
     let k : e - 0 ≡ e = omega arith in
     record {
       place = omega arith;
@@ -214,66 +217,66 @@ writing-start s from e out to h =
       fine = rw k h;
       room = rw k;
       kept = refl;
-      same = λ d w. rw k at w;
+      same = λ d x. rw k at x;
     }
 
-module _ {s : List ℕ} {from e : ℕ} {out₀ : List ℕ} {to at i : ℕ} {out : List ℕ} {next : ℕ} (v : Writing s from e out₀ to at i out next) (l : i < e) where
-  one-more : (r : List Event) → resolvedFrom 0 (eventsAt (e - i) s at) ≡ eventAt s at ∷ r → {d₁ d : List ℕ} →
-      Wrote out next (flat (eventsAt 1 s at)) d₁ → Wrote d₁ (next + 8) (flat r) d → Wrote out₀ to (flat (resolvedFrom 0 (eventsAt e s from))) d
-  unfolding flat eventsAt
+module _ {s : List ℕ} {from w e : ℕ} {out₀ : List ℕ} {to at i : ℕ} {out : List ℕ} {next : ℕ} (v : Writing s from w e out₀ to at i out next) (l : i < e) where
+  one-more : (r : List Event) → resolvedFrom 0 (eventsBy w (e - i) s at) ≡ eventAt s at ∷ r → {d₁ d : List ℕ} →
+      Wrote out next (flat (eventsBy w 1 s at)) d₁ → Wrote d₁ (next + 8) (flat r) d → Wrote out₀ to (flat (resolvedFrom 0 (eventsBy w e s from))) d
+  unfolding flat eventsBy
   one-more r q {d₁} {d} w₁ w₂ = v .same d (rw q (wrote-then w₁ w₂ refl))
 
-  pub writing-fits : next + 8 ≤ to + 8 * length (resolvedFrom 0 (eventsAt e s from))
+  pub writing-fits : next + 8 ≤ to + 8 * length (resolvedFrom 0 (eventsBy w e s from))
   writing-fits = go (isOf 0 11 (eventAt s at)) refl
     where
-      go : (b : Bool) → isOf 0 11 (eventAt s at) ≡ b → next + 8 ≤ to + 8 * length (resolvedFrom 0 (eventsAt e s from))
-      go true q = omega (arith, v .room, ap length (resolved-here s at i e (beforeFirst (isOf 1 11) (eventsAt (e - i - 1) s (at + 8))) l q refl (omega (arith, before-le (isOf 1 11) (eventsAt (e - i - 1) s (at + 8)), length-eventsAt (e - i - 1) s (at + 8)))))
-      go false q = omega (arith, v .room, ap length (resolved-other s at i e l q))
+      go : (b : Bool) → isOf 0 11 (eventAt s at) ≡ b → next + 8 ≤ to + 8 * length (resolvedFrom 0 (eventsBy w e s from))
+      go true q = omega (arith, v .room, ap length (resolved-here s at w i e (beforeFirst (isOf 1 11) (eventsBy w (e - i - 1) s (at + w))) l q refl (omega (arith, before-le (isOf 1 11) (eventsBy w (e - i - 1) s (at + w)), length-events w (e - i - 1) s (at + w)))))
+      go false q = omega (arith, v .room, ap length (resolved-other s at w i e l q))
 
-  pub writing-other : {d₁ : List ℕ} → isOf 0 11 (eventAt s at) ≡ false → Wrote out next (flat (eventsAt 1 s at)) d₁ →
-      Writing s from e out₀ to (at + 8) (i + 1) d₁ (next + 8)
-  writing-other {d₁} q w =
+  pub writing-other : {d₁ : List ℕ} → isOf 0 11 (eventAt s at) ≡ false → Wrote out next (flat (eventsBy w 1 s at)) d₁ →
+      Writing s from w e out₀ to (at + w) (i + 1) d₁ (next + 8)
+  writing-other {d₁} q w₁ =
       record {
         place = omega (arith, v .place);
         low = omega arith;
-        fine = sym (passed-other s at i e l q (gives (resolvedFrom 0 (eventsAt e s from)))) ∙ v .fine;
-        room = omega (arith, v .room, ap length (resolved-other s at i e l q));
-        kept = wrote-length w ∙ v .kept;
-        same = λ d w₂. one-more (resolvedFrom 0 (eventsAt (e - (i + 1)) s (at + 8))) (resolved-other s at i e l q) w w₂;
+        fine = sym (passed-other s at w i e l q (gives (resolvedFrom 0 (eventsBy w e s from)))) ∙ v .fine;
+        room = omega (arith, v .room, ap length (resolved-other s at w i e l q));
+        kept = wrote-length w₁ ∙ v .kept;
+        same = λ d w₂. one-more (resolvedFrom 0 (eventsBy w (e - (i + 1)) s (at + w))) (resolved-other s at w i e l q) w₁ w₂;
       }
 
-  module _ (n : ℕ) (q : isOf 0 11 (eventAt s at) ≡ true) (en : n ≡ beforeFirst (isOf 1 11) (eventsAt (e - i - 1) s (at + 8))) (ln : n ≤ e - i - 1) where
-    pub writing-shaped : shaped (eventsAt n s (at + 8)) ≡ true
+  module _ (n : ℕ) (q : isOf 0 11 (eventAt s at) ≡ true) (en : n ≡ beforeFirst (isOf 1 11) (eventsBy w (e - i - 1) s (at + w))) (ln : n ≤ e - i - 1) where
+    pub writing-shaped : shaped (eventsBy w n s (at + w)) ≡ true
     writing-shaped =
-        let r : List Event = resolvedFrom 0 (eventsAt e s from) in
-        ap shaped (sym (inner s at i e n l q en ln))
-        ∙ heading-shaped (eventAt s at) (eventsAt (e - i - 1) s (at + 8)) q i r (ap (λ (es : List Event). earliest i es (gives r)) (sym (first s at i e n l q en ln)) ∙ v .fine)
+        let r : List Event = resolvedFrom 0 (eventsBy w e s from) in
+        ap shaped (sym (inner s at w i e n l q en ln))
+        ∙ heading-shaped (eventAt s at) (eventsBy w (e - i - 1) s (at + w)) q i r (ap (λ (es : List Event). earliest i es (gives r)) (sym (first s at w i e n l q en ln)) ∙ v .fine)
 
-    sizes : length (resolvedFrom 0 (eventsAt (e - i) s at))
-        ≡ 1 + length (withText (eventsAt n s (at + 8))) + length (resolvedFrom 0 (eventsAt (e - (i + (1 + n))) s (at + 8 + 8 * n)))
+    sizes : length (resolvedFrom 0 (eventsBy w (e - i) s at))
+        ≡ 1 + length (withText (eventsBy w n s (at + w))) + length (resolvedFrom 0 (eventsBy w (e - (i + (1 + n))) s (at + w + w * n)))
     sizes =
         omega
-        (arith, ap length (resolved-here s at i e n l q en ln), length-append (withText (eventsAt n s (at + 8))) (resolvedFrom 0 (eventsAt (e - (i + (1 + n))) s (at + 8 + 8 * n))))
+        (arith, ap length (resolved-here s at w i e n l q en ln), length-append (withText (eventsBy w n s (at + w))) (resolvedFrom 0 (eventsBy w (e - (i + (1 + n))) s (at + w + w * n))))
 
-    pub writing-room : next + 8 + 8 * length (withText (eventsAt n s (at + 8))) ≤ to + 8 * length (resolvedFrom 0 (eventsAt e s from))
+    pub writing-room : next + 8 + 8 * length (withText (eventsBy w n s (at + w))) ≤ to + 8 * length (resolvedFrom 0 (eventsBy w e s from))
     writing-room = omega (arith, v .room, sizes)
 
-    pub writing-heading : {d₁ d₂ : List ℕ} (next′ : ℕ) → Wrote out next (flat (eventsAt 1 s at)) d₁ → Wrote d₁ (next + 8) (flat (withText (eventsAt n s (at + 8)))) d₂ →
-        next′ ≡ next + 8 + 8 * length (withText (eventsAt n s (at + 8))) → Writing s from e out₀ to (at + 8 + 8 * n) (i + (1 + n)) d₂ next′
+    pub writing-heading : {d₁ d₂ : List ℕ} (next′ : ℕ) → Wrote out next (flat (eventsBy w 1 s at)) d₁ → Wrote d₁ (next + 8) (flat (withText (eventsBy w n s (at + w)))) d₂ →
+        next′ ≡ next + 8 + 8 * length (withText (eventsBy w n s (at + w))) → Writing s from w e out₀ to (at + w + w * n) (i + (1 + n)) d₂ next′
     writing-heading {d₁} {d₂} next′ w₁ w₂ en′ =
-        let f = length-flat (withText (eventsAt n s (at + 8))) in
-        let r : List Event = resolvedFrom 0 (eventsAt (e - (i + (1 + n))) s (at + 8 + 8 * n)) in
+        let f = length-flat (withText (eventsBy w n s (at + w))) in
+        let r : List Event = resolvedFrom 0 (eventsBy w (e - (i + (1 + n))) s (at + w + w * n)) in
         record {
           place = omega (arith, v .place);
           low = omega arith;
-          fine = sym (passed-here s at i e n l q en ln (gives (resolvedFrom 0 (eventsAt e s from))) writing-shaped) ∙ v .fine;
+          fine = sym (passed-here s at w i e n l q en ln (gives (resolvedFrom 0 (eventsBy w e s from))) writing-shaped) ∙ v .fine;
           room = omega (arith, v .room, sizes, en′);
           kept = wrote-length w₂ ∙ wrote-length w₁ ∙ v .kept;
-          same = λ d w₃. one-more (withText (eventsAt n s (at + 8)) ++ r) (resolved-here s at i e n l q en ln) w₁ (rw (flat-append (withText (eventsAt n s (at + 8))) r) (wrote-then w₂ w₃ (omega (arith, en′, f))));
+          same = λ d w₃. one-more (withText (eventsBy w n s (at + w)) ++ r) (resolved-here s at w i e n l q en ln) w₁ (rw (flat-append (withText (eventsBy w n s (at + w))) r) (wrote-then w₂ w₃ (omega (arith, en′, f))));
         }
 
-pub writing-done : {s : List ℕ} {from e : ℕ} {out₀ : List ℕ} {to at i : ℕ} {out : List ℕ} {next : ℕ} → Writing s from e out₀ to at i out next → e ≤ i →
-    Wrote out₀ to (flat (resolvedFrom 0 (eventsAt e s from))) out
+pub writing-done : {s : List ℕ} {from w e : ℕ} {out₀ : List ℕ} {to at i : ℕ} {out : List ℕ} {next : ℕ} → Writing s from w e out₀ to at i out next → e ≤ i →
+    Wrote out₀ to (flat (resolvedFrom 0 (eventsBy w e s from))) out
 unfolding resolvedFrom flat
-writing-done {s} {from} {e} {out₀} {to} {at} {i} {out} {next} v h =
-    v .same out (rw (nothing-left s at i e h) (wrote-none out next))
+writing-done {s} {from} {w} {e} {out₀} {to} {at} {i} {out} {next} v h =
+    v .same out (rw (nothing-left s at w i e h) (wrote-none out next))

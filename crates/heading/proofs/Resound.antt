@@ -19,7 +19,7 @@ use Rattle.heading.specs.Headings.{isOf, beforeFirst, innerOf, leaves, s
 use Rattle.heading.specs.Text.{Texted, text, closed, empty}
 use Rattle.heading.proofs.Leaves.{first-leaf, rest-leaves}
 use Rattle.heading.proofs.Passes.{inner-leaves, other-passed, other-resolved, heading-passed, heading-resolved, heading-shaped}
-use Rattle.heading.proofs.Settling.{either}
+use Rattle.heading.proofs.Judging.{either}
 use Rattle.heading.proofs.Offence.{odd, leaves-of}
 use Rattle.heading.proofs.Texted.{ended, before-pairs, ending-pairs, behind-pairs}
 use Rattle.heading.proofs.TextAsSaid.{texted}

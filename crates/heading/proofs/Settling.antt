@@ -1,125 +1,84 @@
--- What the first pass finds, against the definition; and a call's ways out, each a case of `settled`.
+-- A call's ways out, each a case of `settled`, over any form.
 -- Assumes nothing.
-use mathlib.Core.Path.{_≡_, refl, sym, ap, _∙_}
-use mathlib.Core.Bool.{Bool, true, false}
-use mathlib.Core.Logic.{_⊎_, inl, inr}
-use mathlib.Core.List.{List, [], _∷_}
+use mathlib.Core.Path.{_≡_, refl, sym, ap}
+use mathlib.Core.Bool.{true}
+use mathlib.Core.List.{List, []}
 use Prim.Native.Nat.{ℕ, _+_, _*_, _≤_, _<_}
 use native.Mathlib.Omega.{arith}
 use lib.ListN.{length}
-use borrow.Author.Tests.{lt-ltb, le-ltb}
-use Rattle.record.specs.Choice.{choose}
 use Rattle.record.specs.Bytes.{Wrote, u32Bytes}
-use Rattle.record.specs.Event.{flat, eventsAt, eventsOf}
+use Rattle.record.specs.Form.{placeIn}
+use Rattle.record.specs.Handed.{formOf}
+use Rattle.record.specs.Event.{flat, eventsBy, eventsIn, sectionBytes}
 use Rattle.record.specs.Check.{admitted}
-use Rattle.record.specs.Outcome.{Resolution, offends, gives, sized, settled}
+use Rattle.record.specs.Outcome.{settled, onto}
 use Rattle.record.specs.Promise.{Answered}
+use Rattle.record.specs.Sound.{sound}
 use Rattle.record.specs.declared.event.Event.{Event}
+use Rattle.record.specs.declared.form.Form.{Form}
+use Rattle.record.specs.declared.form.Handed.{Handed}
 use Rattle.record.specs.declared.check.Refusal.{Refusal}
 use Rattle.record.specs.declared.check.Reading.the-variants.{Good, Refused}
-use Rattle.record.proofs.Sections.{length-eventsAt, section}
+use Rattle.record.proofs.Depth.{sound-deeper}
+use Rattle.record.proofs.Parts.{spread-out}
+use Rattle.record.proofs.Sections.{section}
 use Rattle.record.proofs.Output.{onto-none}
-use Rattle.heading.specs.Headings.{resolvedFrom, offending, earliest, headings}
+use Rattle.partners.specs.Finished.{Finished}
+use Rattle.partners.proofs.Finished.{section-sound}
+use Rattle.partners.proofs.Settled as settledCases
+use Rattle.partners.proofs.Settled.{offended}
+use Rattle.heading.specs.Headings.{resolvedFrom, headings}
 use Rattle.heading.specs.Promise.{answerOf, outcomeOf}
 use Rattle.heading.specs.Steps.{judgedOf}
 use Rattle.heading.specs.declared.judge.Judged.the-variants.{Offends, Sized}
 use Rattle.heading.specs.declared.resolve.Answer.{Answer}
 use Rattle.heading.specs.declared.resolve.Answer.the-variants as answers
+use Rattle.heading.proofs.Judging.{offends-is, sized-is}
+use Rattle.heading.proofs.Resound.{resolved-sound}
 
--- either no heading offends, or one of these does
-pub either : (i : ℕ) (es : List Event) (good : Resolution) →
-    (earliest i es good ≡ good) ⊎ ((k : ℕ) × (earliest i es good ≡ offends k) × (i ≤ k) × (k < i + length es))
-unfolding earliest choose
-either i [] good = inl refl
-either i (e ∷ es) good = go (offending e es) (either (i + 1) es good)
-  where
-    go : (b : Bool) → (earliest (i + 1) es good ≡ good) ⊎ ((k : ℕ) × (earliest (i + 1) es good ≡ offends k) × (i + 1 ≤ k) × (k < i + 1 + length es)) →
-        (choose b (offends i) (earliest (i + 1) es good) ≡ good)
-        ⊎ ((k : ℕ) × (choose b (offends i) (earliest (i + 1) es good) ≡ offends k) × (i ≤ k) × (k < i + length (e ∷ es)))
-    go true p = inr (i, refl, omega arith, omega arith)
-    go false (inl q) = inl q
-    go false (inr (k, q, l, u)) = inr (k, q, omega arith, omega arith)
+-- what is written, of a good record, is sound, one event deeper at most: so it can be finished in any form, for which there is room
+module _ (es : List Event) (d : ℕ) (out : List ℕ) (n : ℕ) (q : Sized n ≡ judgedOf (headings es)) (small : d ≤ 16384) (good : sound 64 d es ≡ true) (few : n ≤ 8000)
+    (width : ℕ) (wide : 8 ≤ width) (room : 4 + width * n ≤ length out) {d₁ d₂ : List ℕ} (w : Wrote out 0 (u32Bytes n) d₁)
+    (v : Wrote d₁ 4 (flat (resolvedFrom 0 es)) d₂) where
+  sound-result : sound 8000 d (resolvedFrom 0 es) ≡ true
+  sound-result = sound-deeper 65 8000 d 0 [] (resolvedFrom 0 es) (omega arith) (resolved-sound es (resolvedFrom 0 es) 64 d good (sized-is es n q .0))
 
-pub offends-is : (es : List Event) (k : ℕ) → Offends k ≡ judgedOf (headings es) → (headings es ≡ offends k) × (k < length es)
-unfolding headings
-offends-is es k q = go (either 0 es (gives (resolvedFrom 0 es)))
-  where
-    go : (headings es ≡ gives (resolvedFrom 0 es)) ⊎ ((j : ℕ) × (headings es ≡ offends j) × (0 ≤ j) × (j < 0 + length es)) →
-        (headings es ≡ offends k) × (k < length es)
-    go (inl p) =
-        let z : Offends k ≡ Sized (length (resolvedFrom 0 es)) = q ∙ ap judgedOf p in
-        let y : _≡_ {A = ℕ} 0 1 = cc in
-        absurd (omega arith)
-    go (inr (j, p, l, u)) =
-        let z : Offends k ≡ Offends j = q ∙ ap judgedOf p in
-        let y : j ≡ k = cc in
-        (p ∙ ap (λ (m : ℕ). offends m) y, omega arith)
+  old-section : d₂ ≡ onto (sectionBytes (resolvedFrom 0 es)) out
+  old-section = section (resolvedFrom 0 es) n (sym (sized-is es n q .1)) (spread-out width n 4 (length out) wide room) w v
 
-pub sized-is : (es : List Event) (n : ℕ) → Sized n ≡ judgedOf (headings es) → (headings es ≡ gives (resolvedFrom 0 es)) × (n ≡ length (resolvedFrom 0 es))
-unfolding headings
-sized-is es n q = go (either 0 es (gives (resolvedFrom 0 es)))
-  where
-    go : (headings es ≡ gives (resolvedFrom 0 es)) ⊎ ((j : ℕ) × (headings es ≡ offends j) × (0 ≤ j) × (j < 0 + length es)) →
-        (headings es ≡ gives (resolvedFrom 0 es)) × (n ≡ length (resolvedFrom 0 es))
-    go (inl p) =
-        let z : Sized n ≡ Sized (length (resolvedFrom 0 es)) = q ∙ ap judgedOf p in
-        (p, cc)
-    go (inr (j, p, l, u)) =
-        let z : Sized n ≡ Offends j = q ∙ ap judgedOf p in
-        let y : _≡_ {A = ℕ} 0 1 = cc in
-        absurd (omega arith)
+  pub finishes : sound 8000 d (eventsBy 8 n d₂ 4) ≡ true
+  finishes = section-sound 8000 d n (resolvedFrom 0 es) out d₂ (sym (sized-is es n q .1)) few sound-result small old-section
 
--- the four ways out, of a good record
-module _ (s : List ℕ) (d e : ℕ) (out : List ℕ) where
-  pub offender-below : (k : ℕ) → Offends k ≡ judgedOf (headings (eventsAt e s (8 + d))) → k < e
-  offender-below k q = omega (arith, offends-is (eventsAt e s (8 + d)) k q .1, length-eventsAt e s (8 + d))
+-- the four ways out, of a form, after a document of d bytes and with whatever events
+module _ (f : Form) (es : List Event) (d : ℕ) (out : List ℕ) where
+  pub shape-broken : (k place : ℕ) → place ≡ placeIn f d k → Offends k ≡ judgedOf (headings es) →
+      Answered f (settled f d (headings es) (length out)) answerOf out (answers.Refused (record { number = 6; place = place })) out
+  shape-broken k place e q = offended f d (headings es) answerOf out _ k place (offends-is es k q .0) e refl
 
-  pub shape-broken : (k : ℕ) → Offends k ≡ judgedOf (headings (eventsAt e s (8 + d))) →
-      Answered (settled d (headings (eventsOf s d e)) (length out)) answerOf out (answers.Refused (record { number = 6; place = 8 + d + 8 * k })) out
-  unfolding eventsOf
-  shape-broken k q = rw (offends-is (eventsAt e s (8 + d)) k q .0) (record { answer = refl; output = sym (onto-none out) })
+  module _ (n : ℕ) (q : Sized n ≡ judgedOf (headings es)) where
+    pub too-many : 8000 < n → Answered f (settled f d (headings es) (length out)) answerOf out (answers.Refused (record { number = 7; place = 0 })) out
+    too-many h = let g = sized-is es n q in settledCases.too-many f d (headings es) answerOf out _ (resolvedFrom 0 es) (g .0) n (sym (g .1)) h refl
 
-  module _ (n : ℕ) (q : Sized n ≡ judgedOf (headings (eventsAt e s (8 + d)))) where
-    pub too-many : 8000 < n → Answered (settled d (headings (eventsOf s d e)) (length out)) answerOf out (answers.Refused (record { number = 7; place = 0 })) out
-    unfolding eventsOf sized choose
-    too-many h =
-        let f = sized-is (eventsAt e s (8 + d)) n q in
-        let l : 8000 < length (resolvedFrom 0 (eventsAt e s (8 + d))) = omega (arith, f .1) in
-        rw (f .0, lt-ltb 8000 (length (resolvedFrom 0 (eventsAt e s (8 + d)))) l) (record { answer = refl; output = sym (onto-none out) })
+    pub too-short : n ≤ 8000 → length out < 4 + f .width * n →
+        Answered f (settled f d (headings es) (length out)) answerOf out (answers.Refused (record { number = 8; place = 0 })) out
+    too-short few h = let g = sized-is es n q in settledCases.too-short f d (headings es) answerOf out _ (resolvedFrom 0 es) (g .0) n (sym (g .1)) few h refl
 
-    pub too-short : n ≤ 8000 → length out < 4 + 8 * n →
-        Answered (settled d (headings (eventsOf s d e)) (length out)) answerOf out (answers.Refused (record { number = 8; place = 0 })) out
-    unfolding eventsOf sized choose
-    too-short h o =
-        let f = sized-is (eventsAt e s (8 + d)) n q in
-        let l : length (resolvedFrom 0 (eventsAt e s (8 + d))) ≤ 8000 = omega (arith, f .1) in
-        let m : length out < 4 + 8 * length (resolvedFrom 0 (eventsAt e s (8 + d))) = omega (arith, f .1) in
-        rw (f .0, le-ltb 8000 (length (resolvedFrom 0 (eventsAt e s (8 + d)))) l, lt-ltb (length out) (4 + 8 * length (resolvedFrom 0 (eventsAt e s (8 + d)))) m)
-        (record { answer = refl; output = sym (onto-none out) })
-
-    pub no-offender : headings (eventsAt e s (8 + d)) ≡ gives (resolvedFrom 0 (eventsAt e s (8 + d)))
-    no-offender = sized-is (eventsAt e s (8 + d)) n q .0
-
-    pub size-is : n ≡ length (resolvedFrom 0 (eventsAt e s (8 + d)))
-    size-is = sized-is (eventsAt e s (8 + d)) n q .1
-
-    pub resolved : {d₁ d₂ : List ℕ} → n ≤ 8000 → 4 + 8 * n ≤ length out → Wrote out 0 (u32Bytes n) d₁ → Wrote d₁ 4 (flat (resolvedFrom 0 (eventsAt e s (8 + d)))) d₂ →
-        Answered (settled d (headings (eventsOf s d e)) (length out)) answerOf out (answers.Resolved n) d₂
-    unfolding eventsOf sized choose
-    resolved h o w v =
-        let f = sized-is (eventsAt e s (8 + d)) n q in
-        let l : length (resolvedFrom 0 (eventsAt e s (8 + d))) ≤ 8000 = omega (arith, f .1) in
-        let m : 4 + 8 * length (resolvedFrom 0 (eventsAt e s (8 + d))) ≤ length out = omega (arith, f .1) in
-        rw (f .0, le-ltb 8000 (length (resolvedFrom 0 (eventsAt e s (8 + d)))) l, le-ltb (length out) (4 + 8 * length (resolvedFrom 0 (eventsAt e s (8 + d)))) m)
-        (record { answer = ap (λ (k : ℕ). answers.Resolved k) (f .1); output = section (resolvedFrom 0 (eventsAt e s (8 + d))) n (sym (f .1)) o w v })
+    pub resolved : d ≤ 16384 → sound 64 d es ≡ true → n ≤ 8000 → 8 ≤ f .width → 4 + f .width * n ≤ length out →
+        {d₁ d₂ d₃ : List ℕ} → Wrote out 0 (u32Bytes n) d₁ → Wrote d₁ 4 (flat (resolvedFrom 0 es)) d₂ → Finished f n d₂ d₃ →
+        Answered f (settled f d (headings es) (length out)) answerOf out (answers.Resolved n) d₃
+    resolved small good few wide room {d₁} {d₂} {d₃} w v x =
+        let g = sized-is es n q in
+        let sound-so = sound-result es d out n q small good few (f .width) wide room w v in
+        let before = old-section es d out n q small good few (f .width) wide room w v in
+        settledCases.written f d (headings es) answerOf out _ (resolvedFrom 0 es) (g .0) n (sym (g .1)) few room small sound-so before x (ap (λ (k : ℕ). answers.Resolved k) (g .1))
 
 -- the check's two ways on
-pub not-admitted : (s : List ℕ) (options works : ℕ) (out : List ℕ) (r : Refusal) → Refused r ≡ admitted s options works →
-    Answered (outcomeOf s options (length out) works) answerOf out (answers.Refused r) out
+pub not-admitted : (h : Handed) (s : List ℕ) (works : ℕ) (out : List ℕ) (r : Refusal) → Refused r ≡ admitted h s works →
+    Answered (formOf h) (outcomeOf h s (length out) works) answerOf out (answers.Refused r) out
 unfolding outcomeOf
-not-admitted s options works out r q = rw (← q) (record { answer = refl; output = sym (onto-none out) })
+not-admitted h s works out r q = rw (← q) (record { answer = refl; output = sym (onto-none out) })
 
-pub good-record : (s : List ℕ) (options works d e : ℕ) (out : List ℕ) {r : Answer} {out′ : List ℕ} → Good d e ≡ admitted s options works →
-    Answered (settled d (headings (eventsOf s d e)) (length out)) answerOf out r out′ → Answered (outcomeOf s options (length out) works) answerOf out r out′
+pub good-record : (h : Handed) (s : List ℕ) (works d e : ℕ) (out : List ℕ) (f : Form) {r : Answer} {out′ : List ℕ} → Good d e ≡ admitted h s works → f ≡ formOf h →
+    Answered f (settled f d (headings (eventsIn f s d e)) (length out)) answerOf out r out′ → Answered (formOf h) (outcomeOf h s (length out) works) answerOf out r out′
 unfolding outcomeOf
-good-record s options works d e out q w = rw (← q) w
+good-record h s works d e out f q g w = rw (← q) (rw g at w)

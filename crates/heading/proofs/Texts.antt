@@ -11,15 +11,16 @@ use lib.Dec.{eqb}
 use borrow.Author.Tests.{eq-eqb, ne-eqb}
 use Rattle.record.specs.Choice.{choose}
 use Rattle.record.specs.Bytes.{Wrote, u32At}
-use Rattle.record.specs.Event.{eventBytes, flat, eventAt, eventsAt}
+use Rattle.record.specs.Event.{eventBytes, flat, eventAt, eventsBy}
 use Rattle.record.specs.Stack.{nth}
 use Rattle.record.specs.declared.event.Event.{Event}
 use Rattle.record.proofs.Splice.{wrote-then}
-use Rattle.record.proofs.Sections.{length-eventsAt, length-flat, flat-append}
+use Rattle.record.proofs.Parts.{less, further, event-room, length-events, drop-events, nth-event, events-cons}
+use Rattle.record.proofs.Sections.{length-flat, flat-append}
 use Rattle.heading.specs.Headings.{beforeFirst, throughLast, startsWith, shaped, throughOpening, isDataOrRun, beforeText, toLast, beforeClosing, withoutClosing, textEvents, throughText, textRound, withText}
 use Rattle.heading.specs.Shape.{Shape, bare, spaced}
 use Rattle.heading.specs.Steps.{Ends}
-use Rattle.heading.proofs.Lists.{events-step, events-last, events-take, events-drop, events-nth}
+use Rattle.heading.proofs.Lists.{events-last, events-take, rest-room}
 use Rattle.heading.proofs.Offence.{shape-of}
 
 -- a heading is as long as its opening run, at least
@@ -32,82 +33,88 @@ opening-some : {inner : List Event} → Shape inner → 0 < length inner
 opening-some (bare l) = omega arith
 opening-some (spaced l) = omega arith
 
-module _ (s : List ℕ) (from n : ℕ) (q : shaped (eventsAt n s from) ≡ true) where
-  opening-fits : throughOpening (eventsAt n s from) ≤ n
-  opening-fits = omega (arith, opening-in (shape-of (eventsAt n s from) q), length-eventsAt n s from)
+module _ (s : List ℕ) (from w n : ℕ) (q : shaped (eventsBy w n s from) ≡ true) where
+  opening-fits : throughOpening (eventsBy w n s from) ≤ n
+  opening-fits = omega (arith, opening-in (shape-of (eventsBy w n s from) q), length-events w n s from)
 
   pub inner-some : 0 < n
-  inner-some = omega (arith, opening-some (shape-of (eventsAt n s from) q), length-eventsAt n s from)
+  inner-some = omega (arith, opening-some (shape-of (eventsBy w n s from) q), length-events w n s from)
 
-  opening-by : throughOpening (eventsAt n s from) ≡ choose (eqb (getD s (from + 1) 0) 14) 4 2
+  opening-by : throughOpening (eventsBy w n s from) ≡ choose (eqb (getD s (from + 1) 0) 14) 4 2
   unfolding throughOpening startsWith
-  opening-by = ap throughOpening (events-step n (n - 1) s from (omega (arith, inner-some)))
+  opening-by = ap throughOpening (events-cons w n (n - 1) s from (omega (arith, inner-some)))
 
   -- indented, or not
-  pub opening-indented : getD s (from + 1) 0 ≡ 14 → (4 ≡ throughOpening (eventsAt n s from)) × (4 ≤ n)
+  pub opening-indented : getD s (from + 1) 0 ≡ 14 → (4 ≡ throughOpening (eventsBy w n s from)) × (4 ≤ n)
   unfolding choose
   opening-indented e =
-      let k : throughOpening (eventsAt n s from) ≡ 4 = opening-by ∙ rw (eq-eqb (getD s (from + 1) 0) 14 e) in
+      let k : throughOpening (eventsBy w n s from) ≡ 4 = opening-by ∙ rw (eq-eqb (getD s (from + 1) 0) 14 e) in
       (sym k, omega (arith, opening-fits))
 
-  pub opening-bare : (getD s (from + 1) 0 ≡ 14 → ⊥) → (2 ≡ throughOpening (eventsAt n s from)) × (2 ≤ n)
+  pub opening-bare : (getD s (from + 1) 0 ≡ 14 → ⊥) → (2 ≡ throughOpening (eventsBy w n s from)) × (2 ≤ n)
   unfolding choose
   opening-bare e =
-      let k : throughOpening (eventsAt n s from) ≡ 2 = opening-by ∙ rw (ne-eqb (getD s (from + 1) 0) 14 e) in
+      let k : throughOpening (eventsBy w n s from) ≡ 2 = opening-by ∙ rw (ne-eqb (getD s (from + 1) 0) 14 e) in
       (sym k, omega (arith, opening-fits))
 
 -- whether a `#` run is the last of n events
-module _ (s : List ℕ) (from n : ℕ) where
-  pub closing-none : n ≡ 0 → (0 ≡ beforeClosing (eventsAt n s from)) × (0 ≤ n)
-  unfolding beforeClosing startsWith eventsAt choose
-  closing-none z = (sym (ap (λ (k : ℕ). beforeClosing (eventsAt k s from)) z), omega arith)
+module _ (s : List ℕ) (from w n : ℕ) where
+  pub closing-none : n ≡ 0 → (0 ≡ beforeClosing (eventsBy w n s from)) × (0 ≤ n)
+  unfolding beforeClosing startsWith eventsBy choose
+  closing-none z = (sym (ap (λ (k : ℕ). beforeClosing (eventsBy w k s from)) z), omega arith)
 
-  closing-by : (n ≡ 0 → ⊥) → beforeClosing (eventsAt n s from) ≡ choose (eqb (getD s (from + 8 * n - 7) 0) 12) (n - 2) n
+  closing-by : (n ≡ 0 → ⊥) → beforeClosing (eventsBy w n s from) ≡ choose (eqb (getD s (from + w * (n - 1) + 1) 0) 12) (n - 2) n
   unfolding beforeClosing startsWith
   closing-by h =
-      let k : from + 8 * (n - 1) + 1 ≡ from + 8 * n - 7 = omega arith in
-      let e = ap reverse (events-last n (n - 1) s from (omega arith)) ∙ reverse-append (eventsAt (n - 1) s from) (eventAt s (from + 8 * (n - 1)) ∷ []) in
-      ap (λ (x : List Event). choose (startsWith 12 x) (length (eventsAt n s from) - 2) (length (eventsAt n s from))) e
-      ∙ ap (λ (m : ℕ). choose (eqb (getD s (from + 8 * (n - 1) + 1) 0) 12) (m - 2) m) (length-eventsAt n s from)
-      ∙ ap (λ (m : ℕ). choose (eqb (getD s m 0) 12) (n - 2) n) k
+      let e = ap reverse (events-last w n (n - 1) s from (omega arith)) ∙ reverse-append (eventsBy w (n - 1) s from) (eventAt s (from + w * (n - 1)) ∷ []) in
+      ap (λ (x : List Event). choose (startsWith 12 x) (length (eventsBy w n s from) - 2) (length (eventsBy w n s from))) e
+      ∙ ap (λ (m : ℕ). choose (eqb (getD s (from + w * (n - 1) + 1) 0) 12) (m - 2) m) (length-events w n s from)
 
-  pub closing-other : (n ≡ 0 → ⊥) → (getD s (from + 8 * n - 7) 0 ≡ 12 → ⊥) → (n ≡ beforeClosing (eventsAt n s from)) × (n ≤ n)
+  pub closing-other : (n ≡ 0 → ⊥) → (getD s (from + w * (n - 1) + 1) 0 ≡ 12 → ⊥) → (n ≡ beforeClosing (eventsBy w n s from)) × (n ≤ n)
   unfolding choose
-  closing-other h e = (sym (closing-by h ∙ rw (ne-eqb (getD s (from + 8 * n - 7) 0) 12 e)), omega arith)
+  closing-other h e = (sym (closing-by h ∙ rw (ne-eqb (getD s (from + w * (n - 1) + 1) 0) 12 e)), omega arith)
 
-  pub closing-here : (r : ℕ) → (n ≡ 0 → ⊥) → getD s (from + 8 * n - 7) 0 ≡ 12 → r ≡ n - 2 → (r ≡ beforeClosing (eventsAt n s from)) × (r ≤ n)
+  pub closing-here : (r : ℕ) → (n ≡ 0 → ⊥) → getD s (from + w * (n - 1) + 1) 0 ≡ 12 → r ≡ n - 2 → (r ≡ beforeClosing (eventsBy w n s from)) × (r ≤ n)
   unfolding choose
-  closing-here r h e z = (z ∙ sym (closing-by h ∙ rw (eq-eqb (getD s (from + 8 * n - 7) 0) 12 e)), omega arith)
+  closing-here r h e z = (z ∙ sym (closing-by h ∙ rw (eq-eqb (getD s (from + w * (n - 1) + 1) 0) 12 e)), omega arith)
+
+-- the last of n events, which there are, lies before their end
+pub last-room : (w n at end : ℕ) → at + w * n ≤ end → (n ≡ 0 → ⊥) → at + w * (n - 1) + w ≤ end
+last-room w n at end r h = event-room w n (n - 1) at end r (omega arith)
+
+-- and those behind a of them and b more
+pub after-room : (w n a b at end : ℕ) → at + w * n ≤ end → a ≤ n → b ≤ n - a → at + w * (a + b) + w * (n - (a + b)) ≤ end
+after-room w n a b at end r la lb = rest-room w n (a + b) at end r (omega arith)
 
 -- where a text begins and ends, step by step: behind the opening run, before the first Data or `#` run, up to the last one, before a
 -- closing run, up to the last one again
-pub ends : (s : List ℕ) (from n opened skipped last unclosed kept : ℕ) → opened ≡ throughOpening (eventsAt n s from) → opened ≤ n →
-    skipped ≡ beforeFirst isDataOrRun (eventsAt (n - opened) s (from + 8 * opened)) → skipped ≤ n - opened →
-    last ≡ throughLast isDataOrRun (eventsAt (n - (opened + skipped)) s (from + 8 * (opened + skipped))) → last ≤ n - (opened + skipped) →
-    unclosed ≡ beforeClosing (eventsAt last s (from + 8 * (opened + skipped))) → unclosed ≤ last →
-    kept ≡ throughLast isDataOrRun (eventsAt unclosed s (from + 8 * (opened + skipped))) → kept ≤ unclosed →
-    Ends (eventsAt n s from) n (opened + skipped) (opened + skipped + kept)
+pub ends : (s : List ℕ) (from w n opened skipped last unclosed kept : ℕ) → opened ≡ throughOpening (eventsBy w n s from) → opened ≤ n →
+    skipped ≡ beforeFirst isDataOrRun (eventsBy w (n - opened) s (from + w * opened)) → skipped ≤ n - opened →
+    last ≡ throughLast isDataOrRun (eventsBy w (n - (opened + skipped)) s (from + w * (opened + skipped))) → last ≤ n - (opened + skipped) →
+    unclosed ≡ beforeClosing (eventsBy w last s (from + w * (opened + skipped))) → unclosed ≤ last →
+    kept ≡ throughLast isDataOrRun (eventsBy w unclosed s (from + w * (opened + skipped))) → kept ≤ unclosed →
+    Ends (eventsBy w n s from) n (opened + skipped) (opened + skipped + kept)
 unfolding beforeText throughText textEvents toLast withoutClosing
-ends s from n opened skipped last unclosed kept eo lo es ls el ll ec lc ek lk =
-    let inner : List Event = eventsAt n s from in
-    let start : ℕ = from + 8 * (opened + skipped) in
-    let behind : drop opened inner ≡ eventsAt (n - opened) s (from + 8 * opened) = events-drop opened n (n - opened) s from (from + 8 * opened) (omega arith) refl in
+ends s from w n opened skipped last unclosed kept eo lo es ls el ll ec lc ek lk =
+    let inner : List Event = eventsBy w n s from in
+    let start : ℕ = from + w * (opened + skipped) in
+    let behind : drop opened inner ≡ eventsBy w (n - opened) s (from + w * opened) = drop-events w n opened s from lo in
     let first : opened + skipped ≡ beforeText inner =
     ap (λ (k : ℕ). opened + k) (es ∙ ap (beforeFirst isDataOrRun) (sym behind)) ∙ ap (λ (k : ℕ). k + beforeFirst isDataOrRun (drop k inner)) eo
     in
-    let rest : drop (opened + skipped) inner ≡ eventsAt (n - (opened + skipped)) s start =
-    events-drop (opened + skipped) n (n - (opened + skipped)) s from start (omega arith) refl
+    let rest : drop (opened + skipped) inner ≡ eventsBy w (n - (opened + skipped)) s start =
+    drop-events w n (opened + skipped) s from (omega arith)
     in
-    let upto : toLast (eventsAt (n - (opened + skipped)) s start) ≡ eventsAt last s start =
-    ap (λ (k : ℕ). take k (eventsAt (n - (opened + skipped)) s start)) (sym el) ∙ events-take last (n - (opened + skipped)) s start ll
+    let upto : toLast (eventsBy w (n - (opened + skipped)) s start) ≡ eventsBy w last s start =
+    ap (λ (k : ℕ). take k (eventsBy w (n - (opened + skipped)) s start)) (sym el) ∙ events-take w (n - (opened + skipped)) last s start ll
     in
-    let without-closing : withoutClosing (eventsAt last s start) ≡ eventsAt unclosed s start =
-    ap (λ (k : ℕ). take k (eventsAt last s start)) (sym ec) ∙ events-take unclosed last s start lc
+    let without-closing : withoutClosing (eventsBy w last s start) ≡ eventsBy w unclosed s start =
+    ap (λ (k : ℕ). take k (eventsBy w last s start)) (sym ec) ∙ events-take w last unclosed s start lc
     in
-    let kept-events : toLast (eventsAt unclosed s start) ≡ eventsAt kept s start =
-    ap (λ (k : ℕ). take k (eventsAt unclosed s start)) (sym ek) ∙ events-take kept unclosed s start lk
+    let kept-events : toLast (eventsBy w unclosed s start) ≡ eventsBy w kept s start =
+    ap (λ (k : ℕ). take k (eventsBy w unclosed s start)) (sym ek) ∙ events-take w unclosed kept s start lk
     in
-    let text : textEvents inner ≡ eventsAt kept s start =
+    let text : textEvents inner ≡ eventsBy w kept s start =
     ap (λ (k : ℕ). toLast (withoutClosing (toLast (drop k inner)))) (sym first)
     ∙ ap (λ (x : List Event). toLast (withoutClosing (toLast x))) rest
     ∙ ap (λ (x : List Event). toLast (withoutClosing x)) upto
@@ -116,7 +123,7 @@ ends s from n opened skipped last unclosed kept eo lo es ls el ll ec lc ek lk =
     in
     record {
       first = first;
-      last = omega (arith, first, ap length text, length-eventsAt kept s start);
+      last = omega (arith, first, ap length text, length-events w kept s start);
       front = omega arith;
       whole = omega arith;
     }
@@ -136,64 +143,76 @@ pub placed : {d d′ : List ℕ} {to from from′ end end′ : ℕ} → from ≡
     Wrote d to (flat (textRound from′ end′)) d′
 placed p q w = rw (p, q) at w
 
-module _ (s : List ℕ) (from n before through : ℕ) (x : Ends (eventsAt n s from) n before through) where
+module _ (s : List ℕ) (from w n before through : ℕ) (x : Ends (eventsBy w n s from) n before through) where
   -- no text
-  pub without : before ≡ through → withText (eventsAt n s from) ≡ eventsAt n s from
+  pub without : before ≡ through → withText (eventsBy w n s from) ≡ eventsBy w n s from
   unfolding withText choose
-  without q = rw (eq-eqb (beforeText (eventsAt n s from)) (throughText (eventsAt n s from)) (sym (x .first) ∙ q ∙ x .last))
+  without q = rw (eq-eqb (beforeText (eventsBy w n s from)) (throughText (eventsBy w n s from)) (sym (x .first) ∙ q ∙ x .last))
 
-  pub length-unchanged : before ≡ through → length (withText (eventsAt n s from)) ≡ n
-  length-unchanged q = ap length (without q) ∙ length-eventsAt n s from
+  pub length-unchanged : before ≡ through → length (withText (eventsBy w n s from)) ≡ n
+  length-unchanged q = ap length (without q) ∙ length-events w n s from
 
-  pub unchanged : {d d′ : List ℕ} (to : ℕ) → before ≡ through → Wrote d to (flat (eventsAt n s from)) d′ → Wrote d to (flat (withText (eventsAt n s from))) d′
+  pub unchanged : {d d′ : List ℕ} (to : ℕ) → before ≡ through → Wrote d to (flat (eventsBy w n s from)) d′ → Wrote d to (flat (withText (eventsBy w n s from))) d′
   unchanged to q w = rw (without q) w
 
   module _ (ne : before ≡ through → ⊥) where
     -- three parts, each of them read out of the record
-    cut : withText (eventsAt n s from)
-        ≡ take before (eventsAt n s from)
-        ++ (textRound (nth (eventsAt n s from) before .place) (nth (eventsAt n s from) (through - 1) .place) ++ drop through (eventsAt n s from))
+    cut : withText (eventsBy w n s from)
+        ≡ take before (eventsBy w n s from)
+        ++ (textRound (nth (eventsBy w n s from) before .place) (nth (eventsBy w n s from) (through - 1) .place) ++ drop through (eventsBy w n s from))
     unfolding withText choose
     cut =
-        rw (ne-eqb (beforeText (eventsAt n s from)) (throughText (eventsAt n s from)) (λ z. ne (x .first ∙ z ∙ sym (x .last))), ← x .first, ← x .last)
+        rw (ne-eqb (beforeText (eventsBy w n s from)) (throughText (eventsBy w n s from)) (λ z. ne (x .first ∙ z ∙ sym (x .last))), ← x .first, ← x .last)
 
-    pub parts : withText (eventsAt n s from)
-        ≡ eventsAt before s from ++ (textRound (u32At s (from + 8 * before + 4)) (u32At s (from + 8 * through - 4)) ++ eventsAt (n - through) s (from + 8 * through))
+    pub parts : withText (eventsBy w n s from)
+        ≡ eventsBy w before s from ++ (textRound (u32At s (from + w * before + 4)) (u32At s (from + w * through - w + 4)) ++ eventsBy w (n - through) s (from + w * through))
     parts =
-        let e : from + 8 * through - 8 + 4 ≡ from + 8 * through - 4 = omega arith in
+        let l : w * through ≡ w + w * (through - 1) = less w through (omega (arith, x .front)) in
+        let e : from + w * (through - 1) ≡ from + w * through - w = omega arith in
         cut
         ∙ rw (
-          events-take before n s from (omega arith),
-          events-nth before n s from (from + 8 * before) (omega arith) refl,
-          events-nth (through - 1) n s from (from + 8 * through - 8) (omega arith) (omega arith),
-          events-drop through n (n - through) s from (from + 8 * through) (omega arith) refl,
+          events-take w n before s from (omega (arith, x .front, x .whole)),
+          nth-event w n before s from (omega (arith, x .front, x .whole)),
+          nth-event w n (through - 1) s from (omega (arith, x .front, x .whole)),
+          drop-events w n through s from (x .whole),
           e,
         )
 
-    pub length-text : length (withText (eventsAt n s from)) ≡ before + 4 + (n - through)
+    pub length-text : length (withText (eventsBy w n s from)) ≡ before + 4 + (n - through)
     length-text =
-        let back : List Event = eventsAt (n - through) s (from + 8 * through) in
-        let round : List Event = textRound (u32At s (from + 8 * before + 4)) (u32At s (from + 8 * through - 4)) in
+        let back : List Event = eventsBy w (n - through) s (from + w * through) in
+        let round : List Event = textRound (u32At s (from + w * before + 4)) (u32At s (from + w * through - w + 4)) in
         ap length parts
-        ∙ omega (arith, length-append (eventsAt before s from) (round ++ back), length-eventsAt before s from, length-eventsAt (n - through) s (from + 8 * through))
+        ∙ omega (arith, length-append (eventsBy w before s from) (round ++ back), length-events w before s from, length-events w (n - through) s (from + w * through))
 
     pub written : {d d₁ d₂ d₃ : List ℕ} (to : ℕ)
-        → Wrote d to (flat (eventsAt before s from)) d₁
-        → Wrote d₁ (to + 8 * before) (flat (textRound (u32At s (from + 8 * before + 4)) (u32At s (from + 8 * through - 4)))) d₂
-        → Wrote d₂ (to + 8 * before + 32) (flat (eventsAt (n - through) s (from + 8 * through))) d₃
-        → Wrote d to (flat (withText (eventsAt n s from))) d₃
+        → Wrote d to (flat (eventsBy w before s from)) d₁
+        → Wrote d₁ (to + 8 * before) (flat (textRound (u32At s (from + w * before + 4)) (u32At s (from + w * through - w + 4)))) d₂
+        → Wrote d₂ (to + 8 * before + 32) (flat (eventsBy w (n - through) s (from + w * through))) d₃
+        → Wrote d to (flat (withText (eventsBy w n s from))) d₃
     written to w₁ w₂ w₃ =
-        let round : List Event = textRound (u32At s (from + 8 * before + 4)) (u32At s (from + 8 * through - 4)) in
-        let a : length (flat (eventsAt before s from)) ≡ 8 * before = length-flat _ ∙ ap (λ (k : ℕ). 8 * k) (length-eventsAt before s from) in
+        let round : List Event = textRound (u32At s (from + w * before + 4)) (u32At s (from + w * through - w + 4)) in
+        let a : length (flat (eventsBy w before s from)) ≡ 8 * before = length-flat _ ∙ ap (λ (k : ℕ). 8 * k) (length-events w before s from) in
         let b : length (flat round) ≡ 32 = length-flat round in
-        let w = wrote-then w₁ (wrote-then w₂ w₃ (omega (arith, b))) (omega (arith, a)) in
-        rw (parts, flat-append, flat-append) w
+        let v = wrote-then w₁ (wrote-then w₂ w₃ (omega (arith, b))) (omega (arith, a)) in
+        rw (parts, flat-append, flat-append) v
 
--- what is known of a text that is there
-pub record Found (s : List ℕ) (from n before through : ℕ) : Type 0 where
-  pub size : length (withText (eventsAt n s from)) ≡ before + 4 + (n - through)
+-- what is known of a text that is there: how long the inner events get, and where its first event, its last and those behind it lie
+pub record Found (s : List ℕ) (from w n before through : ℕ) : Type 0 where
+  pub size : length (withText (eventsBy w n s from)) ≡ before + 4 + (n - through)
   pub some : before < through
   pub whole : through ≤ n
+  pub inside : w * before + w ≤ w * through
+  pub behind : from + w * through + w * (n - through) ≤ length s
 
-pub found : (s : List ℕ) (from n before through : ℕ) → Ends (eventsAt n s from) n before through → (before ≡ through → ⊥) → Found s from n before through
-found s from n before through x ne = record { size = length-text s from n before through x ne; some = omega (arith, x .front); whole = x .whole }
+pub found : (s : List ℕ) (from w n before through : ℕ) → from + w * n ≤ length s → Ends (eventsBy w n s from) n before through → (before ≡ through → ⊥) →
+    Found s from w n before through
+found s from w n before through r x ne =
+    let l : before < through = omega (arith, x .front) in
+    record {
+      size = length-text s from w n before through x ne;
+      some = l;
+      whole = x .whole;
+      inside = further w before through l;
+      behind = rest-room w n through from (length s) r (x .whole);
+    }

@@ -1,4 +1,5 @@
-// Where the first and the last event of some sort stand among the n events from a place of a record on.
+// Where the first and the last event of some sort stand among the n events from a place of a record on. An event takes `width` bytes, of
+// which the first eight are read.
 
 use record::limits::DATA;
 use record::limits::EXIT;
@@ -7,7 +8,7 @@ use record::limits::HEADING_SEQUENCE;
 ghost use mathlib.Core.Path.{_≡_};
 ghost use Prim.Native.Nat.{_+_, _*_, _≤_};
 ghost use lib.ListN.{length};
-ghost use Rattle.record.specs.Event.{eventAt, eventsAt};
+ghost use Rattle.record.specs.Event.{eventAt, eventsBy};
 ghost use Rattle.heading.specs.Headings.{isOf, isDataOrRun, beforeFirst, throughLast};
 ghost use Rattle.heading.specs.Steps.{soughtBy};
 
@@ -55,9 +56,9 @@ pub fn is_sought(s: &[u8], at: usize, what: Sought) -> bool
 }
 
 // How many events stand before the first that is looked for.
-pub fn before_first(s: &[u8], from: usize, n: usize, what: Sought) -> usize
-    requires { ⌜ from + 8 * n ≤ length (now s) ⌝ }
-    ensures { λ r. ⌜ (r ≡ beforeFirst (soughtBy what) (eventsAt n (now (s .entry)) from)) × (r ≤ n) ⌝ }
+pub fn before_first(s: &[u8], from: usize, width: usize, n: usize, what: Sought) -> usize
+    requires { ⌜ (8 ≤ width) × (from + width * n ≤ length (now s)) ⌝ }
+    ensures { λ r. ⌜ (r ≡ beforeFirst (soughtBy what) (eventsBy width n (now (s .entry)) from)) × (r ≤ n) ⌝ }
 {
     let mut at = from;
     let mut i = 0;
@@ -65,24 +66,24 @@ pub fn before_first(s: &[u8], from: usize, n: usize, what: Sought) -> usize
         if is_sought(s, at, what) {
             return i;
         }
-        at += 8;
+        at += width;
         i += 1;
     }
     i
 }
 
 // How many events stand up to the last that is looked for, it included.
-pub fn through_last(s: &[u8], from: usize, n: usize, what: Sought) -> usize
-    requires { ⌜ from + 8 * n ≤ length (now s) ⌝ }
-    ensures { λ r. ⌜ (r ≡ throughLast (soughtBy what) (eventsAt n (now (s .entry)) from)) × (r ≤ n) ⌝ }
+pub fn through_last(s: &[u8], from: usize, width: usize, n: usize, what: Sought) -> usize
+    requires { ⌜ (8 ≤ width) × (from + width * n ≤ length (now s)) ⌝ }
+    ensures { λ r. ⌜ (r ≡ throughLast (soughtBy what) (eventsBy width n (now (s .entry)) from)) × (r ≤ n) ⌝ }
 {
-    let mut end = from + 8 * n;
+    let mut end = from + width * n;
     let mut left = n;
     while left > 0 {
-        if is_sought(s, end - 8, what) {
+        if is_sought(s, end - width, what) {
             return left;
         }
-        end -= 8;
+        end -= width;
         left -= 1;
     }
     left

@@ -1,4 +1,5 @@
-// The shape rule: in a heading only leaf pairs of 0, 12, 14, beginning with at most one 14 and then a 12.
+// The shape rule: in a heading only leaf pairs of 0, 12, 14, beginning with at most one 14 and then a 12. An event takes `width` bytes, of
+// which the first eight are read.
 
 use crate::seek::is_of;
 use record::limits::DATA;
@@ -9,19 +10,19 @@ use record::limits::SPACE_OR_TAB;
 ghost use mathlib.Core.Path.{_≡_};
 ghost use Prim.Native.Nat.{_+_, _*_, _≤_};
 ghost use lib.ListN.{length};
-ghost use Rattle.record.specs.Event.{eventAt, eventsAt};
+ghost use Rattle.record.specs.Event.{eventAt, eventsBy};
 ghost use Rattle.heading.specs.Headings.{leaf, leaves, headed, shaped};
 
 // Whether the two events from a place on are a leaf pair of a name that a heading may hold.
-pub fn is_leaf(s: &[u8], at: usize) -> bool
-    requires { ⌜ at + 16 ≤ length (now s) ⌝ }
-    ensures { λ r. ⌜ r ≡ leaf (eventAt (now (s .entry)) at) (eventAt (now (s .entry)) (at + 8)) ⌝ }
+pub fn is_leaf(s: &[u8], at: usize, width: usize) -> bool
+    requires { ⌜ (8 ≤ width) × (at + 2 * width ≤ length (now s)) ⌝ }
+    ensures { λ r. ⌜ r ≡ leaf (eventAt (now (s .entry)) at) (eventAt (now (s .entry)) (at + width)) ⌝ }
 {
     let name = s[at + 1];
     if s[at] != ENTER {
         return false;
     }
-    if !is_of(s, at + 8, EXIT, name) {
+    if !is_of(s, at + width, EXIT, name) {
         return false;
     }
     if name == DATA {
@@ -34,9 +35,9 @@ pub fn is_leaf(s: &[u8], at: usize) -> bool
 }
 
 // Whether the n events from a place on are leaf pairs, and no others.
-pub fn all_leaves(s: &[u8], from: usize, n: usize) -> bool
-    requires { ⌜ from + 8 * n ≤ length (now s) ⌝ }
-    ensures { λ r. ⌜ r ≡ leaves (eventsAt n (now (s .entry)) from) ⌝ }
+pub fn all_leaves(s: &[u8], from: usize, width: usize, n: usize) -> bool
+    requires { ⌜ (8 ≤ width) × (from + width * n ≤ length (now s)) ⌝ }
+    ensures { λ r. ⌜ r ≡ leaves (eventsBy width n (now (s .entry)) from) ⌝ }
 {
     let mut at = from;
     let mut left = n;
@@ -44,19 +45,19 @@ pub fn all_leaves(s: &[u8], from: usize, n: usize) -> bool
         if left == 1 {
             return false;
         }
-        if !is_leaf(s, at) {
+        if !is_leaf(s, at, width) {
             return false;
         }
-        at += 16;
+        at += 2 * width;
         left -= 2;
     }
     true
 }
 
 // Whether the n events from a place on begin with at most one 14 and then a 12.
-pub fn is_headed(s: &[u8], from: usize, n: usize) -> bool
-    requires { ⌜ from + 8 * n ≤ length (now s) ⌝ }
-    ensures { λ r. ⌜ r ≡ headed (eventsAt n (now (s .entry)) from) ⌝ }
+pub fn is_headed(s: &[u8], from: usize, width: usize, n: usize) -> bool
+    requires { ⌜ (8 ≤ width) × (from + width * n ≤ length (now s)) ⌝ }
+    ensures { λ r. ⌜ r ≡ headed (eventsBy width n (now (s .entry)) from) ⌝ }
 {
     if n == 0 {
         return false;
@@ -67,16 +68,16 @@ pub fn is_headed(s: &[u8], from: usize, n: usize) -> bool
     if n < 3 {
         return false;
     }
-    s[from + 17] == HEADING_SEQUENCE
+    s[from + 2 * width + 1] == HEADING_SEQUENCE
 }
 
 // Whether the n events from a place on are what a heading may hold.
-pub fn is_shaped(s: &[u8], from: usize, n: usize) -> bool
-    requires { ⌜ from + 8 * n ≤ length (now s) ⌝ }
-    ensures { λ r. ⌜ r ≡ shaped (eventsAt n (now (s .entry)) from) ⌝ }
+pub fn is_shaped(s: &[u8], from: usize, width: usize, n: usize) -> bool
+    requires { ⌜ (8 ≤ width) × (from + width * n ≤ length (now s)) ⌝ }
+    ensures { λ r. ⌜ r ≡ shaped (eventsBy width n (now (s .entry)) from) ⌝ }
 {
-    if !is_headed(s, from, n) {
+    if !is_headed(s, from, width, n) {
         return false;
     }
-    all_leaves(s, from, n)
+    all_leaves(s, from, width, n)
 }

@@ -1,5 +1,5 @@
 // The text rule: Text (13) goes from the first Data or `#` run after the opening run to the last, and a `#` run that closes the heading stays out. All
-// that lies in the text goes, but for one Data pair.
+// that lies in the text goes, but for one Data pair. Events are read `width` bytes apart, and written side by side, eight bytes to each.
 
 use crate::seek::Sought;
 use crate::seek::before_first;
@@ -18,7 +18,7 @@ ghost use Prim.Native.Nat.{_+_, _*_, _≤_};
 ghost use mathlib.Core.Bool.{true};
 ghost use lib.ListN.{length};
 ghost use Rattle.record.specs.Bytes.{Wrote};
-ghost use Rattle.record.specs.Event.{flat, eventsAt};
+ghost use Rattle.record.specs.Event.{flat, eventsBy};
 ghost use Rattle.heading.specs.Headings.{shaped, throughOpening, beforeClosing, textRound, withText};
 ghost use Rattle.heading.specs.Steps.{Ends};
 
@@ -29,9 +29,9 @@ pub struct Text {
 }
 
 // How many of a heading's n inner events stand up to the end of its opening run.
-pub fn through_opening(s: &[u8], from: usize, n: usize) -> usize
-    requires { ⌜ (from + 8 * n ≤ length (now s)) × (shaped (eventsAt n (now s) from) ≡ true) ⌝ }
-    ensures { λ r. ⌜ (r ≡ throughOpening (eventsAt n (now (s .entry)) from)) × (r ≤ n) ⌝ }
+pub fn through_opening(s: &[u8], from: usize, width: usize, n: usize) -> usize
+    requires { ⌜ (8 ≤ width) × (from + width * n ≤ length (now s)) × (shaped (eventsBy width n (now s) from) ≡ true) ⌝ }
+    ensures { λ r. ⌜ (r ≡ throughOpening (eventsBy width n (now (s .entry)) from)) × (r ≤ n) ⌝ }
 {
     if s[from + 1] == SPACE_OR_TAB {
         return 4;
@@ -40,14 +40,14 @@ pub fn through_opening(s: &[u8], from: usize, n: usize) -> usize
 }
 
 // How many of n events stand before a `#` run that is the last of them.
-pub fn before_closing(s: &[u8], from: usize, n: usize) -> usize
-    requires { ⌜ from + 8 * n ≤ length (now s) ⌝ }
-    ensures { λ r. ⌜ (r ≡ beforeClosing (eventsAt n (now (s .entry)) from)) × (r ≤ n) ⌝ }
+pub fn before_closing(s: &[u8], from: usize, width: usize, n: usize) -> usize
+    requires { ⌜ (8 ≤ width) × (from + width * n ≤ length (now s)) ⌝ }
+    ensures { λ r. ⌜ (r ≡ beforeClosing (eventsBy width n (now (s .entry)) from)) × (r ≤ n) ⌝ }
 {
     if n == 0 {
         return 0;
     }
-    if s[from + 8 * n - 7] != HEADING_SEQUENCE {
+    if s[from + width * (n - 1) + 1] != HEADING_SEQUENCE {
         return n;
     }
     if n < 2 {
@@ -57,25 +57,26 @@ pub fn before_closing(s: &[u8], from: usize, n: usize) -> usize
 }
 
 // The text of a heading's n inner events.
-pub fn text_of(s: &[u8], from: usize, n: usize) -> Text
-    requires { ⌜ (from + 8 * n ≤ length (now s)) × (shaped (eventsAt n (now s) from) ≡ true) ⌝ }
-    ensures { λ r. ⌜ Ends (eventsAt n (now (s .entry)) from) n (r .before) (r .through) ⌝ }
+pub fn text_of(s: &[u8], from: usize, width: usize, n: usize) -> Text
+    requires { ⌜ (8 ≤ width) × (from + width * n ≤ length (now s)) × (shaped (eventsBy width n (now s) from) ≡ true) ⌝ }
+    ensures { λ r. ⌜ Ends (eventsBy width n (now (s .entry)) from) n (r .before) (r .through) ⌝ }
 {
-    let opened = through_opening(s, from, n);
-    let before = opened + before_first(s, from + 8 * opened, n - opened, Sought::DataOrRun);
-    let start = from + 8 * before;
-    let last = through_last(s, start, n - before, Sought::DataOrRun);
-    let unclosed = before_closing(s, start, last);
-    let through = before + through_last(s, start, unclosed, Sought::DataOrRun);
+    let opened = through_opening(s, from, width, n);
+    let behind = from + width * opened;
+    let before = opened + before_first(s, behind, width, n - opened, Sought::DataOrRun);
+    let start = from + width * before;
+    let last = through_last(s, start, width, n - before, Sought::DataOrRun);
+    let unclosed = before_closing(s, start, width, last);
+    let through = before + through_last(s, start, width, unclosed, Sought::DataOrRun);
     Text { before, through }
 }
 
 // How many events a heading's n inner events become.
-pub fn inner_size(s: &[u8], from: usize, n: usize) -> usize
-    requires { ⌜ (n ≤ 2048) × (from + 8 * n ≤ length (now s)) × (shaped (eventsAt n (now s) from) ≡ true) ⌝ }
-    ensures { λ r. ⌜ (r ≡ length (withText (eventsAt n (now (s .entry)) from))) × (r ≤ n + 3) ⌝ }
+pub fn inner_size(s: &[u8], from: usize, width: usize, n: usize) -> usize
+    requires { ⌜ (8 ≤ width) × (n ≤ 2048) × (from + width * n ≤ length (now s)) × (shaped (eventsBy width n (now s) from) ≡ true) ⌝ }
+    ensures { λ r. ⌜ (r ≡ length (withText (eventsBy width n (now (s .entry)) from))) × (r ≤ n + 3) ⌝ }
 {
-    let text = text_of(s, from, n);
+    let text = text_of(s, from, width, n);
     let before = text.before;
     let through = text.through;
     if before == through {
@@ -99,25 +100,25 @@ pub fn put_round(out: &mut [u8], to: usize, from: usize, end: usize)
 }
 
 // Writes what a heading's n inner events become, and gives the place after it.
-pub fn put_inner(out: &mut [u8], to: usize, s: &[u8], from: usize, n: usize) -> usize
-    requires { ⌜ (to + 8 * length (withText (eventsAt n (now s) from)) ≤ length (now out)) × (from + 8 * n ≤ length (now s)) × (shaped (eventsAt n (now s) from) ≡ true) ⌝ }
-    ensures { λ r. ⌜ Wrote (now (out .entry)) to (flat (withText (eventsAt n (now (s .entry)) from))) (now (out .exit)) × (r ≡ to + 8 * length (withText (eventsAt n (now (s .entry)) from))) ⌝ }
+pub fn put_inner(out: &mut [u8], to: usize, s: &[u8], from: usize, width: usize, n: usize) -> usize
+    requires { ⌜ (8 ≤ width) × (to + 8 * length (withText (eventsBy width n (now s) from)) ≤ length (now out)) × (from + width * n ≤ length (now s)) × (shaped (eventsBy width n (now s) from) ≡ true) ⌝ }
+    ensures { λ r. ⌜ Wrote (now (out .entry)) to (flat (withText (eventsBy width n (now (s .entry)) from))) (now (out .exit)) × (r ≡ to + 8 * length (withText (eventsBy width n (now (s .entry)) from))) ⌝ }
 {
-    let found = text_of(s, from, n);
+    let found = text_of(s, from, width, n);
     let before = found.before;
     let through = found.through;
     if before == through {
-        copy_events(out, to, s, from, n);
+        copy_events(out, to, s, from, width, n);
         return to + 8 * n;
     }
-    let end = from + 8 * through;
+    let end = from + width * through;
     let text = to + 8 * before;
     let after = text + 32;
     let behind = n - through;
-    let first = u32_at(s, from + 8 * before + 4);
-    let last = u32_at(s, end - 4);
-    copy_events(out, to, s, from, before);
+    let first = u32_at(s, from + width * before + 4);
+    let last = u32_at(s, end - width + 4);
+    copy_events(out, to, s, from, width, before);
     put_round(out, text, first, last);
-    copy_events(out, after, s, end, behind);
+    copy_events(out, after, s, end, width, behind);
     after + 8 * behind
 }

@@ -19,6 +19,7 @@ use lines::spaces::Spaces;
 use lines::spaces::space_or_tab;
 use record::bytes::put_u32;
 use record::check::Refusal;
+use record::form::Handed;
 use record::limits::HEADING_TEXT;
 use record::limits::MAX_EVENTS;
 use terminal::events::event_of;
@@ -79,7 +80,7 @@ fn crowded(refusal: Refusal, section: &[u8]) -> Title {
 // The resolved events of a record, put into the section, where its events as they were read are.
 fn resolve_title(rec: &[u8], options: u32, section: &mut [u8]) -> Title {
     let mut work = memory();
-    match resolve_headings(rec, options, section, &mut work) {
+    match resolve_headings(Handed::Old(options), rec, section, &mut work) {
         Answer::Resolved { events } => Title::Events(events),
         Answer::Refused(refusal) => crowded(refusal, section),
     }

@@ -9,6 +9,7 @@ use asked::input::record_asked;
 use causes::refuse::refuse_record;
 use record::check::Reading;
 use record::check::Refusal;
+use record::form::Handed;
 use record::limits::MAX_RESULT;
 use terminal::events::say_events;
 use terminal::say::WRONG;
@@ -37,7 +38,7 @@ enum Made {
 
 // The section with the attention runs resolved. How many groups it made and candidates it tried, only `show` says.
 fn make_attention(rec: &[u8], options: u32, out: &mut [u8], work: &mut [u8]) -> Made {
-    match attention::call::resolve_attention(rec, options, out, work) {
+    match attention::call::resolve_attention(Handed::Old(options), rec, out, work) {
         attention::call::Answer::Resolved {
             events,
             groups,
@@ -49,7 +50,7 @@ fn make_attention(rec: &[u8], options: u32, out: &mut [u8], work: &mut [u8]) -> 
 
 // The section with the headings resolved.
 fn make_headings(rec: &[u8], options: u32, out: &mut [u8], work: &mut [u8]) -> Made {
-    match heading::resolve::resolve_headings(rec, options, out, work) {
+    match heading::resolve::resolve_headings(Handed::Old(options), rec, out, work) {
         heading::resolve::Answer::Resolved { events } => Made::Events(events),
         heading::resolve::Answer::Refused(refusal) => Made::Refused(refusal),
     }
@@ -57,7 +58,7 @@ fn make_headings(rec: &[u8], options: u32, out: &mut [u8], work: &mut [u8]) -> M
 
 // The section with the lists resolved.
 fn make_lists(rec: &[u8], options: u32, out: &mut [u8], work: &mut [u8]) -> Made {
-    match list::call::resolve_lists(rec, options, out, work) {
+    match list::call::resolve_lists(Handed::Old(options), rec, out, work) {
         list::call::Answer::Resolved { events } => Made::Events(events),
         list::call::Answer::Refused(refusal) => Made::Refused(refusal),
     }
@@ -93,7 +94,7 @@ fn say_counts(document: usize, events: usize) -> u8 {
 // Whether a record is good, and its two counts.
 fn run_read(rec: &[u8], options: u32) -> u8 {
     let mut work = memory();
-    match record::call::read(rec, options, &mut work) {
+    match record::call::read(Handed::Old(options), rec, &mut work) {
         Reading::Good { document, events } => say_counts(document, events),
         Reading::Refused(refusal) => refuse_record(rec, options, refusal),
     }

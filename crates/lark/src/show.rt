@@ -11,6 +11,7 @@ use attention::call::resolve_attention;
 use causes::refuse::refuse_text;
 use record::call::read;
 use record::check::Reading;
+use record::form::Handed;
 use terminal::quoted::say_quoted;
 use terminal::say::WRONG;
 use terminal::say::done;
@@ -51,7 +52,7 @@ fn say_answer(text: &[u8], rec: &[u8], section: &[u8], answer: Answer, styled: b
 fn show_record(text: &[u8], rec: &[u8], options: u32, styled: bool) -> u8 {
     let mut out = memory();
     let mut work = memory();
-    let answer = resolve_attention(rec, options, &mut out, &mut work);
+    let answer = resolve_attention(Handed::Old(options), rec, &mut out, &mut work);
     say_answer(text, rec, &out, answer, styled)
 }
 
@@ -65,7 +66,7 @@ pub fn show_text(text: &[u8], options: u32, styled: bool) -> u8 {
 // The record of a text, whose events were given beside it or were made of it. Only a good one is written.
 fn write_good(text: &[u8], rec: &[u8], given: bool, options: u32) -> u8 {
     let mut work = memory();
-    match read(rec, options, &mut work) {
+    match read(Handed::Old(options), rec, &mut work) {
         Reading::Good { document, events } => done(say(rec)),
         Reading::Refused(refusal) => refuse_text(text, rec, given, refusal),
     }

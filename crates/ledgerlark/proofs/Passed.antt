@@ -6,6 +6,8 @@ use mathlib.Core.Bool.{Bool}
 use mathlib.Core.List.{List}
 use Rattle.record.specs.Outcome.{Outcome}
 use Rattle.record.specs.Promise.{Read, Writes}
+use Rattle.record.specs.declared.form.Form.{Form}
+use Rattle.record.specs.declared.form.Handed.the-variants.{Old}
 use Rattle.record.specs.declared.check.Reading.{Reading}
 use Rattle.atx.specs.Promise.{HeadedBy}
 use Rattle.lines.specs.Going.{goingOf}
@@ -17,13 +19,13 @@ use Rattle.ledgerlark.specs.declared.resolve.LarkResolved.{LarkResolved}
 use Rattle.ledgerlark.specs.declared.line.LarkHeaded.{LarkHeaded}
 
 pub read-on : (s : List ℕ) (options : ℕ) (work : List ℕ) (a : Reading) (r : LarkReading) (work′ : List ℕ) →
-    Read s options work a work′ → r ≡ larkReading a → ReadAs s options work r work′
+    Read (Old options) s work a work′ → r ≡ larkReading a → ReadAs s options work r work′
 read-on s options work a r work′ p e = record { answer = e ∙ ap larkReading (p .answer); wiped = p .wiped }
 
-pub written-on : {A : Type 0} (comes : ℕ → ℕ → Outcome) (answers : Outcome → A) (numbers : A → LarkResolved) (out work : List ℕ) (a : A) (r : LarkResolved)
-    (out′ work′ : List ℕ) → Writes comes answers out work a out′ work′ → r ≡ numbers a →
-    Writes comes (λ (o : Outcome). numbers (answers o)) out work r out′ work′
-written-on comes answers numbers out work a r out′ work′ p e = record { answer = e ∙ ap numbers (p .answer); output = p .output; wiped = p .wiped }
+pub written-on : {A : Type 0} (f : Form) (comes : ℕ → ℕ → Outcome) (answers : Outcome → A) (numbers : A → LarkResolved) (out work : List ℕ) (a : A) (r : LarkResolved)
+    (out′ work′ : List ℕ) → Writes f comes answers out work a out′ work′ → r ≡ numbers a →
+    Writes f comes (λ (o : Outcome). numbers (answers o)) out work r out′ work′
+written-on f comes answers numbers out work a r out′ work′ p e = record { answer = e ∙ ap numbers (p .answer); output = p .output; wiped = p .wiped }
 
 pub headed-on : (s : List ℕ) (options column : ℕ) (out : List ℕ) (a : Headed) (r : LarkHeaded) (out′ : List ℕ) →
     HeadedBy s options column out a out′ → r ≡ larkHeaded a → HeadedAs s options column out r out′

@@ -8,9 +8,12 @@ use lib.ListN.{length, replicate}
 use lib.Dec.{eqb}
 use Rattle.record.specs.Choice.{choose}
 use Rattle.record.specs.Check.{admitted}
+use Rattle.record.specs.Handed.{formOf}
 use Rattle.record.specs.Outcome.{Outcome, onto}
 use Rattle.record.specs.Promise as read
 use Rattle.record.specs.Promise.{Writes}
+use Rattle.record.specs.declared.form.Handed.{Handed}
+use Rattle.record.specs.declared.form.Handed.the-variants.{Old}
 use Rattle.record.specs.declared.check.Reading.{Reading}
 use Rattle.runs.specs.Rule.{Profile}
 use Rattle.attention.specs.Promise as attention
@@ -117,20 +120,20 @@ containerOf size blank mark = record { kind = kindOf mark; size = size; blank = 
 -- the promises: the answer, the output and the work memory
 
 pub record ReadAs (s : List ℕ) (options : ℕ) (work : List ℕ) (r : LarkReading) (work′ : List ℕ) : Type 0 where
-  pub answer : r ≡ larkReading (admitted s options (length work))
+  pub answer : r ≡ larkReading (admitted (Old options) s (length work))
   pub wiped : work′ ≡ replicate (length work) 0
 
--- over any profile; the contract of the call says which
-abbrev pub AttentionAs : Profile → List ℕ → ℕ → List ℕ → List ℕ → LarkResolved → List ℕ → List ℕ → Type 0
-AttentionAs profile s options out work r out′ work′ =
-    Writes (attention.outcomeOf profile s options) (λ (o : Outcome). larkAttention (attention.answerOf profile s options o)) out work r out′ work′
+-- the calls that write, over any form: however the record is handed over. Attention is over any profile too; the contract of a call says which
+abbrev pub AttentionAs : Profile → Handed → List ℕ → List ℕ → List ℕ → LarkResolved → List ℕ → List ℕ → Type 0
+AttentionAs profile h s out work r out′ work′ =
+    Writes (formOf h) (attention.outcomeOf profile h s) (λ (o : Outcome). larkAttention (attention.answerOf profile h s o)) out work r out′ work′
 
-abbrev pub HeadingsAs : List ℕ → ℕ → List ℕ → List ℕ → LarkResolved → List ℕ → List ℕ → Type 0
-HeadingsAs s options out work r out′ work′ =
-    Writes (heading.outcomeOf s options) (λ (o : Outcome). larkHeadings (heading.answerOf o)) out work r out′ work′
+abbrev pub HeadingsAs : Handed → List ℕ → List ℕ → List ℕ → LarkResolved → List ℕ → List ℕ → Type 0
+HeadingsAs h s out work r out′ work′ =
+    Writes (formOf h) (heading.outcomeOf h s) (λ (o : Outcome). larkHeadings (heading.answerOf o)) out work r out′ work′
 
-abbrev pub ListsAs : List ℕ → ℕ → List ℕ → List ℕ → LarkResolved → List ℕ → List ℕ → Type 0
-ListsAs s options out work r out′ work′ = Writes (list.outcomeOf s options) (λ (o : Outcome). larkLists (list.answerOf o)) out work r out′ work′
+abbrev pub ListsAs : Handed → List ℕ → List ℕ → List ℕ → LarkResolved → List ℕ → List ℕ → Type 0
+ListsAs h s out work r out′ work′ = Writes (formOf h) (list.outcomeOf h s) (λ (o : Outcome). larkLists (list.answerOf o)) out work r out′ work′
 
 abbrev pub SpacesAs : List ℕ → ℕ → ℕ → ℕ → ℕ → LarkSpaces → Type 0
 SpacesAs s options column min max r = r ≡ larkSpaces (spacesOf s options column min max)

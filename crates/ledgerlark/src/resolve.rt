@@ -1,6 +1,7 @@
 // The calls on a record.
 
 use record::check::Reading;
+use record::form::Handed;
 ghost use mathlib.Core.Path.{_≡_};
 ghost use Rattle.runs.specs.Rule.{crate};
 ghost use Rattle.ledgerlark.specs.Answers.{larkReading, larkAttention, larkHeadings, larkLists, ReadAs, AttentionAs, HeadingsAs, ListsAs};
@@ -133,7 +134,7 @@ fn lists_of(found: list::call::Answer) -> LarkResolved
 pub extern "C" fn lark_read(s: &[u8], options: u32, work: &mut [u8]) -> LarkReading
     ensures { λ r. ⌜ ReadAs (now (s .entry)) options (now (work .entry)) r (now (work .exit)) ⌝ }
 {
-    reading_of(record::call::read(s, options, work))
+    reading_of(record::call::read(Handed::Old(options), s, work))
 }
 
 // The attention runs of a record resolved.
@@ -144,9 +145,9 @@ pub extern "C" fn lark_resolve_attention(
     out: &mut [u8],
     work: &mut [u8],
 ) -> LarkResolved
-    ensures { λ r. ⌜ AttentionAs crate (now (s .entry)) options (now (out .entry)) (now (work .entry)) r (now (out .exit)) (now (work .exit)) ⌝ }
+    ensures { λ r. ⌜ AttentionAs crate (Handed.Old options) (now (s .entry)) (now (out .entry)) (now (work .entry)) r (now (out .exit)) (now (work .exit)) ⌝ }
 {
-    attention_of(attention::call::resolve_attention(s, options, out, work))
+    attention_of(attention::call::resolve_attention(Handed::Old(options), s, out, work))
 }
 
 // The headings of a record resolved.
@@ -157,9 +158,9 @@ pub extern "C" fn lark_resolve_headings(
     out: &mut [u8],
     work: &mut [u8],
 ) -> LarkResolved
-    ensures { λ r. ⌜ HeadingsAs (now (s .entry)) options (now (out .entry)) (now (work .entry)) r (now (out .exit)) (now (work .exit)) ⌝ }
+    ensures { λ r. ⌜ HeadingsAs (Handed.Old options) (now (s .entry)) (now (out .entry)) (now (work .entry)) r (now (out .exit)) (now (work .exit)) ⌝ }
 {
-    headings_of(heading::resolve::resolve_headings(s, options, out, work))
+    headings_of(heading::resolve::resolve_headings(Handed::Old(options), s, out, work))
 }
 
 // The list items of a record resolved.
@@ -170,7 +171,7 @@ pub extern "C" fn lark_resolve_lists(
     out: &mut [u8],
     work: &mut [u8],
 ) -> LarkResolved
-    ensures { λ r. ⌜ ListsAs (now (s .entry)) options (now (out .entry)) (now (work .entry)) r (now (out .exit)) (now (work .exit)) ⌝ }
+    ensures { λ r. ⌜ ListsAs (Handed.Old options) (now (s .entry)) (now (out .entry)) (now (work .entry)) r (now (out .exit)) (now (work .exit)) ⌝ }
 {
-    lists_of(list::call::resolve_lists(s, options, out, work))
+    lists_of(list::call::resolve_lists(Handed::Old(options), s, out, work))
 }

@@ -6,10 +6,12 @@ use mathlib.Core.Logic.{⊎-elim}
 use mathlib.Core.List.{List, [], _∷_}
 use Prim.Native.Nat.{ℕ, _+_, _≤_}
 use native.Mathlib.Omega.{arith}
-use Rattle.record.specs.Event.{documentOf, eventsOf}
-use Rattle.record.specs.Rows.{documentCount, eventCount}
+use Rattle.record.specs.Handed.{formOf}
+use Rattle.record.specs.Event.{documentIn, eventsIn}
+use Rattle.record.specs.Rows.{documentCountIn, eventCountIn}
 use Rattle.record.specs.Written.{Judges, ExactlyWritten}
 use Rattle.record.specs.declared.event.Event.{Event}
+use Rattle.record.specs.declared.form.Handed.{Handed}
 use Rattle.record.proofs.ExactlyWritten.{exactly-written}
 use Rattle.list.specs.Tree.{treeOf}
 use Rattle.list.specs.Lists.{offenders, lists}
@@ -58,9 +60,9 @@ judges document es =
     named : {k : ℕ} → Among k (offenders document 0 false (treeOf es) []) → Offends document es k
     named {k} a = ⊎-elim (λ o. o) (λ b. absurd (nothing [] refl b)) (named-offends document 0 false (treeOf es) k [] a)
 
-pub exactly-resolved : (s : List ℕ) (options works outs : ℕ) →
-    ExactlyWritten s options works (Offends (documentOf s (documentCount s)) (eventsOf s (documentCount s) (eventCount s)))
-    (λ d e. lists (documentOf s d) (eventsOf s d e)) outs
-exactly-resolved s options works outs =
-    exactly-written s options works (Offends (documentOf s (documentCount s)) (eventsOf s (documentCount s) (eventCount s)))
-    (λ d e. lists (documentOf s d) (eventsOf s d e)) outs (λ q. judges (documentOf s (documentCount s)) (eventsOf s (documentCount s) (eventCount s)))
+pub exactly-resolved : (h : Handed) (s : List ℕ) (works outs : ℕ) →
+    ExactlyWritten h s works (Offends (documentIn (formOf h) s (documentCountIn (formOf h) s)) (eventsIn (formOf h) s (documentCountIn (formOf h) s) (eventCountIn (formOf h) s)))
+    (λ d e. lists (documentIn (formOf h) s d) (eventsIn (formOf h) s d e)) outs
+exactly-resolved h s works outs =
+    exactly-written h s works (Offends (documentIn (formOf h) s (documentCountIn (formOf h) s)) (eventsIn (formOf h) s (documentCountIn (formOf h) s) (eventCountIn (formOf h) s)))
+    (λ d e. lists (documentIn (formOf h) s d) (eventsIn (formOf h) s d e)) outs (λ q. judges (documentIn (formOf h) s (documentCountIn (formOf h) s)) (eventsIn (formOf h) s (documentCountIn (formOf h) s) (eventCountIn (formOf h) s)))

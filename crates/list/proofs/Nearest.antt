@@ -3,57 +3,59 @@
 use mathlib.Core.Path.{_≡_, refl, sym, ap, _∙_}
 use mathlib.Core.Bool.{true, false}
 use mathlib.Core.List.{List, _∷_}
-use Prim.Native.Nat.{ℕ, _+_, _*_, _-_, _≤_, _<_}
+use Prim.Native.Nat.{ℕ, _+_, _-_, _≤_, _<_}
 use native.Mathlib.Omega.{arith}
 use lib.ListN.{getD}
 use borrow.Author.Tests.{eq-eqb, ne-eqb}
 use Rattle.record.specs.Choice.{choose}
+use Rattle.record.specs.Form.{placeIn}
 use Rattle.record.specs.Event.{eventAt}
+use Rattle.record.specs.declared.form.Form.{Form}
 use Rattle.list.specs.Walk.{onward, passing, nearest, markIn}
 use Rattle.list.proofs.Onward.{onward-none, onward-some}
 
 -- the loop's invariant
-pub record Seeking (document s : List ℕ) (d e i k depth : ℕ) : Type 0 where
+pub record Seeking (document : List ℕ) (f : Form) (s : List ℕ) (d e i k depth : ℕ) : Type 0 where
   pub within : k ≤ e
   pub low : depth ≤ k
-  pub rest : nearest document depth (onward s d e k) ≡ nearest document 0 (onward s d e i)
+  pub rest : nearest document depth (onward f s d e k) ≡ nearest document 0 (onward f s d e i)
 
-pub start : (document s : List ℕ) (d e i : ℕ) → i ≤ e → Seeking document s d e i i 0
-start document s d e i h = record { within = h; low = omega arith; rest = refl }
+pub start : (document : List ℕ) (f : Form) (s : List ℕ) (d e i : ℕ) → i ≤ e → Seeking document f s d e i i 0
+start document f s d e i h = record { within = h; low = omega arith; rest = refl }
 
-module _ {document s : List ℕ} {d e i k depth : ℕ} (v : Seeking document s d e i k depth) where
-  pub nothing-left : e ≤ k → 0 ≡ nearest document 0 (onward s d e i)
+module _ {document : List ℕ} {f : Form} {s : List ℕ} {d e i k depth : ℕ} (v : Seeking document f s d e i k depth) where
+  pub nothing-left : e ≤ k → 0 ≡ nearest document 0 (onward f s d e i)
   unfolding nearest
-  nothing-left h = sym (ap (λ es. nearest document depth es) (onward-none s d e k h)) ∙ v .rest
+  nothing-left h = sym (ap (λ es. nearest document depth es) (onward-none f s d e k h)) ∙ v .rest
 
-  module _ (more : k < e) where
-    here : nearest document depth (eventAt s (8 + d + 8 * k) ∷ onward s d e (k + 1)) ≡ nearest document 0 (onward s d e i)
-    here = sym (ap (λ es. nearest document depth es) (onward-some s d e k more)) ∙ v .rest
+  module _ (more : k < e) (at : ℕ) (ea : at ≡ placeIn f d k) where
+    here : nearest document depth (eventAt s at ∷ onward f s d e (k + 1)) ≡ nearest document 0 (onward f s d e i)
+    here = sym (ap (λ es. nearest document depth es) (onward-some f s d e k more at ea)) ∙ v .rest
 
-    module _ (x : getD s (8 + d + 8 * k) 0 ≡ 0 → ⊥) where
-      pub parent-left : depth ≡ 0 → 0 ≡ nearest document 0 (onward s d e i)
+    module _ (x : getD s at 0 ≡ 0 → ⊥) where
+      pub parent-left : depth ≡ 0 → 0 ≡ nearest document 0 (onward f s d e i)
       unfolding nearest choose
       parent-left z = rw (ne-eqb _ _ x, eq-eqb _ _ z) at here
 
-      pub pair-left : (depth ≡ 0 → ⊥) → Seeking document s d e i (k + 1) (depth - 1)
+      pub pair-left : (depth ≡ 0 → ⊥) → Seeking document f s d e i (k + 1) (depth - 1)
       unfolding nearest choose
       pair-left z = record { within = omega arith; low = omega (arith, v .low); rest = rw (ne-eqb _ _ x, ne-eqb _ _ z) at here }
 
-    module _ (x : getD s (8 + d + 8 * k) 0 ≡ 0) where
-      module _ (y : getD s (8 + d + 8 * k + 1) 0 ≡ 15) where
-        pub item-found : depth ≡ 0 → (m : ℕ) → m ≡ markIn document (onward s d e (k + 1)) → m ≡ nearest document 0 (onward s d e i)
+    module _ (x : getD s at 0 ≡ 0) where
+      module _ (y : getD s (at + 1) 0 ≡ 15) where
+        pub item-found : depth ≡ 0 → (m : ℕ) → m ≡ markIn document (onward f s d e (k + 1)) → m ≡ nearest document 0 (onward f s d e i)
         unfolding nearest choose
         item-found z m em = em ∙ rw (eq-eqb _ _ x, eq-eqb _ _ y, eq-eqb _ _ z) at here
 
-        pub item-inside : (depth ≡ 0 → ⊥) → 0 ≡ nearest document 0 (onward s d e i)
+        pub item-inside : (depth ≡ 0 → ⊥) → 0 ≡ nearest document 0 (onward f s d e i)
         unfolding nearest choose
         item-inside z = rw (eq-eqb _ _ x, eq-eqb _ _ y, ne-eqb _ _ z) at here
 
-      module _ (y : getD s (8 + d + 8 * k + 1) 0 ≡ 15 → ⊥) where
-        pub barred : passing depth (getD s (8 + d + 8 * k + 1) 0) ≡ false → 0 ≡ nearest document 0 (onward s d e i)
+      module _ (y : getD s (at + 1) 0 ≡ 15 → ⊥) where
+        pub barred : passing depth (getD s (at + 1) 0) ≡ false → 0 ≡ nearest document 0 (onward f s d e i)
         unfolding nearest choose
         barred q = rw (eq-eqb _ _ x, ne-eqb _ _ y, q) at here
 
-        pub passed : passing depth (getD s (8 + d + 8 * k + 1) 0) ≡ true → Seeking document s d e i (k + 1) (depth + 1)
+        pub passed : passing depth (getD s (at + 1) 0) ≡ true → Seeking document f s d e i (k + 1) (depth + 1)
         unfolding nearest choose
         passed q = record { within = omega arith; low = omega (arith, v .low); rest = rw (eq-eqb _ _ x, ne-eqb _ _ y, q) at here }

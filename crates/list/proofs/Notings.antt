@@ -4,7 +4,7 @@ use mathlib.Core.Path.{_≡_, refl, sym, ap, _∙_}
 use mathlib.Core.Bool.{Bool, true, false}
 use mathlib.Core.Logic.{_⊎_, inl, inr}
 use mathlib.Core.List.{List, [], _∷_, _++_, append-assoc, append-nil}
-use Prim.Native.Nat.{ℕ, zero, suc, _+_, _*_, _-_, _≤_, _<_}
+use Prim.Native.Nat.{ℕ, zero, suc, _+_, _-_, _≤_, _<_}
 use native.Mathlib.Numerals.{add-one}
 use native.Mathlib.Omega.{arith}
 use native.Mathlib.Nat.{zero-add}
@@ -13,13 +13,14 @@ use lib.Seq.{take-suc-set}
 use lib.Dec.{eqb}
 use borrow.Author.Tests.{eq-eqb, ne-eqb}
 use Rattle.record.specs.Choice.{choose, and}
-use Rattle.record.specs.Event.{eventAt, documentOf}
+use Rattle.record.specs.Form.{placeIn}
+use Rattle.record.specs.Event.{eventAt, documentIn}
 use Rattle.record.specs.Stack.{upTo, outer, after}
 use Rattle.record.specs.Sound.{soundFrom}
-use Rattle.record.specs.Good.{GoodRecord}
+use Rattle.record.specs.Good.{GoodIn}
 use Rattle.record.specs.declared.event.Event.{Event}
+use Rattle.record.specs.declared.form.Form.{Form}
 use Rattle.record.proofs.Bools.{and-false}
-use Rattle.record.proofs.Good.{events-are-sound}
 use Rattle.record.proofs.Names.{pushed, popped}
 use Rattle.record.proofs.Soundness.{Stands, stands, sound-rest, after-enter, after-exit}
 use Rattle.list.specs.Walk.{onward, nearest, markIn, offendersIn, note, notes, adds, added}
@@ -83,7 +84,7 @@ store w i v r h =
     ∙ append-assoc (take i w) (v ∷ []) r
 
 -- the loop's invariant; `held` are the open names
-pub record Noting (document s : List ℕ) (d e : ℕ) (work marks : List ℕ) (opened : ℕ) (joined behind : Bool) (count i : ℕ) : Type 0 where
+pub record Noting (document : List ℕ) (f : Form) (s : List ℕ) (d e : ℕ) (work marks : List ℕ) (opened : ℕ) (joined behind : Bool) (count i : ℕ) : Type 0 where
   pub within : i ≤ e
   pub room : 2048 ≤ length work
   pub array : length marks ≡ 64
@@ -91,16 +92,16 @@ pub record Noting (document s : List ℕ) (d e : ℕ) (work marks : List ℕ) (o
   pub shallow : opened ≤ 64
   pub last : ℕ
   pub held : List ℕ
-  pub good : soundFrom 64 d last held (onward s d e i) ≡ true
+  pub good : soundFrom 64 d last held (onward f s d e i) ≡ true
   pub open-items : items held ≡ opened
-  pub bad : offendersIn document i behind (onward s d e i) ≡ offendersIn document 0 false (onward s d e 0)
-  pub noted : take i work ++ notes document joined (upTo opened marks) (onward s d e i) ≡ notes document false [] (onward s d e 0)
-  pub sum : count + added (notes document joined (upTo opened marks) (onward s d e i)) ≡ added (notes document false [] (onward s d e 0))
+  pub bad : offendersIn document i behind (onward f s d e i) ≡ offendersIn document 0 false (onward f s d e 0)
+  pub noted : take i work ++ notes document joined (upTo opened marks) (onward f s d e i) ≡ notes document false [] (onward f s d e 0)
+  pub sum : count + added (notes document joined (upTo opened marks) (onward f s d e i)) ≡ added (notes document false [] (onward f s d e 0))
 
-pub start : (s : List ℕ) (d e : ℕ) (work marks : List ℕ) → GoodRecord s d e → 2048 ≤ length work → length marks ≡ 64 →
-    Noting (documentOf s d) s d e work marks 0 false false 0 0
+pub start : (f : Form) (s : List ℕ) (d e : ℕ) (work marks : List ℕ) → GoodIn f s d e → 2048 ≤ length work → length marks ≡ 64 →
+    Noting (documentIn f s d) f s d e work marks 0 false false 0 0
 unfolding items
-start s d e work marks c r l =
+start f s d e work marks c r l =
     record {
       within = omega arith;
       room = r;
@@ -109,7 +110,7 @@ start s d e work marks c r l =
       shallow = omega arith;
       last = 0;
       held = [];
-      good = ap (λ es. soundFrom 64 d 0 [] es) (onward-whole s d e) ∙ events-are-sound c;
+      good = ap (λ es. soundFrom 64 d 0 [] es) (onward-whole f s d e) ∙ c .sound-events;
       open-items = refl;
       bad = refl;
       noted = refl;
@@ -125,27 +126,27 @@ same-offence i k q = cc
 same-added : (m n : ℕ) → Added m ≡ Added n → m ≡ n
 same-added m n q = cc
 
-module _ {s : List ℕ} {d e : ℕ} {work marks : List ℕ} {opened : ℕ} {joined behind : Bool} {count i : ℕ} (v : Noting (documentOf s d) s d e work marks opened joined behind count i) where
+module _ {f : Form} {s : List ℕ} {d e : ℕ} {work marks : List ℕ} {opened : ℕ} {joined behind : Bool} {count i : ℕ} (v : Noting (documentIn f s d) f s d e work marks opened joined behind count i) where
   -- the end
-  pub finished : e ≤ i → Noted s d e (Added count) work
+  pub finished : e ≤ i → Noted f s d e (Added count) work
   unfolding offendersIn notes added
   finished h =
       let k : i ≡ e = omega (arith, v .within) in
-      let none = onward-none s d e i h in
-      let bad′ : [] ≡ offendersIn (documentOf s d) 0 false (onward s d e 0) = sym (ap (λ es. offendersIn (documentOf s d) i behind es) none) ∙ v .bad in
-      let noted′ : take i work ++ [] ≡ notes (documentOf s d) false [] (onward s d e 0) =
-      sym (ap (λ es. take i work ++ notes (documentOf s d) joined (upTo opened marks) es) none) ∙ v .noted in
-      let sum′ : count + 0 ≡ added (notes (documentOf s d) false [] (onward s d e 0)) =
-      sym (ap (λ es. count + added (notes (documentOf s d) joined (upTo opened marks) es)) none) ∙ v .sum in
-      let whole : take e work ≡ notes (documentOf s d) false [] (onward s d e 0) = ap (λ (m : ℕ). take m work) (sym k) ∙ sym (append-nil (take i work)) ∙ noted′ in
-      let total : count ≡ added (notes (documentOf s d) false [] (onward s d e 0)) = omega arith in
+      let none = onward-none f s d e i h in
+      let bad′ : [] ≡ offendersIn (documentIn f s d) 0 false (onward f s d e 0) = sym (ap (λ es. offendersIn (documentIn f s d) i behind es) none) ∙ v .bad in
+      let noted′ : take i work ++ [] ≡ notes (documentIn f s d) false [] (onward f s d e 0) =
+      sym (ap (λ es. take i work ++ notes (documentIn f s d) joined (upTo opened marks) es) none) ∙ v .noted in
+      let sum′ : count + 0 ≡ added (notes (documentIn f s d) false [] (onward f s d e 0)) =
+      sym (ap (λ es. count + added (notes (documentIn f s d) joined (upTo opened marks) es)) none) ∙ v .sum in
+      let whole : take e work ≡ notes (documentIn f s d) false [] (onward f s d e 0) = ap (λ (m : ℕ). take m work) (sym k) ∙ sym (append-nil (take i work)) ∙ noted′ in
+      let total : count ≡ added (notes (documentIn f s d) false [] (onward f s d e 0)) = omega arith in
       record {
         answer = rw (← bad′) (ap Added total);
         kept = λ n q. (whole, (let z = same-added count n q in omega (arith, v .few)));
         early = λ k q. absurd (offence-never k count (sym q));
       }
 
-  offends-here : (ks : List ℕ) → i < e → i ∷ ks ≡ offendersIn (documentOf s d) 0 false (onward s d e 0) → Noted s d e (Offends i) work
+  offends-here : (ks : List ℕ) → i < e → i ∷ ks ≡ offendersIn (documentIn f s d) 0 false (onward f s d e 0) → Noted f s d e (Offends i) work
   offends-here ks more q =
       record {
         answer = rw (← q);
@@ -153,53 +154,53 @@ module _ {s : List ℕ} {d e : ℕ} {work marks : List ℕ} {opened : ℕ} {join
         early = λ k z. (let w = same-offence i k z in omega arith);
       }
 
-  module _ (more : i < e) where
-    on : onward s d e i ≡ eventAt s (8 + d + 8 * i) ∷ onward s d e (i + 1)
-    on = onward-some s d e i more
+  module _ (more : i < e) (at : ℕ) (ea : at ≡ placeIn f d i) where
+    on : onward f s d e i ≡ eventAt s at ∷ onward f s d e (i + 1)
+    on = onward-some f s d e i more at ea
 
-    good-here : soundFrom 64 d (v .last) (v .held) (eventAt s (8 + d + 8 * i) ∷ onward s d e (i + 1)) ≡ true
+    good-here : soundFrom 64 d (v .last) (v .held) (eventAt s at ∷ onward f s d e (i + 1)) ≡ true
     good-here = sym (ap (λ es. soundFrom 64 d (v .last) (v .held) es) on) ∙ v .good
 
-    here : Stands 64 d (v .last) (v .held) (eventAt s (8 + d + 8 * i))
-    here = stands 64 d (v .last) (v .held) (eventAt s (8 + d + 8 * i)) (onward s d e (i + 1)) good-here
+    here : Stands 64 d (v .last) (v .held) (eventAt s at)
+    here = stands 64 d (v .last) (v .held) (eventAt s at) (onward f s d e (i + 1)) good-here
 
-    next : soundFrom 64 d (eventAt s (8 + d + 8 * i) .place) (after (eventAt s (8 + d + 8 * i)) (eventAt s (8 + d + 8 * i) .name) (v .held)) (onward s d e (i + 1)) ≡ true
-    next = sound-rest 64 d (v .last) (v .held) (eventAt s (8 + d + 8 * i)) (onward s d e (i + 1)) good-here
+    next : soundFrom 64 d (eventAt s at .place) (after (eventAt s at) (eventAt s at .name) (v .held)) (onward f s d e (i + 1)) ≡ true
+    next = sound-rest 64 d (v .last) (v .held) (eventAt s at) (onward f s d e (i + 1)) good-here
 
-    bad-here : offendersIn (documentOf s d) i behind (eventAt s (8 + d + 8 * i) ∷ onward s d e (i + 1)) ≡ offendersIn (documentOf s d) 0 false (onward s d e 0)
-    bad-here = sym (ap (λ es. offendersIn (documentOf s d) i behind es) on) ∙ v .bad
+    bad-here : offendersIn (documentIn f s d) i behind (eventAt s at ∷ onward f s d e (i + 1)) ≡ offendersIn (documentIn f s d) 0 false (onward f s d e 0)
+    bad-here = sym (ap (λ es. offendersIn (documentIn f s d) i behind es) on) ∙ v .bad
 
     -- the next note is n, and then come ns
-    module _ (n : ℕ) (ns : List ℕ) (q : notes (documentOf s d) joined (upTo opened marks) (eventAt s (8 + d + 8 * i) ∷ onward s d e (i + 1)) ≡ n ∷ ns) where
-      from-here : notes (documentOf s d) joined (upTo opened marks) (onward s d e i) ≡ n ∷ ns
-      from-here = ap (λ es. notes (documentOf s d) joined (upTo opened marks) es) on ∙ q
+    module _ (n : ℕ) (ns : List ℕ) (q : notes (documentIn f s d) joined (upTo opened marks) (eventAt s at ∷ onward f s d e (i + 1)) ≡ n ∷ ns) where
+      from-here : notes (documentIn f s d) joined (upTo opened marks) (onward f s d e i) ≡ n ∷ ns
+      from-here = ap (λ es. notes (documentIn f s d) joined (upTo opened marks) es) on ∙ q
 
-      noted-next : i < length work → take (i + 1) (set work i n) ++ ns ≡ notes (documentOf s d) false [] (onward s d e 0)
+      noted-next : i < length work → take (i + 1) (set work i n) ++ ns ≡ notes (documentIn f s d) false [] (onward f s d e 0)
       noted-next h = store work i n ns h ∙ sym (ap (λ (l : List ℕ). take i work ++ l) from-here) ∙ v .noted
 
-      sum-next : (m : ℕ) → m ≡ adds n → count + m + added ns ≡ added (notes (documentOf s d) false [] (onward s d e 0))
+      sum-next : (m : ℕ) → m ≡ adds n → count + m + added ns ≡ added (notes (documentIn f s d) false [] (onward f s d e 0))
       unfolding added
       sum-next m em =
-          let t : count + (adds n + added ns) ≡ added (notes (documentOf s d) false [] (onward s d e 0)) = sym (ap (λ (l : List ℕ). count + added l) from-here) ∙ v .sum in
-          let u : count + (m + added ns) ≡ added (notes (documentOf s d) false [] (onward s d e 0)) = ap (λ (k : ℕ). count + (k + added ns)) em ∙ t in
+          let t : count + (adds n + added ns) ≡ added (notes (documentIn f s d) false [] (onward f s d e 0)) = sym (ap (λ (l : List ℕ). count + added l) from-here) ∙ v .sum in
+          let u : count + (m + added ns) ≡ added (notes (documentIn f s d) false [] (onward f s d e 0)) = ap (λ (k : ℕ). count + (k + added ns)) em ∙ t in
           omega arith
 
     -- an event of another name
-    pub other : (getD s (8 + d + 8 * i + 1) 0 ≡ 15 → ⊥) → 2048 ≤ length work → e ≤ 2048 → Noting (documentOf s d) s d e (set work i 0) marks opened joined false count (i + 1)
+    pub other : (getD s (at + 1) 0 ≡ 15 → ⊥) → 2048 ≤ length work → e ≤ 2048 → Noting (documentIn f s d) f s d e (set work i 0) marks opened joined false count (i + 1)
     unfolding offendersIn notes choose and
-    other h r f =
-        let t : and (eqb (getD s (8 + d + 8 * i) 0) 0) false ≡ false = and-false (eqb (getD s (8 + d + 8 * i) 0) 0) false refl in
-        let u : and (eqb (getD s (8 + d + 8 * i) 0) 1) false ≡ false = and-false (eqb (getD s (8 + d + 8 * i) 0) 1) false refl in
-        let q : notes (documentOf s d) joined (upTo opened marks) (eventAt s (8 + d + 8 * i) ∷ onward s d e (i + 1)) ≡ 0 ∷ notes (documentOf s d) joined (upTo opened marks) (onward s d e (i + 1)) = rw (ne-eqb _ _ h) in
-        let total = sum-next 0 (notes (documentOf s d) joined (upTo opened marks) (onward s d e (i + 1))) q 0 refl in
+    other h r limit =
+        let t : and (eqb (getD s at 0) 0) false ≡ false = and-false (eqb (getD s at 0) 0) false refl in
+        let u : and (eqb (getD s at 0) 1) false ≡ false = and-false (eqb (getD s at 0) 1) false refl in
+        let q : notes (documentIn f s d) joined (upTo opened marks) (eventAt s at ∷ onward f s d e (i + 1)) ≡ 0 ∷ notes (documentIn f s d) joined (upTo opened marks) (onward f s d e (i + 1)) = rw (ne-eqb _ _ h) in
+        let total = sum-next 0 (notes (documentIn f s d) joined (upTo opened marks) (onward f s d e (i + 1))) q 0 refl in
         record {
           within = omega arith;
           room = simp length-set (omega arith);
           array = v .array;
           few = omega (arith, v .few);
           shallow = v .shallow;
-          last = eventAt s (8 + d + 8 * i) .place;
-          held = after (eventAt s (8 + d + 8 * i)) (eventAt s (8 + d + 8 * i) .name) (v .held);
+          last = eventAt s at .place;
+          held = after (eventAt s at) (eventAt s at .name) (v .held);
           good = next;
           open-items = items-other here h ∙ v .open-items;
           bad = rw (ne-eqb _ _ h, t, u) at bad-here;
@@ -207,31 +208,31 @@ module _ {s : List ℕ} {d e : ℕ} {work marks : List ℕ} {opened : ℕ} {join
           sum = omega arith;
         }
 
-    module _ (h : getD s (8 + d + 8 * i + 1) 0 ≡ 15) where
+    module _ (h : getD s (at + 1) 0 ≡ 15) where
       -- an item enters
-      module _ (k : getD s (8 + d + 8 * i) 0 ≡ 0) where
+      module _ (k : getD s at 0 ≡ 0) where
         pub room-inside : opened < 64
         room-inside = let r = here .room k in omega (arith, items-few (v .held), v .open-items)
 
-        pub right-behind : behind ≡ true → Noted s d e (Offends i) work
+        pub right-behind : behind ≡ true → Noted f s d e (Offends i) work
         unfolding offendersIn choose and
         right-behind b =
             offends-here _ more (rw (eq-eqb _ _ h, eq-eqb _ _ k, b) at bad-here)
 
-        module _ (b : behind ≡ false) (mark : ℕ) (em : mark ≡ markIn (documentOf s d) (onward s d e (i + 1))) where
-          pub broken : mark ≡ 0 → Noted s d e (Offends i) work
+        module _ (b : behind ≡ false) (mark : ℕ) (em : mark ≡ markIn (documentIn f s d) (onward f s d e (i + 1))) where
+          pub broken : mark ≡ 0 → Noted f s d e (Offends i) work
           unfolding offendersIn choose and
           broken z =
-              let y : markIn (documentOf s d) (onward s d e (i + 1)) ≡ 0 = sym em ∙ z in
+              let y : markIn (documentIn f s d) (onward f s d e (i + 1)) ≡ 0 = sym em ∙ z in
               offends-here _ more (rw (eq-eqb _ _ h, eq-eqb _ _ k, b, eq-eqb _ _ y) at bad-here)
 
           pub entered : (mark ≡ 0 → ⊥) → 2048 ≤ length work → e ≤ 2048 → (n m : ℕ) → n ≡ note joined mark → m ≡ adds n → m ≤ 1 →
-              Noting (documentOf s d) s d e (set work i n) (set marks opened mark) (opened + 1) false behind (count + m) (i + 1)
+              Noting (documentIn f s d) f s d e (set work i n) (set marks opened mark) (opened + 1) false behind (count + m) (i + 1)
           unfolding offendersIn notes choose and
-          entered z r f n m en em′ l =
-              let y : markIn (documentOf s d) (onward s d e (i + 1)) ≡ 0 → ⊥ = λ w. z (em ∙ w) in
+          entered z r limit n m en em′ l =
+              let y : markIn (documentIn f s d) (onward f s d e (i + 1)) ≡ 0 → ⊥ = λ w. z (em ∙ w) in
               let p : mark ∷ upTo opened marks ≡ upTo (opened + 1) (set marks opened mark) = sym (pushed opened marks mark (omega (arith, room-inside, v .array))) in
-              let q : notes (documentOf s d) joined (upTo opened marks) (eventAt s (8 + d + 8 * i) ∷ onward s d e (i + 1)) ≡ n ∷ notes (documentOf s d) false (upTo (opened + 1) (set marks opened mark)) (onward s d e (i + 1)) =
+              let q : notes (documentIn f s d) joined (upTo opened marks) (eventAt s at ∷ onward f s d e (i + 1)) ≡ n ∷ notes (documentIn f s d) false (upTo (opened + 1) (set marks opened mark)) (onward f s d e (i + 1)) =
               rw (eq-eqb _ _ h, eq-eqb _ _ k, ← em, ← en, p) in
               record {
                 within = omega arith;
@@ -239,31 +240,31 @@ module _ {s : List ℕ} {d e : ℕ} {work marks : List ℕ} {opened : ℕ} {join
                 array = length-set marks opened mark ∙ v .array;
                 few = omega (arith, v .few);
                 shallow = omega (arith, room-inside);
-                last = eventAt s (8 + d + 8 * i) .place;
-                held = after (eventAt s (8 + d + 8 * i)) (eventAt s (8 + d + 8 * i) .name) (v .held);
+                last = eventAt s at .place;
+                held = after (eventAt s at) (eventAt s at .name) (v .held);
                 good = next;
                 open-items = items-enter here h k ∙ ap (λ (j : ℕ). j + 1) (v .open-items);
-                bad = rw b (rw (eq-eqb _ _ h, eq-eqb _ _ k, b, ne-eqb _ _ y, ne-eqb (getD s (8 + d + 8 * i) 0) 1 (λ w. omega arith)) at bad-here);
+                bad = rw b (rw (eq-eqb _ _ h, eq-eqb _ _ k, b, ne-eqb _ _ y, ne-eqb (getD s at 0) 1 (λ w. omega arith)) at bad-here);
                 noted = noted-next n _ q (omega arith);
                 sum = sum-next n _ q m em′;
               }
 
       -- an item is left
-      module _ (k : getD s (8 + d + 8 * i) 0 ≡ 0 → ⊥) where
+      module _ (k : getD s at 0 ≡ 0 → ⊥) where
         pub some-open : 0 < opened
         some-open = omega (arith, items-exit here h k, v .open-items)
 
-        one : getD s (8 + d + 8 * i) 0 ≡ 1
+        one : getD s at 0 ≡ 1
         one = let z = here .kind in omega arith
 
-        pub left-one : 2048 ≤ length work → e ≤ 2048 → (mark after-mark : ℕ) → mark ≡ getD marks (opened - 1) 0 → after-mark ≡ nearest (documentOf s d) 0 (onward s d e (i + 1)) →
+        pub left-one : 2048 ≤ length work → e ≤ 2048 → (mark after-mark : ℕ) → mark ≡ getD marks (opened - 1) 0 → after-mark ≡ nearest (documentIn f s d) 0 (onward f s d e (i + 1)) →
             (n m : ℕ) → n ≡ note (eqb after-mark mark) mark → m ≡ adds n → m ≤ 1 →
-            Noting (documentOf s d) s d e (set work i n) marks (opened - 1) (eqb after-mark mark) true (count + m) (i + 1)
+            Noting (documentIn f s d) f s d e (set work i n) marks (opened - 1) (eqb after-mark mark) true (count + m) (i + 1)
         unfolding offendersIn notes choose and
-        left-one r f mark after-mark ea eb n m en em l =
+        left-one r limit mark after-mark ea eb n m en em l =
             let w = some-open in
             let p : upTo opened marks ≡ mark ∷ upTo (opened - 1) marks = popped opened marks w ∙ ap (λ (j : ℕ). j ∷ upTo (opened - 1) marks) (sym ea) in
-            let q : notes (documentOf s d) joined (upTo opened marks) (eventAt s (8 + d + 8 * i) ∷ onward s d e (i + 1)) ≡ n ∷ notes (documentOf s d) (eqb after-mark mark) (upTo (opened - 1) marks) (onward s d e (i + 1)) =
+            let q : notes (documentIn f s d) joined (upTo opened marks) (eventAt s at ∷ onward f s d e (i + 1)) ≡ n ∷ notes (documentIn f s d) (eqb after-mark mark) (upTo (opened - 1) marks) (onward f s d e (i + 1)) =
             rw (eq-eqb _ _ h, ne-eqb _ _ k, p, ← eb, ← en) in
             let u = items-exit here h k in
             record {
@@ -272,8 +273,8 @@ module _ {s : List ℕ} {d e : ℕ} {work marks : List ℕ} {opened : ℕ} {join
               array = v .array;
               few = omega (arith, v .few);
               shallow = omega (arith, v .shallow);
-              last = eventAt s (8 + d + 8 * i) .place;
-              held = after (eventAt s (8 + d + 8 * i)) (eventAt s (8 + d + 8 * i) .name) (v .held);
+              last = eventAt s at .place;
+              held = after (eventAt s at) (eventAt s at .name) (v .held);
               good = next;
               open-items = omega (arith, v .open-items, u);
               bad = rw (eq-eqb _ _ h, ne-eqb _ _ k, eq-eqb _ _ one) at bad-here;

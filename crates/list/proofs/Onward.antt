@@ -1,54 +1,45 @@
--- The events of a record from event i on: the next of them, and what is behind it.
+-- The events of a record from event i on: the next of them, what is behind it, and where it lies.
 -- Assumes nothing.
-use mathlib.Core.Path.{_≡_, sym, ap, _∙_}
-use mathlib.Core.Logic.{_⊎_, inl, inr}
+use mathlib.Core.Path.{_≡_, _∙_}
 use mathlib.Core.List.{List, [], _∷_}
-use Prim.Native.Nat.{ℕ, zero, suc, _+_, _*_, _-_, _≤_, _<_}
+use Prim.Native.Nat.{ℕ, _+_, _-_, _≤_, _<_}
 use native.Mathlib.Omega.{arith}
-use Rattle.record.specs.Event.{eventAt, eventsAt, eventsOf}
-use Rattle.list.specs.Walk.{onward, tail}
+use lib.ListN.{length}
+use Rattle.record.specs.Form.{placeIn}
+use Rattle.record.specs.Event.{eventAt, eventsIn}
+use Rattle.record.specs.Good.{GoodIn}
+use Rattle.record.specs.declared.form.Form.{Form}
+use Rattle.record.proofs.Parts.{further, events-cons, events-none, length-events}
+use Rattle.list.specs.Walk.{onward}
 
-events-suc : (n m : ℕ) (s : List ℕ) (at : ℕ) → n ≡ m + 1 → eventsAt n s at ≡ eventAt s at ∷ eventsAt m s (at + 8)
-unfolding eventsAt
-events-suc zero m s at h = absurd (omega arith)
-events-suc (suc n) m s at h =
-    let k : n ≡ m = omega arith in
-    rw k
-
-module _ (s : List ℕ) (d e i : ℕ) where
-  pub onward-none : e ≤ i → onward s d e i ≡ []
-  unfolding onward eventsAt
-  onward-none h =
-      let k : e - i ≡ 0 = omega arith in
-      rw k
-
-  pub onward-some : i < e → onward s d e i ≡ eventAt s (8 + d + 8 * i) ∷ onward s d e (i + 1)
+module _ (f : Form) (s : List ℕ) (d e i : ℕ) where
+  pub onward-none : e ≤ i → onward f s d e i ≡ []
   unfolding onward
-  onward-some h =
-      let k : 8 + d + 8 * i + 8 ≡ 8 + d + 8 * (i + 1) = omega arith in
-      events-suc (e - i) (e - (i + 1)) s (8 + d + 8 * i) (omega arith)
-      ∙ ap (λ (m : ℕ). eventAt s (8 + d + 8 * i) ∷ eventsAt (e - (i + 1)) s m) k
+  onward-none h = events-none (f .width) (e - i) s (placeIn f d i) (omega arith)
 
-pub split-at : (i e : ℕ) → (i < e) ⊎ (e ≤ i)
-split-at zero zero = inr (omega arith)
-split-at zero (suc e) = inl (omega arith)
-split-at (suc i) zero = inr (omega arith)
-split-at (suc i) (suc e) = go (split-at i e)
-  where
-    go : (i < e) ⊎ (e ≤ i) → (suc i < suc e) ⊎ (suc e ≤ suc i)
-    go (inl h) = inl (omega arith)
-    go (inr h) = inr (omega arith)
+  -- what a function reads at the place that it was given
+  module _ (more : i < e) (at : ℕ) (ea : at ≡ placeIn f d i) where
+    pub onward-some : onward f s d e i ≡ eventAt s at ∷ onward f s d e (i + 1)
+    unfolding onward
+    onward-some =
+        let k : placeIn f d i + f .width ≡ placeIn f d (i + 1) = omega arith in
+        rw (ea, ← k) (events-cons (f .width) (e - i) (e - (i + 1)) s (placeIn f d i) (omega arith))
 
-pub onward-tail : (s : List ℕ) (d e i : ℕ) → tail (onward s d e i) ≡ onward s d e (i + 1)
-onward-tail s d e i = go (split-at i e)
-  where
-    go : (i < e) ⊎ (e ≤ i) → tail (onward s d e i) ≡ onward s d e (i + 1)
-    go (inl h) = ap tail (onward-some s d e i h)
-    go (inr h) = ap tail (onward-none s d e i h) ∙ sym (onward-none s d e (i + 1) (omega arith))
+    -- its bytes lie in the record, and are eight at the least
+    pub lies : GoodIn f s d e → at + 8 ≤ length s
+    lies c =
+        let m = further (f .width) i e more in
+        omega (arith, c .whole, c .known .wide)
 
-pub onward-whole : (s : List ℕ) (d e : ℕ) → onward s d e 0 ≡ eventsOf s d e
-unfolding onward eventsOf
-onward-whole s d e =
+pub onward-whole : (f : Form) (s : List ℕ) (d e : ℕ) → onward f s d e 0 ≡ eventsIn f s d e
+unfolding onward eventsIn
+onward-whole f s d e =
     let k : e - 0 ≡ e = omega arith in
-    let l : 8 + d + 8 * 0 ≡ 8 + d = omega arith in
-    ap (λ (n : ℕ). eventsAt n s (8 + d + 8 * 0)) k ∙ ap (λ (m : ℕ). eventsAt e s m) l
+    let l : placeIn f d 0 ≡ 8 + f .front + d = omega arith in
+    rw (k, l)
+
+pub onward-long : (f : Form) (s : List ℕ) (d e : ℕ) → length (onward f s d e 0) ≡ e
+unfolding onward
+onward-long f s d e =
+    let k : e - 0 ≡ e = omega arith in
+    length-events (f .width) (e - 0) s (placeIn f d 0) ∙ k

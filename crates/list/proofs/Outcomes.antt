@@ -1,25 +1,32 @@
 -- What the two passes find is what the definition gives; and the answer and the output in each case.
 -- Assumes nothing.
-use Prim.Native.Nat.{ℕ, suc, _+_, _*_, _-_, _≤_, _<_}
+use Prim.Native.Nat.{ℕ, suc, _+_, _*_, _≤_, _<_}
 use mathlib.Core.Path.{_≡_, refl, sym, ap, _∙_}
 use mathlib.Core.Bool.{Bool, true, false}
 use mathlib.Core.List.{List, [], _∷_}
 use native.Mathlib.Omega.{arith}
 use lib.ListN.{length, take}
 use lib.Dec.{eqb}
-use borrow.Author.Tests.{lt-ltb, le-ltb}
 use Rattle.record.specs.Choice.{choose}
-use Rattle.record.specs.Event.{documentOf, eventsOf, sectionBytes, enter, exit}
-use Rattle.record.specs.Good.{GoodRecord}
+use Rattle.record.specs.Form.{placeIn}
+use Rattle.record.specs.Handed.{formOf}
+use Rattle.record.specs.Event.{documentIn, eventsIn, eventsBy, sectionBytes, enter, exit}
+use Rattle.record.specs.Good.{GoodIn}
 use Rattle.record.specs.Check.{admitted}
-use Rattle.record.specs.Outcome.{offends, gives, sized, onto}
+use Rattle.record.specs.Outcome.{offends, gives, settled, onto}
 use Rattle.record.specs.Promise.{Answered}
 use Rattle.record.specs.declared.event.Event.{Event}
+use Rattle.record.specs.Sound.{sound}
+use Rattle.record.specs.declared.form.Form.{Form}
+use Rattle.record.specs.declared.form.Handed.{Handed}
 use Rattle.record.specs.declared.check.Refusal.{Refusal}
 use Rattle.record.specs.declared.check.Reading.the-variants as reading
-use Rattle.record.proofs.Good.{events-are-sound}
+use Rattle.record.proofs.Depth.{sound-deeper}
 use Rattle.record.proofs.Output.{onto-none}
-use Rattle.record.proofs.Sections.{length-eventsAt}
+use Rattle.partners.specs.Finished.{Finished}
+use Rattle.partners.proofs.Finished.{section-sound}
+use Rattle.partners.proofs.Settled.{offended, too-short, written as section-written}
+use Rattle.list.proofs.Nesting.{nested}
 use Rattle.list.specs.Tree.{Row, written, treeOf}
 use Rattle.list.proofs.Reading.{tree-written}
 use Rattle.list.specs.Lists.{offenders, listed, settling, lists}
@@ -30,7 +37,7 @@ use Rattle.list.specs.declared.chain.Findings.{Findings}
 use Rattle.list.specs.declared.chain.Findings.the-variants.{Added, Offends}
 use Rattle.list.specs.declared.call.Answer.{Answer}
 use Rattle.list.specs.declared.call.Answer.the-variants.{Resolved, Refused}
-use Rattle.list.proofs.Onward.{onward-whole}
+use Rattle.list.proofs.Onward.{onward-whole, onward-long}
 use Rattle.list.proofs.Trees.{ended, offenders-written}
 use Rattle.list.proofs.Earliest.{all-shaped}
 use Rattle.list.proofs.Chains.{walked, listed-walked}
@@ -87,87 +94,99 @@ nothing-walked : (document : List ℕ) (row : Row) → listed document false row
 unfolding walked spliced notes
 nothing-walked document row = refl
 
-module _ (s : List ℕ) (d e : ℕ) (c : GoodRecord s d e) where
-  tree-whole : written (treeOf (eventsOf s d e)) [] ≡ onward s d e 0
-  tree-whole = tree-written 64 d (eventsOf s d e) (events-are-sound c) ∙ sym (onward-whole s d e)
+module _ (f : Form) (s : List ℕ) (d e : ℕ) (c : GoodIn f s d e) where
+  tree-whole : written (treeOf (eventsIn f s d e)) [] ≡ onward f s d e 0
+  tree-whole = tree-written 64 d (eventsIn f s d e) (c .sound-events) ∙ sym (onward-whole f s d e)
 
-  same-offenders : offendersIn (documentOf s d) 0 false (onward s d e 0) ≡ offenders (documentOf s d) 0 false (treeOf (eventsOf s d e)) []
+  same-offenders : offendersIn (documentIn f s d) 0 false (onward f s d e 0) ≡ offenders (documentIn f s d) 0 false (treeOf (eventsIn f s d e)) []
   unfolding offendersIn
   same-offenders =
-      sym (ap (λ es. offendersIn (documentOf s d) 0 false es) tree-whole)
-      ∙ offenders-written (documentOf s d) 0 false (treeOf (eventsOf s d e)) ended
+      sym (ap (λ es. offendersIn (documentIn f s d) 0 false es) tree-whole)
+      ∙ offenders-written (documentIn f s d) 0 false (treeOf (eventsIn f s d e)) ended
 
   -- an offence is the definition's
-  pub offence-same : (k : ℕ) (ks : List ℕ) → offendersIn (documentOf s d) 0 false (onward s d e 0) ≡ k ∷ ks → lists (documentOf s d) (eventsOf s d e) ≡ offends k
+  pub offence-same : (k : ℕ) (ks : List ℕ) → offendersIn (documentIn f s d) 0 false (onward f s d e 0) ≡ k ∷ ks → lists (documentIn f s d) (eventsIn f s d e) ≡ offends k
   unfolding lists
   offence-same k ks q =
-      let r : offenders (documentOf s d) 0 false (treeOf (eventsOf s d e)) [] ≡ k ∷ ks = sym same-offenders ∙ q in
-      ap (λ (x : List ℕ). settling x (listed (documentOf s d) false (treeOf (eventsOf s d e)) [])) r
+      let r : offenders (documentIn f s d) 0 false (treeOf (eventsIn f s d e)) [] ≡ k ∷ ks = sym same-offenders ∙ q in
+      ap (λ (x : List ℕ). settling x (listed (documentIn f s d) false (treeOf (eventsIn f s d e)) [])) r
 
   -- and so is the result
-  pub result-same : offendersIn (documentOf s d) 0 false (onward s d e 0) ≡ [] →
-      lists (documentOf s d) (eventsOf s d e) ≡ gives (spliced (notes (documentOf s d) false [] (onward s d e 0)) (onward s d e 0))
+  pub result-same : offendersIn (documentIn f s d) 0 false (onward f s d e 0) ≡ [] →
+      lists (documentIn f s d) (eventsIn f s d e) ≡ gives (spliced (notes (documentIn f s d) false [] (onward f s d e 0)) (onward f s d e 0))
   unfolding lists walked
   result-same q =
-      let t : Row = treeOf (eventsOf s d e) in
-      let r : offenders (documentOf s d) 0 false t [] ≡ [] = sym same-offenders ∙ q in
-      let a = all-shaped (documentOf s d) 0 false t [] r in
-      let w : walked (documentOf s d) false [] (written t []) ≡ listed (documentOf s d) false t (walked (documentOf s d) false [] []) =
-      listed-walked (documentOf s d) false [] t ended (a .0) (λ x y. absurd (false-not x)) in
-      ap (λ (x : List ℕ). settling x (listed (documentOf s d) false t [])) r
-      ∙ ap gives (sym (nothing-walked (documentOf s d) t) ∙ sym w ∙ ap (λ es. walked (documentOf s d) false [] es) tree-whole)
-
-  onward-long : length (onward s d e 0) ≡ e
-  unfolding onward
-  onward-long =
-      let k : e - 0 ≡ e = omega arith in
-      length-eventsAt (e - 0) s (8 + d + 8 * 0) ∙ k
+      let t : Row = treeOf (eventsIn f s d e) in
+      let r : offenders (documentIn f s d) 0 false t [] ≡ [] = sym same-offenders ∙ q in
+      let a = all-shaped (documentIn f s d) 0 false t [] r in
+      let w : walked (documentIn f s d) false [] (written t []) ≡ listed (documentIn f s d) false t (walked (documentIn f s d) false [] []) =
+      listed-walked (documentIn f s d) false [] t ended (a .0) (λ x y. absurd (false-not x)) in
+      ap (λ (x : List ℕ). settling x (listed (documentIn f s d) false t [])) r
+      ∙ ap gives (sym (nothing-walked (documentIn f s d) t) ∙ sym w ∙ ap (λ es. walked (documentIn f s d) false [] es) tree-whole)
 
   -- what the first pass found, as the definition has it
-  module _ {r : Findings} {w : List ℕ} (n : Noted s d e r w) where
-    pub noted-offends : (k : ℕ) → r ≡ Offends k → lists (documentOf s d) (eventsOf s d e) ≡ offends k
+  module _ {r : Findings} {w : List ℕ} (n : Noted f s d e r w) where
+    pub noted-offends : (k : ℕ) → r ≡ Offends k → lists (documentIn f s d) (eventsIn f s d e) ≡ offends k
     noted-offends k q =
-        let f = found-offence k (offendersIn (documentOf s d) 0 false (onward s d e 0)) (notes (documentOf s d) false [] (onward s d e 0)) (sym q ∙ n .answer) in
-        offence-same k (f .0) (f .1)
+        let o = found-offence k (offendersIn (documentIn f s d) 0 false (onward f s d e 0)) (notes (documentIn f s d) false [] (onward f s d e 0)) (sym q ∙ n .answer) in
+        offence-same k (o .0) (o .1)
 
     module _ (m : ℕ) (q : r ≡ Added m) where
-      pub noted-same : spliced (notes (documentOf s d) false [] (onward s d e 0)) (onward s d e 0) ≡ spliced w (onward s d e 0)
+      pub noted-same : spliced (notes (documentIn f s d) false [] (onward f s d e 0)) (onward f s d e 0) ≡ spliced w (onward f s d e 0)
       noted-same =
           let k = n .kept m q in
-          sym (ap (λ (l : List ℕ). spliced l (onward s d e 0)) (ap (λ (j : ℕ). take j w) onward-long ∙ k .0)) ∙ spliced-take w (onward s d e 0)
+          sym (ap (λ (l : List ℕ). spliced l (onward f s d e 0)) (ap (λ (j : ℕ). take j w) (onward-long f s d e) ∙ k .0)) ∙ spliced-take w (onward f s d e 0)
 
-      found : (offendersIn (documentOf s d) 0 false (onward s d e 0) ≡ []) × (m ≡ added (notes (documentOf s d) false [] (onward s d e 0)))
-      found = found-none m (offendersIn (documentOf s d) 0 false (onward s d e 0)) (notes (documentOf s d) false [] (onward s d e 0)) (sym q ∙ n .answer)
+      found : (offendersIn (documentIn f s d) 0 false (onward f s d e 0) ≡ []) × (m ≡ added (notes (documentIn f s d) false [] (onward f s d e 0)))
+      found = found-none m (offendersIn (documentIn f s d) 0 false (onward f s d e 0)) (notes (documentIn f s d) false [] (onward f s d e 0)) (sym q ∙ n .answer)
 
-      pub noted-gives : lists (documentOf s d) (eventsOf s d e) ≡ gives (spliced w (onward s d e 0))
+      pub noted-gives : lists (documentIn f s d) (eventsIn f s d e) ≡ gives (spliced w (onward f s d e 0))
       noted-gives = result-same (found .0) ∙ ap gives noted-same
 
-      pub noted-long : length (spliced w (onward s d e 0)) ≡ e + m
+      pub noted-long : length (spliced w (onward f s d e 0)) ≡ e + m
       noted-long =
-          let long : length (spliced (notes (documentOf s d) false [] (onward s d e 0)) (onward s d e 0)) ≡ length (onward s d e 0) + added (notes (documentOf s d) false [] (onward s d e 0)) =
-          spliced-long (notes (documentOf s d) false [] (onward s d e 0)) (onward s d e 0) (notes-long (documentOf s d) false [] (onward s d e 0)) in
-          omega (arith, ap length noted-same, long, found .1, onward-long)
+          let long : length (spliced (notes (documentIn f s d) false [] (onward f s d e 0)) (onward f s d e 0)) ≡ length (onward f s d e 0) + added (notes (documentIn f s d) false [] (onward f s d e 0)) =
+          spliced-long (notes (documentIn f s d) false [] (onward f s d e 0)) (onward f s d e 0) (notes-long (documentIn f s d) false [] (onward f s d e 0)) in
+          omega (arith, ap length noted-same, long, found .1, onward-long f s d e)
 
--- the answer and the output, case by case
-module _ (s : List ℕ) (options works : ℕ) (out : List ℕ) where
-  pub refused-by-check : (r : Refusal) → reading.Refused r ≡ admitted s options works →
-      Answered (outcomeOf s options (length out) works) answerOf out (Refused r) out
-  unfolding outcomeOf
-  refused-by-check r q = record { answer = rw (← q); output = rw (← q) (sym (onto-none out)) }
+-- at most one event is added for each
+pub few-added : (f : Form) (s : List ℕ) (d e : ℕ) → GoodIn f s d e → {r : Findings} {w : List ℕ} → Noted f s d e r w → (m : ℕ) → r ≡ Added m → e + m ≤ 8000
+few-added f s d e c n m q = omega (arith, c .few, n .kept m q .1)
 
-  module _ (d e : ℕ) (g : reading.Good d e ≡ admitted s options works) where
-    pub shape-broken : (k : ℕ) → lists (documentOf s d) (eventsOf s d e) ≡ offends k → (r : Answer) →
-        r ≡ Refused (record { number = 6; place = 8 + d + 8 * k }) → Answered (outcomeOf s options (length out) works) answerOf out r out
-    unfolding outcomeOf
-    shape-broken k q r er = record { answer = rw (← g, q) er; output = rw (← g, q) (sym (onto-none out)) }
+-- the ways out of a good record: the answer and the output in each. The result is sound, at most twice as deep as a record may be
+module _ (f : Form) (s : List ℕ) (d e : ℕ) (c : GoodIn f s d e) {r : Findings} {w : List ℕ} (n : Noted f s d e r w) (out : List ℕ) where
+  pub shape-broken : (k place : ℕ) → r ≡ Offends k → place ≡ placeIn f d k → (a : Answer) → a ≡ Refused (record { number = 6; place = place }) →
+      Answered f (settled f d (lists (documentIn f s d) (eventsIn f s d e)) (length out)) answerOf out a out
+  shape-broken k place q p a ea = offended f d (lists (documentIn f s d) (eventsIn f s d e)) answerOf out a k place (noted-offends f s d e c n k q) p ea
 
-    module _ (es : List Event) (q : lists (documentOf s d) (eventsOf s d e) ≡ gives es) (count : ℕ) (n : length es ≡ count) (few : count ≤ 8000) where
-      pub output-short : length out < 4 + 8 * count → (r : Answer) → r ≡ Refused (record { number = 8; place = 0 }) →
-          Answered (outcomeOf s options (length out) works) answerOf out r out
-      unfolding outcomeOf sized choose
-      output-short h r er = record { answer = rw (← g, q, n, le-ltb _ _ few, lt-ltb _ _ h) er; output = rw (← g, q, n, le-ltb _ _ few, lt-ltb _ _ h) (sym (onto-none out)) }
+  module _ (m : ℕ) (q : r ≡ Added m) where
+    result-sound : sound 8000 d (spliced w (onward f s d e 0)) ≡ true
+    result-sound =
+        sound-deeper 128 8000 d 0 [] (spliced w (onward f s d e 0)) (omega arith)
+        (nested d (documentIn f s d) (eventsIn f s d e) (spliced w (onward f s d e 0)) (c .sound-events) (noted-gives f s d e c n m q))
 
-      pub resolved : 4 + 8 * count ≤ length out → (out′ : List ℕ) → out′ ≡ onto (sectionBytes es) out →
-          Answered (outcomeOf s options (length out) works) answerOf out (Resolved count) out′
-      unfolding outcomeOf sized choose
-      resolved h out′ w = record { answer = rw (← g, q, n, le-ltb _ _ few, le-ltb _ _ h) (ap Resolved (sym n)); output = rw (← g, q, n, le-ltb _ _ few, le-ltb _ _ h) w }
+    pub output-short : length out < 4 + f .width * (e + m) → (a : Answer) → a ≡ Refused (record { number = 8; place = 0 }) →
+        Answered f (settled f d (lists (documentIn f s d) (eventsIn f s d e)) (length out)) answerOf out a out
+    output-short h a ea =
+        too-short f d (lists (documentIn f s d) (eventsIn f s d e)) answerOf out a (spliced w (onward f s d e 0)) (noted-gives f s d e c n m q) (e + m) (noted-long f s d e c n m q) (few-added f s d e c n m q) h ea
+
+    module _ {out₁ : List ℕ} (o : out₁ ≡ onto (sectionBytes (spliced w (onward f s d e 0))) out) where
+      pub finishes : sound 8000 d (eventsBy 8 (e + m) out₁ 4) ≡ true
+      finishes = section-sound 8000 d (e + m) (spliced w (onward f s d e 0)) out out₁ (noted-long f s d e c n m q) (few-added f s d e c n m q) result-sound (c .small) o
+
+      pub resolved : 4 + f .width * (e + m) ≤ length out → {out₂ : List ℕ} → Finished f (e + m) out₁ out₂ →
+          Answered f (settled f d (lists (documentIn f s d) (eventsIn f s d e)) (length out)) answerOf out (Resolved (e + m)) out₂
+      resolved h x =
+          section-written f d (lists (documentIn f s d) (eventsIn f s d e)) answerOf out (Resolved (e + m)) (spliced w (onward f s d e 0)) (noted-gives f s d e c n m q) (e + m)
+          (noted-long f s d e c n m q) (few-added f s d e c n m q) h (c .small) result-sound o x (ap Resolved (sym (noted-long f s d e c n m q)))
+
+-- the check's two ways on
+pub refused-by-check : (h : Handed) (s : List ℕ) (works : ℕ) (out : List ℕ) (r : Refusal) → reading.Refused r ≡ admitted h s works →
+    Answered (formOf h) (outcomeOf h s (length out) works) answerOf out (Refused r) out
+unfolding outcomeOf
+refused-by-check h s works out r q = record { answer = rw (← q); output = rw (← q) (sym (onto-none out)) }
+
+pub good-record : (h : Handed) (s : List ℕ) (works d e : ℕ) (out : List ℕ) (f : Form) {r : Answer} {out′ : List ℕ} → reading.Good d e ≡ admitted h s works → f ≡ formOf h →
+    Answered f (settled f d (lists (documentIn f s d) (eventsIn f s d e)) (length out)) answerOf out r out′ → Answered (formOf h) (outcomeOf h s (length out) works) answerOf out r out′
+unfolding outcomeOf
+good-record h s works d e out f q g w = rw (← q) (rw g at w)

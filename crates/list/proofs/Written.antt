@@ -11,10 +11,12 @@ use lib.Seq.{drop-cons}
 use lib.Dec.{eqb}
 use borrow.Author.Tests.{eq-eqb, ne-eqb}
 use Rattle.record.specs.Choice.{choose}
+use Rattle.record.specs.Form.{placeIn}
 use Rattle.record.specs.Bytes.{Wrote, u32At, u32Bytes}
 use Rattle.record.specs.Event.{event, enter, exit, eventAt, eventBytes, flat, sectionBytes}
 use Rattle.record.specs.Outcome.{onto}
 use Rattle.record.specs.declared.event.Event.{Event}
+use Rattle.record.specs.declared.form.Form.{Form}
 use Rattle.record.proofs.Splice.{wrote-then, wrote-none}
 use Rattle.record.proofs.Sections.{length-flat, flat-append, section}
 use Rattle.list.specs.Walk.{onward, noted, spliced}
@@ -76,60 +78,60 @@ module _ (kind name place n : ℕ) where
   exit-long h k = ap length (noted-exit n (event kind name place) [] h k)
 
 -- the loop's invariant: `done` are the events written
-pub record Writing (s : List ℕ) (d e : ℕ) (work out₁ : List ℕ) (count : ℕ) (out : List ℕ) (to i : ℕ) : Type 0 where
+pub record Writing (f : Form) (s : List ℕ) (d e : ℕ) (work out₁ : List ℕ) (count : ℕ) (out : List ℕ) (to i : ℕ) : Type 0 where
   pub within : i ≤ e
   pub done : List Event
   pub place : to ≡ 4 + 8 * length done
   pub wrote : Wrote out₁ 4 (flat done) out
-  pub rest : done ++ spliced (drop i work) (onward s d e i) ≡ spliced work (onward s d e 0)
-  pub total : length (spliced work (onward s d e 0)) ≡ count
+  pub rest : done ++ spliced (drop i work) (onward f s d e i) ≡ spliced work (onward f s d e 0)
+  pub total : length (spliced work (onward f s d e 0)) ≡ count
 
-pub start : (s : List ℕ) (d e : ℕ) (work out₁ : List ℕ) (count : ℕ) → length (spliced work (onward s d e 0)) ≡ count → Writing s d e work out₁ count out₁ 4 0
+pub start : (f : Form) (s : List ℕ) (d e : ℕ) (work out₁ : List ℕ) (count : ℕ) → length (spliced work (onward f s d e 0)) ≡ count → Writing f s d e work out₁ count out₁ 4 0
 unfolding flat
-start s d e work out₁ count h =
+start f s d e work out₁ count h =
     record { within = omega arith; done = []; place = refl; wrote = wrote-none out₁ 4; rest = refl; total = h }
 
 spliced-some : (ns : List ℕ) (n : ℕ) (ms : List ℕ) (x : Event) (es : List Event) → ns ≡ n ∷ ms → spliced ns (x ∷ es) ≡ noted n x (spliced ms es)
 unfolding spliced
 spliced-some ns n ms x es h = rw h
 
-module _ {s : List ℕ} {d e : ℕ} {work out₁ : List ℕ} {count : ℕ} {out : List ℕ} {to i : ℕ} (v : Writing s d e work out₁ count out to i) where
-  module _ (more : i < e) (room : e ≤ length work) (p : ℕ) (ep : p ≡ u32At s (8 + d + 8 * i + 4)) where
-    here : spliced (drop i work) (onward s d e i) ≡ noted (getD work i 0) (eventAt s (8 + d + 8 * i)) [] ++ spliced (drop (i + 1) work) (onward s d e (i + 1))
+module _ {f : Form} {s : List ℕ} {d e : ℕ} {work out₁ : List ℕ} {count : ℕ} {out : List ℕ} {to i : ℕ} (v : Writing f s d e work out₁ count out to i) where
+  module _ (more : i < e) (at : ℕ) (ea : at ≡ placeIn f d i) (room : e ≤ length work) (p : ℕ) (ep : p ≡ u32At s (at + 4)) where
+    here : spliced (drop i work) (onward f s d e i) ≡ noted (getD work i 0) (eventAt s at) [] ++ spliced (drop (i + 1) work) (onward f s d e (i + 1))
     here =
-        ap (λ es. spliced (drop i work) es) (onward-some s d e i more)
-        ∙ spliced-some (drop i work) (getD work i 0) (drop (i + 1) work) (eventAt s (8 + d + 8 * i)) (onward s d e (i + 1))
+        ap (λ es. spliced (drop i work) es) (onward-some f s d e i more at ea)
+        ∙ spliced-some (drop i work) (getD work i 0) (drop (i + 1) work) (eventAt s at) (onward f s d e (i + 1))
         (drop-cons work i 0 (omega arith) ∙ ap (λ (k : ℕ). getD work i 0 ∷ drop k work) (sym (add-one i)))
-        ∙ noted-append (getD work i 0) (eventAt s (8 + d + 8 * i)) (spliced (drop (i + 1) work) (onward s d e (i + 1)))
+        ∙ noted-append (getD work i 0) (eventAt s at) (spliced (drop (i + 1) work) (onward f s d e (i + 1)))
 
-    same-event : event (getD s (8 + d + 8 * i) 0) (getD s (8 + d + 8 * i + 1) 0) p ≡ eventAt s (8 + d + 8 * i)
-    same-event = ap (λ (k : ℕ). event (getD s (8 + d + 8 * i) 0) (getD s (8 + d + 8 * i + 1) 0) k) ep
+    same-event : event (getD s at 0) (getD s (at + 1) 0) p ≡ eventAt s at
+    same-event = ap (λ (k : ℕ). event (getD s at 0) (getD s (at + 1) 0) k) ep
 
     next : List Event
-    next = noted (getD work i 0) (event (getD s (8 + d + 8 * i) 0) (getD s (8 + d + 8 * i + 1) 0) p) []
+    next = noted (getD work i 0) (event (getD s at 0) (getD s (at + 1) 0) p) []
 
-    rest-next : (v .done ++ noted (getD work i 0) (event (getD s (8 + d + 8 * i) 0) (getD s (8 + d + 8 * i + 1) 0) p) []) ++ spliced (drop (i + 1) work) (onward s d e (i + 1)) ≡ spliced work (onward s d e 0)
+    rest-next : (v .done ++ noted (getD work i 0) (event (getD s at 0) (getD s (at + 1) 0) p) []) ++ spliced (drop (i + 1) work) (onward f s d e (i + 1)) ≡ spliced work (onward f s d e 0)
     rest-next =
-        append-assoc (v .done) (noted (getD work i 0) (event (getD s (8 + d + 8 * i) 0) (getD s (8 + d + 8 * i + 1) 0) p) []) (spliced (drop (i + 1) work) (onward s d e (i + 1)))
-        ∙ ap (λ (x : Event). v .done ++ (noted (getD work i 0) x [] ++ spliced (drop (i + 1) work) (onward s d e (i + 1)))) same-event
+        append-assoc (v .done) (noted (getD work i 0) (event (getD s at 0) (getD s (at + 1) 0) p) []) (spliced (drop (i + 1) work) (onward f s d e (i + 1)))
+        ∙ ap (λ (x : Event). v .done ++ (noted (getD work i 0) x [] ++ spliced (drop (i + 1) work) (onward f s d e (i + 1)))) same-event
         ∙ sym (ap (λ (es : List Event). v .done ++ es) here)
         ∙ v .rest
 
-    pub room-next : to + 8 * length (noted (getD work i 0) (event (getD s (8 + d + 8 * i) 0) (getD s (8 + d + 8 * i + 1) 0) p) []) ≤ 4 + 8 * count
+    pub room-next : to + 8 * length (noted (getD work i 0) (event (getD s at 0) (getD s (at + 1) 0) p) []) ≤ 4 + 8 * count
     room-next =
         let k = ap length rest-next in
-        let l = length-append (v .done ++ noted (getD work i 0) (event (getD s (8 + d + 8 * i) 0) (getD s (8 + d + 8 * i + 1) 0) p) []) (spliced (drop (i + 1) work) (onward s d e (i + 1))) in
-        let m = length-append (v .done) (noted (getD work i 0) (event (getD s (8 + d + 8 * i) 0) (getD s (8 + d + 8 * i + 1) 0) p) []) in
+        let l = length-append (v .done ++ noted (getD work i 0) (event (getD s at 0) (getD s (at + 1) 0) p) []) (spliced (drop (i + 1) work) (onward f s d e (i + 1))) in
+        let m = length-append (v .done) (noted (getD work i 0) (event (getD s at 0) (getD s (at + 1) 0) p) []) in
         omega (arith, v .place, v .total, k, l, m)
 
-    pub turn : {out′ : List ℕ} → (to′ : ℕ) → to′ ≡ to + 8 * length (noted (getD work i 0) (event (getD s (8 + d + 8 * i) 0) (getD s (8 + d + 8 * i + 1) 0) p) []) →
-        Wrote out to (flat (noted (getD work i 0) (event (getD s (8 + d + 8 * i) 0) (getD s (8 + d + 8 * i + 1) 0) p) [])) out′ →
-        Writing s d e work out₁ count out′ to′ (i + 1)
+    pub turn : {out′ : List ℕ} → (to′ : ℕ) → to′ ≡ to + 8 * length (noted (getD work i 0) (event (getD s at 0) (getD s (at + 1) 0) p) []) →
+        Wrote out to (flat (noted (getD work i 0) (event (getD s at 0) (getD s (at + 1) 0) p) [])) out′ →
+        Writing f s d e work out₁ count out′ to′ (i + 1)
     turn to′ et w =
-        let m = length-append (v .done) (noted (getD work i 0) (event (getD s (8 + d + 8 * i) 0) (getD s (8 + d + 8 * i + 1) 0) p) []) in
+        let m = length-append (v .done) (noted (getD work i 0) (event (getD s at 0) (getD s (at + 1) 0) p) []) in
         record {
           within = omega arith;
-          done = v .done ++ noted (getD work i 0) (event (getD s (8 + d + 8 * i) 0) (getD s (8 + d + 8 * i + 1) 0) p) [];
+          done = v .done ++ noted (getD work i 0) (event (getD s at 0) (getD s (at + 1) 0) p) [];
           place = omega (arith, v .place, m, et);
           wrote = rw flat-append (wrote-then (v .wrote) w (omega (arith, v .place, length-flat (v .done))));
           rest = rest-next;
@@ -143,8 +145,8 @@ module _ {s : List ℕ} {d e : ℕ} {work out₁ : List ℕ} {count : ℕ} {out 
 
   -- the end
   pub finished : {out₀ : List ℕ} → e ≤ i → 4 + 8 * count ≤ length out₀ → Wrote out₀ 0 (u32Bytes count) out₁ →
-      out ≡ onto (sectionBytes (spliced work (onward s d e 0))) out₀
-  finished h f w =
-      let none : spliced (drop i work) (onward s d e i) ≡ [] = ap (λ es. spliced (drop i work) es) (onward-none s d e i h) ∙ spliced-none (drop i work) in
-      let all : v .done ≡ spliced work (onward s d e 0) = sym (append-nil (v .done)) ∙ sym (ap (λ (es : List Event). v .done ++ es) none) ∙ v .rest in
-      section (spliced work (onward s d e 0)) count (v .total) f w (rw all at (v .wrote))
+      out ≡ onto (sectionBytes (spliced work (onward f s d e 0))) out₀
+  finished h fits w =
+      let none : spliced (drop i work) (onward f s d e i) ≡ [] = ap (λ es. spliced (drop i work) es) (onward-none f s d e i h) ∙ spliced-none (drop i work) in
+      let all : v .done ≡ spliced work (onward f s d e 0) = sym (append-nil (v .done)) ∙ sym (ap (λ (es : List Event). v .done ++ es) none) ∙ v .rest in
+      section (spliced work (onward f s d e 0)) count (v .total) fits w (rw all at (v .wrote))

@@ -1,21 +1,24 @@
 -- The same, read off the events one by one: what the inner functions promise. proofs/Trees.antt shows that over the events of a tree it is
 -- what specs/Lists.antt has.
 -- Assumes nothing.
-use Prim.Native.Nat.{ℕ, _+_, _*_, _-_}
+use Prim.Native.Nat.{ℕ, _+_, _*_, _-_, _≤_}
+use mathlib.Core.Path.{_≡_}
 use mathlib.Core.Bool.{Bool, true, false}
 use mathlib.Core.List.{List, [], _∷_}
-use lib.ListN.{getD}
+use lib.ListN.{length, getD}
 use lib.Dec.{eqb}
 use Rattle.record.specs.Choice.{choose, and}
-use Rattle.record.specs.Event.{event, enter, exit, eventsAt}
+use Rattle.record.specs.Event.{event, enter, exit, eventsBy}
 use Rattle.record.specs.Stack.{outer}
 use Rattle.record.specs.declared.event.Event.{Event}
+use Rattle.record.specs.declared.form.Form.{Form}
+use Rattle.list.specs.declared.item.Ahead.{Ahead}
 use Rattle.list.specs.Item.{known}
 use Rattle.list.specs.Lists.{isItem, between, listName}
 
--- the events of a record from event i on
-unfoldable pub onward : List ℕ → ℕ → ℕ → ℕ → List Event
-onward s d e i = eventsAt (e - i) s (8 + d + 8 * i)
+-- the events of a record of form f from event i on
+unfoldable pub onward : Form → List ℕ → ℕ → ℕ → ℕ → List Event
+onward f s d e i = eventsBy (f .width) (e - i) s (8 + f .front + d + f .width * i)
 
 abbrev pub tail : List Event → List Event
 tail [] = []
@@ -25,10 +28,29 @@ abbrev pub head : List Event → Event
 head [] = event 0 0 0
 head (x ∷ es) = x
 
--- whether the first event has this kind and name
+-- the events ahead: as many as are left, from the place of the next on
+unfoldable pub aheadOf : Form → List ℕ → Ahead → List Event
+aheadOf f s a = eventsBy (f .width) (a .left) s (a .at)
+
+-- they have their eight bytes each, and the record ends with them
+pub record InRecord (f : Form) (s : List ℕ) (a : Ahead) : Type 0 where
+  pub wide : 8 ≤ f .width
+  pub whole : a .at + f .width * a .left ≡ length s
+
+-- b is where a is or further on, and has the events es ahead
+pub record Further (f : Form) (s : List ℕ) (a b : Ahead) (es : List Event) : Type 0 where
+  pub lies : InRecord f s b
+  pub fewer : b .left ≤ a .left
+  pub events : aheadOf f s b ≡ es
+
+-- whether an event has this kind and name
+abbrev pub has : Event → ℕ → ℕ → Bool
+has x kind name = and (eqb (x .kind) kind) (eqb (x .name) name)
+
+-- and whether the first of some events has
 abbrev pub first : ℕ → ℕ → List Event → Bool
 first kind name [] = false
-first kind name (x ∷ es) = and (eqb (x .kind) kind) (eqb (x .name) name)
+first kind name (x ∷ es) = has x kind name
 
 unfoldable pub firstLeaf : ℕ → List Event → Bool
 firstLeaf name es = and (first 0 name es) (first 1 name (tail es))

@@ -5,6 +5,8 @@
 // to enter. One bool carries the finding there.
 
 use crate::item::item_mark;
+use record::form::Form;
+use record::form::place_of;
 use record::limits::BLANK_LINE_ENDING;
 use record::limits::BLOCK_QUOTE_PREFIX;
 use record::limits::ENTER;
@@ -16,8 +18,8 @@ use record::limits::SPACE_OR_TAB;
 ghost use mathlib.Core.Path.{_≡_};
 ghost use Prim.Native.Nat.{_+_, _≤_};
 ghost use lib.ListN.{length};
-ghost use Rattle.record.specs.Event.{documentOf};
-ghost use Rattle.record.specs.Good.{GoodRecord};
+ghost use Rattle.record.specs.Event.{documentIn};
+ghost use Rattle.record.specs.Good.{GoodIn};
 ghost use Rattle.list.specs.Lists.{between, listName};
 ghost use Rattle.list.specs.Walk.{onward, passing, nearest, note, adds};
 ghost use Rattle.list.specs.Noting.{Noted};
@@ -61,14 +63,14 @@ pub fn passes(depth: usize, name: u8) -> bool
 }
 
 // The mark of the neighbouring item behind event i - 1, which is an item's exit, or 0.
-pub fn next_mark(s: &[u8], d: usize, e: usize, i: usize) -> u8
-    requires { ⌜ GoodRecord (now s) d e × (i ≤ e) ⌝ }
-    ensures { λ r. ⌜ r ≡ nearest (documentOf (now (s .entry)) d) 0 (onward (now (s .entry)) d e i) ⌝ }
+pub fn next_mark(s: &[u8], form: Form, d: usize, e: usize, i: usize) -> u8
+    requires { ⌜ GoodIn form (now s) d e × (i ≤ e) ⌝ }
+    ensures { λ r. ⌜ r ≡ nearest (documentIn form (now (s .entry)) d) 0 (onward form (now (s .entry)) d e i) ⌝ }
 {
     let mut k = i;
     let mut depth = 0;
     while k < e {
-        let at = 8 + d + 8 * k;
+        let at = place_of(form, d, k);
         let name = s[at + 1];
         k += 1;
         if s[at] != ENTER {
@@ -82,7 +84,7 @@ pub fn next_mark(s: &[u8], d: usize, e: usize, i: usize) -> u8
             if depth != 0 {
                 return 0;
             }
-            return item_mark(s, d, e, k);
+            return item_mark(s, form, d, e, k);
         }
         if !passes(depth, name) {
             return 0;
@@ -126,9 +128,9 @@ pub fn more(n: u8) -> usize
 }
 
 // The first pass: a note for each event, or the earliest offending item.
-pub fn note_lists(s: &[u8], d: usize, e: usize, work: &mut [u8]) -> Findings
-    requires { ⌜ GoodRecord (now s) d e × (2048 ≤ length (now work)) ⌝ }
-    ensures { λ r. ⌜ Noted (now (s .entry)) d e r (now (work .exit)) ⌝ }
+pub fn note_lists(s: &[u8], form: Form, d: usize, e: usize, work: &mut [u8]) -> Findings
+    requires { ⌜ GoodIn form (now s) d e × (2048 ≤ length (now work)) ⌝ }
+    ensures { λ r. ⌜ Noted form (now (s .entry)) d e r (now (work .exit)) ⌝ }
 {
     let mut held = Items {
         marks: [0u8; 64],
@@ -139,7 +141,7 @@ pub fn note_lists(s: &[u8], d: usize, e: usize, work: &mut [u8]) -> Findings
     let mut count = 0;
     let mut i = 0;
     while i < e {
-        let at = 8 + d + 8 * i;
+        let at = place_of(form, d, i);
         if s[at + 1] != LIST_ITEM {
             work[i] = 0;
             behind = false;
@@ -151,7 +153,7 @@ pub fn note_lists(s: &[u8], d: usize, e: usize, work: &mut [u8]) -> Findings
             if behind {
                 return Findings::Offends(i);
             }
-            let mark = item_mark(s, d, e, i + 1);
+            let mark = item_mark(s, form, d, e, i + 1);
             if mark == 0 {
                 return Findings::Offends(i);
             }
@@ -166,7 +168,7 @@ pub fn note_lists(s: &[u8], d: usize, e: usize, work: &mut [u8]) -> Findings
         }
         let top = open - 1;
         let mark = held.marks[top];
-        joined = next_mark(s, d, e, i + 1) == mark;
+        joined = next_mark(s, form, d, e, i + 1) == mark;
         let n = unless_joined(joined, mark);
         work[i] = n;
         count += more(n);

@@ -3,6 +3,8 @@
 use record::bytes::put_u32;
 use record::bytes::u32_at;
 use record::event::put_event;
+use record::form::Form;
+use record::form::place_of;
 use record::limits::ENTER;
 use record::limits::EXIT;
 ghost use mathlib.Core.Path.{_≡_};
@@ -11,7 +13,7 @@ ghost use Prim.Native.Nat.{_+_, _*_, _≤_};
 ghost use lib.ListN.{length};
 ghost use Rattle.record.specs.Bytes.{Wrote};
 ghost use Rattle.record.specs.Event.{event, flat, sectionBytes};
-ghost use Rattle.record.specs.Good.{GoodRecord};
+ghost use Rattle.record.specs.Good.{GoodIn};
 ghost use Rattle.record.specs.Outcome.{onto};
 ghost use Rattle.list.specs.Walk.{onward, noted, spliced};
 
@@ -36,15 +38,23 @@ pub fn put_noted(out: &mut [u8], at: usize, kind: u8, name: u8, place: usize, n:
 }
 
 // The section of the events with what their notes add, of which there are `count` in all.
-pub fn write_lists(out: &mut [u8], s: &[u8], d: usize, e: usize, work: &[u8], count: usize)
-    requires { ⌜ GoodRecord (now s) d e × (e ≤ length (now work)) × (length (spliced (now work) (onward (now s) d e 0)) ≡ count) × (4 + 8 * count ≤ length (now out)) ⌝ }
-    ensures { λ _. ⌜ now (out .exit) ≡ onto (sectionBytes (spliced (now (work .entry)) (onward (now (s .entry)) d e 0))) (now (out .entry)) ⌝ }
+pub fn write_lists(
+    out: &mut [u8],
+    s: &[u8],
+    form: Form,
+    d: usize,
+    e: usize,
+    work: &[u8],
+    count: usize,
+)
+    requires { ⌜ GoodIn form (now s) d e × (e ≤ length (now work)) × (length (spliced (now work) (onward form (now s) d e 0)) ≡ count) × (4 + 8 * count ≤ length (now out)) ⌝ }
+    ensures { λ _. ⌜ now (out .exit) ≡ onto (sectionBytes (spliced (now (work .entry)) (onward form (now (s .entry)) d e 0))) (now (out .entry)) ⌝ }
 {
     put_u32(out, 0, count);
     let mut to = 4;
     let mut i = 0;
     while i < e {
-        let at = 8 + d + 8 * i;
+        let at = place_of(form, d, i);
         to = put_noted(out, to, s[at], s[at + 1], u32_at(s, at + 4), work[i]);
         i += 1;
     }

@@ -1,7 +1,7 @@
 -- The shape rule, test by test, as the code asks: the document's bytes where they stand in the record, the scan over a run's bytes, and each
 -- way in which the bytes between two places are a run or are not.
 -- Assumes nothing.
-use mathlib.Core.Path.{_≡_, refl, sym, ap, _∙_}
+use mathlib.Core.Path.{_≡_, refl, sym, _∙_}
 use mathlib.Core.Bool.{true, false}
 use mathlib.Core.List.{List}
 use mathlib.Core.Option.{none, some}
@@ -11,19 +11,20 @@ use lib.ListN.{length, getD}
 use borrow.Author.Tests.{eq-eqb, ne-eqb, lt-ltb, le-ltb}
 use Rattle.record.specs.Choice.{choose, and}
 use Rattle.record.specs.Bytes.{u32At}
-use Rattle.record.specs.Event.{documentOf, eventAt, eventsAt}
+use Rattle.record.specs.Event.{documentIn, eventAt, eventsBy}
+use Rattle.record.specs.declared.form.Form.{Form}
 use Rattle.record.proofs.Parts.{length-document, document-byte}
 use Rattle.runs.specs.Runs.{isMarker, isByte, byteAt, allAre, allowed, leftAtOnce, runBetween, shaped}
 
 -- where the document's bytes stand
-module _ (s : List ℕ) (d : ℕ) (whole : 4 + d ≤ length s) where
-  pub byte-inside : (at : ℕ) → at < d → byteAt (documentOf s d) at ≡ some (getD s (4 + at) 0)
+module _ (f : Form) (s : List ℕ) (d : ℕ) (whole : 4 + f .front + d ≤ length s) where
+  pub byte-inside : (at : ℕ) → at < d → byteAt (documentIn f s d) at ≡ some (getD s (4 + f .front + at) 0)
   unfolding byteAt choose
-  byte-inside at h = rw (length-document s d whole, lt-ltb at d h, document-byte s d at h)
+  byte-inside at h = rw (length-document f s d whole, lt-ltb at d h, document-byte f s d at h)
 
-  pub byte-past : (at : ℕ) → d ≤ at → byteAt (documentOf s d) at ≡ none
+  pub byte-past : (at : ℕ) → d ≤ at → byteAt (documentIn f s d) at ≡ none
   unfolding byteAt choose
-  byte-past at h = rw (length-document s d whole, le-ltb at d h)
+  byte-past at h = rw (length-document f s d whole, le-ltb at d h)
 
 -- a scan over bytes that have to be one
 all-next : (n m marker : ℕ) (s : List ℕ) (at : ℕ) → n ≡ m + 1 → getD s at 0 ≡ marker → allAre n marker s at ≡ allAre m marker s (at + 1)
@@ -67,68 +68,61 @@ module _ {s : List ℕ} {marker from to at : ℕ} (i : Alike s marker from to at
   alike h = sym (all-none (to - at) marker s at (omega arith)) ∙ i .rest
 
 -- the same scan in the document and in the record
-pub all-document : (n marker : ℕ) (s : List ℕ) (d at : ℕ) → at + n ≤ d → allAre n marker (documentOf s d) at ≡ allAre n marker s (4 + at)
+pub all-document : (f : Form) (n marker : ℕ) (s : List ℕ) (d at : ℕ) → at + n ≤ d →
+    allAre n marker (documentIn f s d) at ≡ allAre n marker s (4 + f .front + at)
 unfolding allAre
-all-document zero marker s d at h = refl
-all-document (suc n) marker s d at h =
-    let k : 4 + (at + 1) ≡ 4 + at + 1 = omega arith in
-    rw (document-byte s d at (omega arith), all-document n marker s d (at + 1) (omega arith), k)
+all-document f zero marker s d at h = refl
+all-document f (suc n) marker s d at h =
+    let k : 4 + f .front + (at + 1) ≡ 4 + f .front + at + 1 = omega arith in
+    rw (document-byte f s d at (omega arith), all-document f n marker s d (at + 1) (omega arith), k)
 
 -- the bytes between two places of the document, each way
-module _ (s : List ℕ) (d options from to : ℕ) where
-  pub not-later : to ≤ from → false ≡ runBetween (documentOf s d) options from to
+module _ (f : Form) (s : List ℕ) (d options from to : ℕ) where
+  pub not-later : to ≤ from → false ≡ runBetween (documentIn f s d) options from to
   unfolding runBetween and
   not-later h = rw (le-ltb from to h)
 
-  module _ (later : from < to) (inside : to ≤ d) (marker : ℕ) (m : marker ≡ getD s (4 + from) 0) where
-    pub first-byte : getD (documentOf s d) from 0 ≡ marker
-    first-byte = document-byte s d from (omega arith) ∙ sym m
+  module _ (later : from < to) (inside : to ≤ d) (marker : ℕ) (m : marker ≡ getD s (4 + f .front + from) 0) where
+    pub first-byte : getD (documentIn f s d) from 0 ≡ marker
+    first-byte = document-byte f s d from (omega arith) ∙ sym m
 
-    scan-here : allAre (to - from) marker (documentOf s d) from ≡ allAre (4 + to - (4 + from)) marker s (4 + from)
+    scan-here : allAre (to - from) marker (documentIn f s d) from ≡ allAre (4 + f .front + to - (4 + f .front + from)) marker s (4 + f .front + from)
     scan-here =
-        let k : 4 + to - (4 + from) ≡ to - from = omega arith in
-        all-document (to - from) marker s d from (omega arith) ∙ rw k
+        let k : 4 + f .front + to - (4 + f .front + from) ≡ to - from = omega arith in
+        all-document f (to - from) marker s d from (omega arith) ∙ rw k
 
-    pub unmarked : isMarker marker ≡ false → false ≡ runBetween (documentOf s d) options from to
+    pub unmarked : isMarker marker ≡ false → false ≡ runBetween (documentIn f s d) options from to
     unfolding runBetween and
     unmarked e = rw (lt-ltb from to later, first-byte, e)
 
     module _ (known : isMarker marker ≡ true) where
-      pub mixed : allAre (4 + to - (4 + from)) marker s (4 + from) ≡ false → false ≡ runBetween (documentOf s d) options from to
+      pub mixed : allAre (4 + f .front + to - (4 + f .front + from)) marker s (4 + f .front + from) ≡ false →
+          false ≡ runBetween (documentIn f s d) options from to
       unfolding runBetween and
-      mixed f = rw (lt-ltb from to later, first-byte, known, scan-here, f)
+      mixed g = rw (lt-ltb from to later, first-byte, known, scan-here, g)
 
-      module _ (all : allAre (4 + to - (4 + from)) marker s (4 + from) ≡ true) where
-        pub goes-on : isByte marker (byteAt (documentOf s d) to) ≡ true → false ≡ runBetween (documentOf s d) options from to
+      module _ (all : allAre (4 + f .front + to - (4 + f .front + from)) marker s (4 + f .front + from) ≡ true) where
+        pub goes-on : isByte marker (byteAt (documentIn f s d) to) ≡ true → false ≡ runBetween (documentIn f s d) options from to
         unfolding runBetween and
         goes-on g = rw (lt-ltb from to later, first-byte, known, scan-here, all, g)
 
-        pub by-option : isByte marker (byteAt (documentOf s d) to) ≡ false → allowed options marker ≡ runBetween (documentOf s d) options from to
+        pub by-option : isByte marker (byteAt (documentIn f s d) to) ≡ false → allowed options marker ≡ runBetween (documentIn f s d) options from to
         unfolding runBetween and
         by-option g = rw (lt-ltb from to later, first-byte, known, scan-here, all, g)
 
 -- the run that an event enters, where another follows it
-module _ (s : List ℕ) (d options at : ℕ) where
-  pub not-left : (getD s (at + 8) 0 ≡ 1 → ⊥) → false ≡ shaped (documentOf s d) options (eventAt s at) (eventsAt 1 s (at + 8))
-  unfolding eventsAt shaped leftAtOnce and
+module _ (f : Form) (s : List ℕ) (d options at : ℕ) where
+  pub not-left : (getD s (at + f .width) 0 ≡ 1 → ⊥) → false ≡ shaped (documentIn f s d) options (eventAt s at) (eventsBy (f .width) 1 s (at + f .width))
+  unfolding eventsBy shaped leftAtOnce and
   not-left e = rw (ne-eqb _ _ e)
 
-  pub other-left : getD s (at + 8) 0 ≡ 1 → (getD s (at + 9) 0 ≡ 1 → ⊥) →
-      false ≡ shaped (documentOf s d) options (eventAt s at) (eventsAt 1 s (at + 8))
-  unfolding eventsAt shaped leftAtOnce and
-  other-left k e =
-      let n : at + 8 + 1 ≡ at + 9 = omega arith in
-      rw (eq-eqb _ _ k, n, ne-eqb _ _ e)
+  pub other-left : getD s (at + f .width) 0 ≡ 1 → (getD s (at + f .width + 1) 0 ≡ 1 → ⊥) →
+      false ≡ shaped (documentIn f s d) options (eventAt s at) (eventsBy (f .width) 1 s (at + f .width))
+  unfolding eventsBy shaped leftAtOnce and
+  other-left k e = rw (eq-eqb _ _ k, ne-eqb _ _ e)
 
-  pub at-once-left : getD s (at + 8) 0 ≡ 1 → getD s (at + 9) 0 ≡ 1 → (from to : ℕ) → from ≡ u32At s (at + 4) → to ≡ u32At s (at + 12) →
-      runBetween (documentOf s d) options from to ≡ shaped (documentOf s d) options (eventAt s at) (eventsAt 1 s (at + 8))
-  unfolding eventsAt shaped leftAtOnce and
-  at-once-left k e from to f t =
-      let n : at + 8 + 1 ≡ at + 9 = omega arith in
-      let p : u32At s (at + 8 + 4) ≡ u32At s (at + 12) = places in
-      rw (f, t, eq-eqb _ _ k, n, eq-eqb _ _ e, p)
-    where
-      places : u32At s (at + 8 + 4) ≡ u32At s (at + 12)
-      places =
-          let n : at + 8 + 4 ≡ at + 12 = omega arith in
-          ap (λ (m : ℕ). u32At s m) n
+  pub at-once-left : getD s (at + f .width) 0 ≡ 1 → getD s (at + f .width + 1) 0 ≡ 1 →
+      (from to : ℕ) → from ≡ u32At s (at + 4) → to ≡ u32At s (at + f .width + 4) →
+      runBetween (documentIn f s d) options from to ≡ shaped (documentIn f s d) options (eventAt s at) (eventsBy (f .width) 1 s (at + f .width))
+  unfolding eventsBy shaped leftAtOnce and
+  at-once-left k e from to g t = rw (g, t, eq-eqb _ _ k, eq-eqb _ _ e)

@@ -11,12 +11,13 @@ use lib.ListN.{length, getD, set, length-set, length-map, length-append}
 use lib.Seq.{getD-set-same, getD-set-other}
 use borrow.Author.Tests.{eqb-true, eqb-false}
 use Rattle.record.specs.Bytes.{u32At}
-use Rattle.record.specs.Event.{documentOf, eventAt, eventsAt, eventsOf}
+use Rattle.record.specs.Form.{placeIn}
+use Rattle.record.specs.Event.{documentIn, eventAt, eventsBy, eventsIn}
 use Rattle.record.specs.Stack.{upTo, outer, after}
-use Rattle.record.specs.Good.{GoodRecord}
+use Rattle.record.specs.declared.form.Form.{Form}
+use Rattle.record.specs.Good.{GoodIn}
 use Rattle.record.proofs.Names.{pushed, popped, empty}
-use Rattle.record.proofs.Good.{events-are-sound}
-use Rattle.record.proofs.Parts.{events-cons}
+use Rattle.record.proofs.Parts.{further, events-cons}
 use Rattle.record.proofs.Soundness.{Stands, after-enter, after-exit}
 use Rattle.runs.specs.Runs.{Run, innermostOf, runOf, runsOf, shaped, offender}
 use Rattle.runs.specs.Rule.{Profile}
@@ -67,12 +68,12 @@ module _ (f : Run → Standing) where
           rw (at-old done r j below) (k .others j (omega arith) ne (at (map f done) j) (q .slots j (omega arith)))
 
 -- where a turn begins
-pub record Walking (profile : Profile) (s : List ℕ) (d e options : ℕ) (w₀ w numbers : List ℕ) (depth i n : ℕ) : Type 0 where
-  pub good : GoodRecord s d e
+pub record Walking (profile : Profile) (f : Form) (s : List ℕ) (d e options : ℕ) (w₀ w numbers : List ℕ) (depth i n : ℕ) : Type 0 where
+  pub good : GoodIn f s d e
   pub names : List ℕ
   pub last : ℕ
   pub done : List Run
-  pub reached : Reached s d e options (e - i) (8 + d + 8 * i) i (upTo depth numbers) names last done
+  pub reached : Reached (f .width) (documentIn f s d) (eventsIn f s d e) s d options (e - i) (placeIn f d i) i (upTo depth numbers) names last done
   pub within : i ≤ e
   pub array : length numbers ≡ 64
   pub low : (k : ℕ) → k < depth → getD numbers k 0 < e
@@ -82,18 +83,19 @@ pub record Walking (profile : Profile) (s : List ℕ) (d e options : ℕ) (w₀ 
   pub holds : Holds w (map (standing profile options) done)
   pub same-length : length w ≡ length w₀
 
-pub start : (profile : Profile) (s : List ℕ) (d e options : ℕ) (w numbers : List ℕ) (depth : ℕ) → GoodRecord s d e → depth ≡ 0 → length numbers ≡ 64 →
-    Walking profile s d e options w w numbers depth 0 0
-unfolding eventsOf offender runsOf
-start profile s d e options w numbers depth g z l =
+pub start : (profile : Profile) (f : Form) (s : List ℕ) (d e options : ℕ) (w numbers : List ℕ) (depth : ℕ) →
+    GoodIn f s d e → depth ≡ 0 → length numbers ≡ 64 →
+    Walking profile f s d e options w w numbers depth 0 0
+unfolding eventsIn offender runsOf
+start profile f s d e options w numbers depth g z l =
     let a : e - 0 ≡ e = omega arith in
-    let b : 8 + d + 8 * 0 ≡ 8 + d = omega arith in
+    let b : placeIn f d 0 ≡ 8 + f .front + d = omega arith in
     record {
       good = g;
       names = [];
       last = 0;
       done = [];
-      reached = rw (a, b, empty depth numbers z) (record { sound = events-are-sound g; judged = refl; found = refl });
+      reached = rw (a, b, empty depth numbers z) (record { sound = g .sound-events; judged = refl; found = refl });
       within = omega arith;
       array = l;
       low = λ k h. absurd (omega arith);
@@ -109,11 +111,12 @@ pub record Container (numbers : List ℕ) (depth container : ℕ) : Type 0 where
   pub number : containerNumber (innermostOf (upTo depth numbers)) ≡ container
   pub known : container ≤ 2048
 
-module _ {profile : Profile} {s : List ℕ} {d e options : ℕ} {w₀ w numbers : List ℕ} {depth i n : ℕ} (v : Walking profile s d e options w₀ w numbers depth i n) where
+module _ {profile : Profile} {f : Form} {s : List ℕ} {d e options : ℕ} {w₀ w numbers : List ℕ} {depth i n : ℕ}
+    (v : Walking profile f s d e options w₀ w numbers depth i n) where
   -- the end
-  pub finished : e ≤ i → Ready profile (documentOf s d) (eventsOf s d e) options n w
+  pub finished : e ≤ i → Ready profile (documentIn f s d) (eventsIn f s d e) options n w
   finished h =
-      let a : v .done ≡ runsOf (documentOf s d) (eventsOf s d e) = all-found (v .reached) (omega (arith, v .within)) in
+      let a : v .done ≡ runsOf (documentIn f s d) (eventsIn f s d e) = all-found (v .reached) (omega (arith, v .within)) in
       let b : length (v .done) ≡ n = v .count in
       let p : e ≤ 2048 = v .good .few in
       let q : 2 * n ≤ i = v .pairs in
@@ -136,37 +139,54 @@ module _ {profile : Profile} {s : List ℕ} {d e options : ℕ} {w₀ w numbers 
       let p : e ≤ 2048 = v .good .few in
       record { number = rw (popped depth numbers h); known = omega arith }
 
-  module _ (more : i < e) where
-    here : Stands 64 d (v .last) (v .names) (eventAt s (8 + d + 8 * i))
-    here = standing-here (v .reached) (e - (i + 1)) (omega arith)
+  pub document-whole : 4 + f .front + d ≤ length s
+  document-whole =
+      let l : length s ≡ placeIn f d e = v .good .whole in
+      omega arith
+
+  -- the event that is next stands at a place; it is whole
+  module _ (more : i < e) (place : ℕ) (next-at : place ≡ placeIn f d i) where
+    reached-here : Reached (f .width) (documentIn f s d) (eventsIn f s d e) s d options (e - i) place i (upTo depth numbers) (v .names) (v .last) (v .done)
+    reached-here = rw next-at (v .reached)
+
+    pub whole-here : place + f .width ≤ length s
+    whole-here =
+        let l : length s ≡ placeIn f d e = v .good .whole in
+        let r : f .width * i + f .width ≤ f .width * e = further (f .width) i e more in
+        omega arith
+
+    here : Stands 64 d (v .last) (v .names) (eventAt s place)
+    here = standing-here reached-here (e - (i + 1)) (omega arith)
 
     -- an exit
-    exits : (getD s (8 + d + 8 * i) 0 ≡ 0 → ⊥) → getD s (8 + d + 8 * i) 0 ≡ 1
+    exits : (getD s place 0 ≡ 0 → ⊥) → getD s place 0 ≡ 1
     exits k =
-        let a : getD s (8 + d + 8 * i) 0 ≤ 1 = here .kind in
+        let a : getD s place 0 ≤ 1 = here .kind in
         omega arith
 
-    pub inner : (getD s (8 + d + 8 * i) 0 ≡ 0 → ⊥) → 0 < depth
+    pub inner : (getD s place 0 ≡ 0 → ⊥) → 0 < depth
     inner k =
-        let a : v .names ≡ getD s (8 + d + 8 * i + 1) 0 ∷ outer (v .names) = here .partner (exits k) in
+        let a : v .names ≡ getD s (place + 1) 0 ∷ outer (v .names) = here .partner (exits k) in
         let b : length (v .names) ≡ suc (length (outer (v .names))) = ap length a in
         let c : length (v .names) ≡ depth = v .deep in
         omega arith
 
-    pub left-one : (getD s (8 + d + 8 * i) 0 ≡ 0 → ⊥) → Walking profile s d e options w₀ w numbers (depth - 1) (i + 1) n
+    pub left-one : (getD s place 0 ≡ 0 → ⊥) → Walking profile f s d e options w₀ w numbers (depth - 1) (i + 1) n
     left-one k =
-        let a : v .names ≡ getD s (8 + d + 8 * i + 1) 0 ∷ outer (v .names) = here .partner (exits k) in
+        let a : v .names ≡ getD s (place + 1) 0 ∷ outer (v .names) = here .partner (exits k) in
         let b : length (v .names) ≡ suc (length (outer (v .names))) = ap length a in
         let c : length (v .names) ≡ depth = v .deep in
-        let p : 8 + d + 8 * (i + 1) ≡ 8 + d + 8 * i + 8 = omega arith in
+        let p : placeIn f d (i + 1) ≡ place + f .width = omega arith in
         let o : outer (upTo depth numbers) ≡ upTo (depth - 1) numbers = rw (popped depth numbers (inner k)) in
-        let x : after (eventAt s (8 + d + 8 * i)) i (upTo depth numbers) ≡ upTo (depth - 1) numbers = after-exit (eventAt s (8 + d + 8 * i)) i (upTo depth numbers) (exits k) ∙ o in
-        let y : after (eventAt s (8 + d + 8 * i)) (getD s (8 + d + 8 * i + 1) 0) (v .names) ≡ outer (v .names) = after-exit (eventAt s (8 + d + 8 * i)) (getD s (8 + d + 8 * i + 1) 0) (v .names) (exits k) in
-        let z = passed (v .reached) (e - (i + 1)) (omega arith) (no-enter (eventAt s (8 + d + 8 * i)) k) in
+        let x : after (eventAt s place) i (upTo depth numbers) ≡ upTo (depth - 1) numbers =
+        after-exit (eventAt s place) i (upTo depth numbers) (exits k) ∙ o in
+        let y : after (eventAt s place) (getD s (place + 1) 0) (v .names) ≡ outer (v .names) =
+        after-exit (eventAt s place) (getD s (place + 1) 0) (v .names) (exits k) in
+        let z = passed reached-here (e - (i + 1)) (omega arith) (no-enter (eventAt s place) k) in
         record {
           good = v .good;
           names = outer (v .names);
-          last = u32At s (8 + d + 8 * i + 4);
+          last = u32At s (place + 4);
           done = v .done;
           reached = rw p (rw (x, y) at z);
           within = omega arith;
@@ -179,7 +199,7 @@ module _ {profile : Profile} {s : List ℕ} {d e options : ℕ} {w₀ w numbers 
           same-length = v .same-length;
         }
 
-    module _ (k : getD s (8 + d + 8 * i) 0 ≡ 0) where
+    module _ (k : getD s place 0 ≡ 0) where
       pub shallow : depth < 64
       shallow =
           let a : length (v .names) < 64 = here .room k in
@@ -187,19 +207,21 @@ module _ {profile : Profile} {s : List ℕ} {d e options : ℕ} {w₀ w numbers 
           omega arith
 
       -- an enter that is no run's
-      pub entered : (getD s (8 + d + 8 * i + 1) 0 ≡ 1 → ⊥) → Walking profile s d e options w₀ w (set numbers depth i) (depth + 1) (i + 1) n
+      pub entered : (getD s (place + 1) 0 ≡ 1 → ⊥) → Walking profile f s d e options w₀ w (set numbers depth i) (depth + 1) (i + 1) n
       entered m =
           let c : length (v .names) ≡ depth = v .deep in
           let l : length numbers ≡ 64 = v .array in
           let h : depth < 64 = shallow in
-          let p : 8 + d + 8 * (i + 1) ≡ 8 + d + 8 * i + 8 = omega arith in
-          let x : after (eventAt s (8 + d + 8 * i)) i (upTo depth numbers) ≡ upTo (depth + 1) (set numbers depth i) = after-enter (eventAt s (8 + d + 8 * i)) i (upTo depth numbers) k ∙ sym (pushed depth numbers i (omega arith)) in
-          let y : after (eventAt s (8 + d + 8 * i)) (getD s (8 + d + 8 * i + 1) 0) (v .names) ≡ getD s (8 + d + 8 * i + 1) 0 ∷ v .names = after-enter (eventAt s (8 + d + 8 * i)) (getD s (8 + d + 8 * i + 1) 0) (v .names) k in
-          let z = passed (v .reached) (e - (i + 1)) (omega arith) (other-enter (eventAt s (8 + d + 8 * i)) k m) in
+          let p : placeIn f d (i + 1) ≡ place + f .width = omega arith in
+          let x : after (eventAt s place) i (upTo depth numbers) ≡ upTo (depth + 1) (set numbers depth i) =
+          after-enter (eventAt s place) i (upTo depth numbers) k ∙ sym (pushed depth numbers i (omega arith)) in
+          let y : after (eventAt s place) (getD s (place + 1) 0) (v .names) ≡ getD s (place + 1) 0 ∷ v .names =
+          after-enter (eventAt s place) (getD s (place + 1) 0) (v .names) k in
+          let z = passed reached-here (e - (i + 1)) (omega arith) (other-enter (eventAt s place) k m) in
           record {
             good = v .good;
-            names = getD s (8 + d + 8 * i + 1) 0 ∷ v .names;
-            last = u32At s (8 + d + 8 * i + 4);
+            names = getD s (place + 1) 0 ∷ v .names;
+            last = u32At s (place + 4);
             done = v .done;
             reached = rw p (rw (x, y) at z);
             within = omega arith;
@@ -225,42 +247,48 @@ module _ {profile : Profile} {s : List ℕ} {d e options : ℕ} {w₀ w numbers 
       -- an enter is not the last event, and the next one stands in the document
       pub not-last : i + 1 < e
       not-last =
-          let f : 0 < e - (i + 1) = followed (v .reached) (e - (i + 1)) (omega arith) k in
+          let next : 0 < e - (i + 1) = followed reached-here (e - (i + 1)) (omega arith) k in
           omega arith
 
-      pub next-place : u32At s (8 + d + 8 * i + 12) ≤ d
+      pub whole-next : place + f .width + 8 ≤ length s
+      whole-next =
+          let next : i + 1 < e = not-last in
+          let w : 8 ≤ f .width = v .good .known .wide in
+          let l : length s ≡ placeIn f d e = v .good .whole in
+          let r : f .width * (i + 1) + f .width ≤ f .width * e = further (f .width) (i + 1) e next in
+          omega arith
+
+      pub next-place : u32At s (place + f .width + 4) ≤ d
       next-place =
-          let f : i + 1 < e = not-last in
-          next-inside (v .reached) (e - (i + 1)) (omega arith) (e - (i + 2)) (omega arith)
+          let next : i + 1 < e = not-last in
+          next-inside reached-here (e - (i + 1)) (omega arith) (e - (i + 2)) (omega arith)
 
-      module _ (m : getD s (8 + d + 8 * i + 1) 0 ≡ 1) where
+      module _ (m : getD s (place + 1) 0 ≡ 1) where
         -- a run that is none
-        pub broken : shaped (documentOf s d) options (eventAt s (8 + d + 8 * i)) (eventsAt 1 s (8 + d + 8 * i + 8)) ≡ false →
-            offender (documentOf s d) options (eventsOf s d e) ≡ some i
+        pub broken : shaped (documentIn f s d) options (eventAt s place) (eventsBy (f .width) 1 s (place + f .width)) ≡ false →
+            offender (documentIn f s d) options (eventsIn f s d e) ≡ some i
         broken q =
-            let f : i + 1 < e = not-last in
-            offends (v .reached) (e - (i + 1)) (omega arith) (enters (eventAt s (8 + d + 8 * i)) k m)
-            (sym (next-alone s (documentOf s d) options (e - (i + 1)) (8 + d + 8 * i + 8) (eventAt s (8 + d + 8 * i)) (omega arith)) ∙ q)
+            let next : i + 1 < e = not-last in
+            offends reached-here (e - (i + 1)) (omega arith) (enters (eventAt s place) k m)
+            (sym (next-alone (f .width) s (documentIn f s d) options (e - (i + 1)) (place + f .width) (eventAt s place) (omega arith)) ∙ q)
 
-        module _ (q : shaped (documentOf s d) options (eventAt s (8 + d + 8 * i)) (eventsAt 1 s (8 + d + 8 * i + 8)) ≡ true) where
-          tells : Shape s d (8 + d + 8 * i)
-          tells = shape-tells s d options (8 + d + 8 * i) q
+        module _ (q : shaped (documentIn f s d) options (eventAt s place) (eventsBy (f .width) 1 s (place + f .width)) ≡ true) where
+          tells : Shape (f .width) (documentIn f s d) s place
+          tells = shape-tells (f .width) (documentIn f s d) s options place q
 
           pub slot-free : n < 1024
           slot-free =
-              let f : i + 1 < e = not-last in
+              let next : i + 1 < e = not-last in
               let p : e ≤ 2048 = v .good .few in
               let r : 2 * n ≤ i = v .pairs in
               omega arith
 
-          pub settling : {container : ℕ} → Container numbers depth container → Room w → Settling s d (8 + d + 8 * i) container w n
+          pub settling : {container : ℕ} → Container numbers depth container → Room w → Settling f s d place container w n
           settling {container} c room =
-              let f : i + 1 < e = not-last in
-              let l : length s ≡ 8 + d + 8 * e = v .good .whole in
               record {
-                document = omega arith;
+                document = document-whole;
                 small = v .good .small;
-                events = omega arith;
+                events = whole-next;
                 later = tells .later;
                 inside = next-place;
                 known = c .known;
@@ -269,32 +297,36 @@ module _ {profile : Profile} {s : List ℕ} {d e options : ℕ} {w₀ w numbers 
               }
 
           -- a run leaves what was open before it
-          out-again : (a b : ℕ) (held : List ℕ) → getD s (8 + d + 8 * i + 8) 0 ≡ 1 →
-              after (eventAt s (8 + d + 8 * i + 8)) b (after (eventAt s (8 + d + 8 * i)) a held) ≡ held
+          out-again : (a b : ℕ) (held : List ℕ) → getD s (place + f .width) 0 ≡ 1 →
+              after (eventAt s (place + f .width)) b (after (eventAt s place) a held) ≡ held
           out-again a b held x =
-              after-exit (eventAt s (8 + d + 8 * i + 8)) b (after (eventAt s (8 + d + 8 * i)) a held) x
-              ∙ ap (λ (h : List ℕ). outer h) (after-enter (eventAt s (8 + d + 8 * i)) a held k)
+              after-exit (eventAt s (place + f .width)) b (after (eventAt s place) a held) x
+              ∙ ap (λ (h : List ℕ). outer h) (after-enter (eventAt s place) a held k)
 
           -- a run, in its slot
           pub run-passed : {container : ℕ} {w′ : List ℕ} → Container numbers depth container →
-              Settled profile s d options (8 + d + 8 * i) container w n w′ → length w′ ≡ length w → Walking profile s d e options w₀ w′ numbers depth (i + 2) (n + 1)
+              Settled profile f s d options place container w n w′ → length w′ ≡ length w →
+              Walking profile f s d e options w₀ w′ numbers depth (i + 2) (n + 1)
           run-passed {container} {w′} c t g =
-              let f : i + 1 < e = not-last in
-              let x : getD s (8 + d + 8 * i + 8) 0 ≡ 1 = tells .next-exits in
-              let p : 8 + d + 8 * (i + 2) ≡ 8 + d + 8 * i + 8 + 8 = omega arith in
+              let next : i + 1 < e = not-last in
+              let x : getD s (place + f .width) 0 ≡ 1 = tells .next-exits in
+              let p : placeIn f d (i + 2) ≡ place + f .width + f .width = omega arith in
               let o : i + 2 ≡ i + 1 + 1 = omega arith in
-              let u = sym (next-alone s (documentOf s d) options (e - (i + 1)) (8 + d + 8 * i + 8) (eventAt s (8 + d + 8 * i)) (omega arith)) ∙ q in
-              let r = run-entered (v .reached) (e - (i + 1)) (omega arith) (enters (eventAt s (8 + d + 8 * i)) k m) u in
-              let z = passed r (e - (i + 1 + 1)) (omega arith) (no-enter (eventAt s (8 + d + 8 * i + 8)) (λ (y : getD s (8 + d + 8 * i + 8) 0 ≡ 0). omega arith)) in
-              let es = events-cons (e - (i + 1)) (e - (i + 1 + 1)) s (8 + d + 8 * i + 8) (omega arith) in
+              let u = sym (next-alone (f .width) s (documentIn f s d) options (e - (i + 1)) (place + f .width) (eventAt s place) (omega arith)) ∙ q in
+              let r = run-entered reached-here (e - (i + 1)) (omega arith) (enters (eventAt s place) k m) u in
+              let z = passed r (e - (i + 1 + 1)) (omega arith)
+              (no-enter (eventAt s (place + f .width)) (λ (y : getD s (place + f .width) 0 ≡ 0). omega arith)) in
+              let es = events-cons (f .width) (e - (i + 1)) (e - (i + 1 + 1)) s (place + f .width) (omega arith) in
               record {
                 good = v .good;
                 names = v .names;
-                last = u32At s (8 + d + 8 * i + 8 + 4);
-                done = v .done ++ (runOf (documentOf s d) (eventAt s (8 + d + 8 * i)) (eventsAt (e - (i + 1)) s (8 + d + 8 * i + 8)) i (upTo depth numbers) ∷ []);
+                last = u32At s (place + f .width + 4);
+                done =
+                    v .done
+                    ++ (runOf (documentIn f s d) (eventAt s place) (eventsBy (f .width) (e - (i + 1)) s (place + f .width)) i (upTo depth numbers) ∷ []);
                 reached =
                     rw (p, o)
-                    (rw (out-again i (i + 1) (upTo depth numbers) x, out-again (getD s (8 + d + 8 * i + 1) 0) (getD s (8 + d + 8 * i + 8 + 1) 0) (v .names) x) at z);
+                    (rw (out-again i (i + 1) (upTo depth numbers) x, out-again (getD s (place + 1) 0) (getD s (place + f .width + 1) 0) (v .names) x) at z);
                 within = omega arith;
                 array = v .array;
                 low = v .low;
@@ -303,14 +335,14 @@ module _ {profile : Profile} {s : List ℕ} {d e options : ℕ} {w₀ w numbers 
                 pairs = omega (arith, v .pairs);
                 holds =
                     holds-more (standing profile options) w w′ n (v .done)
-                    (runOf (documentOf s d) (eventAt s (8 + d + 8 * i)) (eventsAt (e - (i + 1)) s (8 + d + 8 * i + 8)) i (upTo depth numbers))
+                    (runOf (documentIn f s d) (eventAt s place) (eventsBy (f .width) (e - (i + 1)) s (place + f .width)) i (upTo depth numbers))
                     (v .count) slot-free (v .holds) (t .kept)
-                    (rw es (t .own (eventsAt (e - (i + 1 + 1)) s (8 + d + 8 * i + 8 + 8)) i (upTo depth numbers) (c .number) (tells .marked)));
+                    (rw es (t .own (eventsBy (f .width) (e - (i + 1 + 1)) s (place + f .width + f .width)) i (upTo depth numbers) (c .number) (tells .marked)));
                 same-length = g ∙ v .same-length;
               }
 
   -- the two answers
-  pub answers-broken : offender (documentOf s d) options (eventsOf s d e) ≡ some i → Loads profile s d e options w₀ (Offends i) w
+  pub answers-broken : offender (documentIn f s d) options (eventsIn f s d e) ≡ some i → Loads profile f s d e options w₀ (Offends i) w
   answers-broken h =
       record {
         offends = λ k q.
@@ -322,9 +354,9 @@ module _ {profile : Profile} {s : List ℕ} {d e options : ℕ} {w₀ w numbers 
         same-length = v .same-length;
       }
 
-  pub answers-runs : e ≤ i → Loads profile s d e options w₀ (Runs n) w
+  pub answers-runs : e ≤ i → Loads profile f s d e options w₀ (Runs n) w
   answers-runs h =
-      let r : Ready profile (documentOf s d) (eventsOf s d e) options n w = finished h in
+      let r : Ready profile (documentIn f s d) (eventsIn f s d e) options n w = finished h in
       record {
         offends = λ k q.
             let z : _≡_ {A = ℕ} 0 1 = cc in
@@ -336,11 +368,12 @@ module _ {profile : Profile} {s : List ℕ} {d e options : ℕ} {w₀ w numbers 
       }
 
 -- a pass that is done, and one that lacks the ranges
-pub pass-done : {profile : Profile} {marks s : List ℕ} {d e options : ℕ} {w : List ℕ} {l : Loaded} {w′ : List ℕ} → Loads profile s d e options w l w′ →
-    Passes profile marks s d e options w (Done l) w′
-pass-done {profile} {marks} {s} {d} {e} {options} {w} {l} {w′} p =
+pub pass-done : {profile : Profile} {marks : List ℕ} {f : Form} {s : List ℕ} {d e options : ℕ} {w : List ℕ} {l : Loaded} {w′ : List ℕ} →
+    Loads profile f s d e options w l w′ →
+    Passes profile marks f s d e options w (Done l) w′
+pass-done {profile} {marks} {f} {s} {d} {e} {options} {w} {l} {w′} p =
     record {
-      done = λ k q. subst (λ (x : Loaded). Loads profile s d e options w x w′) (same-done l k q) p;
+      done = λ k q. subst (λ (x : Loaded). Loads profile f s d e options w x w′) (same-done l k q) p;
       undone = λ q. absurd (not-wide l q);
     }
   where
@@ -352,7 +385,8 @@ pass-done {profile} {marks} {s} {d} {e} {options} {w} {l} {w′} p =
         let z : _≡_ {A = ℕ} 0 1 = cc in
         omega arith
 
-pub pass-wide : {profile : Profile} {marks s : List ℕ} {d e options : ℕ} {w w′ : List ℕ} → length marks ≡ 0 → Passes profile marks s d e options w Wide w′
+pub pass-wide : {profile : Profile} {marks : List ℕ} {f : Form} {s : List ℕ} {d e options : ℕ} {w w′ : List ℕ} → length marks ≡ 0 →
+    Passes profile marks f s d e options w Wide w′
 pass-wide n =
     record {
       done = λ k q. absurd (wide-not k q);

@@ -6,8 +6,9 @@ use mathlib.Core.Bool.{Bool, true, false}
 use mathlib.Core.List.{List, _∷_}
 use lib.ListN.{length, getD}
 use Rattle.record.specs.Bytes.{u32At}
-use Rattle.record.specs.Event.{documentOf, eventAt}
+use Rattle.record.specs.Event.{documentIn, eventAt}
 use Rattle.record.specs.declared.event.Event.{Event}
+use Rattle.record.specs.declared.form.Form.{Form}
 use Rattle.runs.specs.Runs.{isMarker, innermostOf, runOf}
 use Rattle.runs.specs.Rule.{Profile}
 use Rattle.runs.specs.Plain.{Standing}
@@ -39,22 +40,22 @@ pub record Filled (w : List ℕ) (n size marker : ℕ) (opens closes : Bool) (ch
   pub kept : Keeps w n w′
 
 -- that the event at a place enters a run, and where it is to go
-pub record Settling (s : List ℕ) (d at container : ℕ) (w : List ℕ) (n : ℕ) : Type 0 where
-  pub document : 4 + d ≤ length s
+pub record Settling (f : Form) (s : List ℕ) (d at container : ℕ) (w : List ℕ) (n : ℕ) : Type 0 where
+  pub document : 4 + f .front + d ≤ length s
   pub small : d ≤ 16384
-  pub events : at + 16 ≤ length s
-  pub later : u32At s (at + 4) < u32At s (at + 12)
-  pub inside : u32At s (at + 12) ≤ d
+  pub events : at + f .width + 8 ≤ length s
+  pub later : u32At s (at + 4) < u32At s (at + f .width + 4)
+  pub inside : u32At s (at + f .width + 4) ≤ d
   pub known : container ≤ 2048
   pub slot : n < 1024
   pub room : Room w
 
 -- the slot n holds the run that the event at a place enters, flanking as a profile has it, whichever number the event has and whatever is open
 -- there
-pub record Settled (profile : Profile) (s : List ℕ) (d options at container : ℕ) (w : List ℕ) (n : ℕ) (w′ : List ℕ) : Type 0 where
+pub record Settled (profile : Profile) (f : Form) (s : List ℕ) (d options at container : ℕ) (w : List ℕ) (n : ℕ) (w′ : List ℕ) : Type 0 where
   pub own : (es : List Event) (i : ℕ) (held : List ℕ) → containerNumber (innermostOf held) ≡ container →
-      isMarker (getD (documentOf s d) (u32At s (at + 4)) 0) ≡ true →
-      Slotted w′ n (standing profile options (runOf (documentOf s d) (eventAt s at) (eventAt s (at + 8) ∷ es) i held))
+      isMarker (getD (documentIn f s d) (u32At s (at + 4)) 0) ≡ true →
+      Slotted w′ n (standing profile options (runOf (documentIn f s d) (eventAt s at) (eventAt s (at + f .width) ∷ es) i held))
   pub kept : Keeps w n w′
 
 -- either that is done, or it is not, for want of the ranges

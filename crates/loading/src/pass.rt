@@ -5,12 +5,14 @@
 use super::shape::shaped_at;
 use super::slot::settle;
 use classes::ascii_classes;
+use record::form::Form;
+use record::form::place_of;
 use record::limits::ATTENTION_SEQUENCE;
 use record::limits::ENTER;
 use unicode::ranges::punctuation;
 ghost use mathlib.Core.Path.{_≡_};
 ghost use lib.ListN.{length};
-ghost use Rattle.record.specs.Good.{GoodRecord};
+ghost use Rattle.record.specs.Good.{GoodIn};
 ghost use Rattle.classes.specs.Lent.{AsciiTable, Lent};
 ghost use Rattle.runs.specs.Rule.{crate};
 ghost use Rattle.slots.specs.Layout.{Room};
@@ -50,19 +52,20 @@ fn load_by(
     ascii: &[u8],
     marks: &[u32],
     s: &[u8],
+    form: Form,
     d: usize,
     e: usize,
     options: u32,
     w: &mut [u8],
 ) -> Pass
-    requires { ⌜ Lent (now ascii) (now marks) × GoodRecord (now s) d e × Room (now w) ⌝ }
-    ensures { λ r. ⌜ Passes crate (now (marks .entry)) (now (s .entry)) d e options (now (w .entry)) r (now (w .exit)) ⌝ }
+    requires { ⌜ Lent (now ascii) (now marks) × GoodIn form (now s) d e × Room (now w) ⌝ }
+    ensures { λ r. ⌜ Passes crate (now (marks .entry)) form (now (s .entry)) d e options (now (w .entry)) r (now (w .exit)) ⌝ }
 {
     let mut inside = outside();
     let mut i = 0;
     let mut n = 0;
     while i < e {
-        let at = 8 + d + 8 * i;
+        let at = place_of(form, d, i);
         let depth = inside.depth;
         if s[at] != ENTER {
             inside.depth = depth - 1;
@@ -75,14 +78,14 @@ fn load_by(
             i += 1;
             continue;
         }
-        if !shaped_at(s, d, options, at) {
+        if !shaped_at(s, form, d, options, at) {
             return Pass::Done(Loaded::Offends(i));
         }
         let mut container = 0;
         if depth > 0 {
             container = inside.numbers[depth - 1] + 1;
         }
-        if !settle(ascii, marks, s, d, options, at, container, w, n) {
+        if !settle(ascii, marks, s, form, d, options, at, container, w, n) {
             return Pass::Wide;
         }
         n += 1;
@@ -92,26 +95,34 @@ fn load_by(
 }
 
 // The same with the ranges, which are made here.
-fn load_wide(ascii: &[u8], s: &[u8], d: usize, e: usize, options: u32, w: &mut [u8]) -> Loaded
-    requires { ⌜ AsciiTable (now ascii) × GoodRecord (now s) d e × Room (now w) ⌝ }
-    ensures { λ r. ⌜ Loads crate (now (s .entry)) d e options (now (w .entry)) r (now (w .exit)) ⌝ }
+fn load_wide(
+    ascii: &[u8],
+    s: &[u8],
+    form: Form,
+    d: usize,
+    e: usize,
+    options: u32,
+    w: &mut [u8],
+) -> Loaded
+    requires { ⌜ AsciiTable (now ascii) × GoodIn form (now s) d e × Room (now w) ⌝ }
+    ensures { λ r. ⌜ Loads crate form (now (s .entry)) d e options (now (w .entry)) r (now (w .exit)) ⌝ }
 {
     let marks = punctuation();
-    match load_by(ascii, &marks, s, d, e, options, w) {
+    match load_by(ascii, &marks, s, form, d, e, options, w) {
         Pass::Done(loaded) => loaded,
         Pass::Wide => Loaded::Runs(0),
     }
 }
 
 // The same in any case. A pass without the ranges comes first: most messages need none, and to lay them out costs more than to load a chat line.
-pub fn load(s: &[u8], d: usize, e: usize, options: u32, w: &mut [u8]) -> Loaded
-    requires { ⌜ GoodRecord (now s) d e × Room (now w) ⌝ }
-    ensures { λ r. ⌜ Loads crate (now (s .entry)) d e options (now (w .entry)) r (now (w .exit)) ⌝ }
+pub fn load(s: &[u8], form: Form, d: usize, e: usize, options: u32, w: &mut [u8]) -> Loaded
+    requires { ⌜ GoodIn form (now s) d e × Room (now w) ⌝ }
+    ensures { λ r. ⌜ Loads crate form (now (s .entry)) d e options (now (w .entry)) r (now (w .exit)) ⌝ }
 {
     let ascii = ascii_classes();
     let none = [0u32; 1];
-    match load_by(&ascii, &none[..0], s, d, e, options, w) {
+    match load_by(&ascii, &none[..0], s, form, d, e, options, w) {
         Pass::Done(loaded) => loaded,
-        Pass::Wide => load_wide(&ascii, s, d, e, options, w),
+        Pass::Wide => load_wide(&ascii, s, form, d, e, options, w),
     }
 }

@@ -2,6 +2,7 @@
 // own bytes.
 
 use record::bytes::u32_at;
+use record::form::Form;
 use record::limits::ATTENTION_SEQUENCE;
 use record::limits::EXIT;
 use record::limits::OPTION_ATTENTION;
@@ -10,7 +11,7 @@ ghost use mathlib.Core.Path.{_≡_};
 ghost use Prim.Native.Nat.{_+_, _-_, _≤_, _<_};
 ghost use lib.ListN.{length};
 ghost use Rattle.record.specs.Options.{optionOn};
-ghost use Rattle.record.specs.Event.{documentOf, eventAt, eventsAt};
+ghost use Rattle.record.specs.Event.{documentIn, eventAt, eventsBy};
 ghost use Rattle.record.specs.Bytes.{u32At};
 ghost use Rattle.runs.specs.Runs.{isMarker, isByte, byteAt, allAre, allowed as allowedBy, runBetween, shaped};
 
@@ -61,47 +62,49 @@ fn all_are(s: &[u8], from: usize, to: usize, marker: u8) -> bool
 }
 
 // Whether the document's byte at a place is this one; past its end none is.
-fn stands_at(s: &[u8], d: usize, place: usize, marker: u8) -> bool
-    requires { ⌜ 4 + d ≤ length (now s) ⌝ }
-    ensures { λ r. ⌜ r ≡ isByte marker (byteAt (documentOf (now (s .entry)) d) place) ⌝ }
+fn stands_at(s: &[u8], form: Form, d: usize, place: usize, marker: u8) -> bool
+    requires { ⌜ 4 + form .front + d ≤ length (now s) ⌝ }
+    ensures { λ r. ⌜ r ≡ isByte marker (byteAt (documentIn form (now (s .entry)) d) place) ⌝ }
 {
     if place >= d {
         return false;
     }
-    s[4 + place] == marker
+    s[4 + form.front + place] == marker
 }
 
 // Whether the document's bytes from one place up to another are a run.
-fn run_between(s: &[u8], d: usize, options: u32, from: usize, to: usize) -> bool
-    requires { ⌜ (to ≤ d) × (4 + d ≤ length (now s)) ⌝ }
-    ensures { λ r. ⌜ r ≡ runBetween (documentOf (now (s .entry)) d) options from to ⌝ }
+fn run_between(s: &[u8], form: Form, d: usize, options: u32, from: usize, to: usize) -> bool
+    requires { ⌜ (to ≤ d) × (4 + form .front + d ≤ length (now s)) ⌝ }
+    ensures { λ r. ⌜ r ≡ runBetween (documentIn form (now (s .entry)) d) options from to ⌝ }
 {
     if from >= to {
         return false;
     }
-    let marker = s[4 + from];
+    let first = 4 + form.front + from;
+    let marker = s[first];
     if !is_marker(marker) {
         return false;
     }
-    if !all_are(s, 4 + from, 4 + to, marker) {
+    if !all_are(s, first, 4 + form.front + to, marker) {
         return false;
     }
-    if stands_at(s, d, to, marker) {
+    if stands_at(s, form, d, to, marker) {
         return false;
     }
     allowed(options, marker)
 }
 
 // Whether the run that the event at a place of the record enters has its shape; another event follows it.
-pub fn shaped_at(s: &[u8], d: usize, options: u32, at: usize) -> bool
-    requires { ⌜ (at + 16 ≤ length (now s)) × (u32At (now s) (at + 12) ≤ d) × (4 + d ≤ length (now s)) ⌝ }
-    ensures { λ r. ⌜ r ≡ shaped (documentOf (now (s .entry)) d) options (eventAt (now (s .entry)) at) (eventsAt 1 (now (s .entry)) (at + 8)) ⌝ }
+pub fn shaped_at(s: &[u8], form: Form, d: usize, options: u32, at: usize) -> bool
+    requires { ⌜ (at + form .width + 8 ≤ length (now s)) × (u32At (now s) (at + form .width + 4) ≤ d) × (4 + form .front + d ≤ length (now s)) ⌝ }
+    ensures { λ r. ⌜ r ≡ shaped (documentIn form (now (s .entry)) d) options (eventAt (now (s .entry)) at) (eventsBy (form .width) 1 (now (s .entry)) (at + form .width)) ⌝ }
 {
-    if s[at + 8] != EXIT {
+    let next = at + form.width;
+    if s[next] != EXIT {
         return false;
     }
-    if s[at + 9] != ATTENTION_SEQUENCE {
+    if s[next + 1] != ATTENTION_SEQUENCE {
         return false;
     }
-    run_between(s, d, options, u32_at(s, at + 4), u32_at(s, at + 12))
+    run_between(s, form, d, options, u32_at(s, at + 4), u32_at(s, next + 4))
 }

@@ -6,6 +6,7 @@
 use super::shape::option_on;
 use classes::lacks;
 use record::bytes::u32_at;
+use record::form::Form;
 use record::limits::OPTION_STRIKETHROUGH;
 use runs::flanking;
 use slots::layout::put_chain;
@@ -90,6 +91,7 @@ pub fn settle(
     ascii: &[u8],
     marks: &[u32],
     s: &[u8],
+    form: Form,
     d: usize,
     options: u32,
     at: usize,
@@ -97,15 +99,16 @@ pub fn settle(
     w: &mut [u8],
     n: usize,
 ) -> bool
-    requires { ⌜ Lent (now ascii) (now marks) × Settling (now s) d at container (now w) n ⌝ }
-    ensures { λ r. ⌜ SettledOr (now (marks .entry)) r (Settled crate (now (s .entry)) d options at container (now (w .entry)) n (now (w .exit))) ⌝ }
+    requires { ⌜ Lent (now ascii) (now marks) × Settling form (now s) d at container (now w) n ⌝ }
+    ensures { λ r. ⌜ SettledOr (now (marks .entry)) r (Settled crate form (now (s .entry)) d options at container (now (w .entry)) n (now (w .exit))) ⌝ }
 {
     let from = u32_at(s, at + 4);
-    let to = u32_at(s, at + 12);
-    let marker = s[4 + from];
-    let end = 4 + d;
-    let left = neighbour_before(&s[4..end], from);
-    let right = neighbour_after(&s[4..end], to);
+    let to = u32_at(s, at + form.width + 4);
+    let start = 4 + form.front;
+    let end = start + d;
+    let marker = s[start + from];
+    let left = neighbour_before(&s[start..end], from);
+    let right = neighbour_after(&s[start..end], to);
     if lacks(marks, left) {
         return false;
     }

@@ -8,9 +8,10 @@ use lib.ListN.{length}
 use lib.Dec.{leb, ltb}
 use Rattle.record.specs.Choice.{choose}
 use Rattle.record.specs.Bytes.{u32At}
-use Rattle.record.specs.Event.{eventAt, eventsOf}
+use Rattle.record.specs.Form.{old}
+use Rattle.record.specs.Event.{eventAt, eventsIn}
 use Rattle.record.specs.Stack.{nth}
-use Rattle.record.specs.Check.{checked}
+use Rattle.record.specs.Check.{checkedIn}
 use Rattle.record.specs.declared.event.Event.{Event as Read}
 use Rattle.record.specs.declared.check.Reading.the-variants.{Good}
 use Rattle.reader.specs.declared.Found.{Found}
@@ -51,7 +52,7 @@ eventNumber s k = choose (ltb k (countOf s)) (standingAt s k) End
 -- On a good record, of a document of d bytes and e events, event k is the k-th of its events, and from e on there is none: so these definitions,
 -- which speak of any bytes, mean what document 01 calls a record's events. proofs/Numbered.antt proves both.
 abbrev pub EventOfNumber : Type 0
-EventOfNumber = (s : List ℕ) (d e k : ℕ) → checked s ≡ Good d e → k < e → eventNumber s k ≡ foundOf (nth (eventsOf s d e) k)
+EventOfNumber = (s : List ℕ) (d e k : ℕ) → checkedIn old s ≡ Good d e → k < e → eventNumber s k ≡ foundOf (nth (eventsIn old s d e) k)
 
 abbrev pub EndOfNumbers : Type 0
-EndOfNumbers = (s : List ℕ) (d e k : ℕ) → checked s ≡ Good d e → e ≤ k → eventNumber s k ≡ End
+EndOfNumbers = (s : List ℕ) (d e k : ℕ) → checkedIn old s ≡ Good d e → e ≤ k → eventNumber s k ≡ End

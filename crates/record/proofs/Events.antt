@@ -19,6 +19,7 @@ use Rattle.record.specs.Check.{formed, paired, truly, judge, refuse}
 use Rattle.record.specs.declared.check.Reading.{Reading}
 use Rattle.record.specs.declared.check.Reading.the-variants.{Good}
 use Rattle.record.proofs.Bools.{and-both, and-false}
+use Rattle.record.proofs.Parts.{less, further, spread-out}
 use Rattle.record.proofs.Names.{upTo-length, pushed, popped, empty, some}
 
 -- what the judgement finds of n events that stand at a place, the first of which has number k
@@ -51,24 +52,6 @@ module _ (w : ℕ) (mates : ℕ → ℕ) where
       judgeAt w mates n s d k at last held opens good ≡ refuse 5 at
   unfolding judgeAt judge allStoredAt choose
   step-left n s d k at last held opens good h e = rw (h, e)
-
-pub less : (w n : ℕ) → 0 < n → w * n ≡ w + w * (n - 1)
-less w zero h = absurd (omega arith)
-less w (suc n) h =
-    let e : suc n - 1 ≡ n = omega arith in
-    rw e (omega arith)
-
--- n events of w bytes take 8 * n bytes at the least: a fact that omega can go by
-spread-out : (w n at end : ℕ) → 8 ≤ w → at + w * n ≤ end → at + 8 * n ≤ end
-spread-out w n at end h r =
-    let m : 8 * n ≤ w * n = mul-le-mul-right n h in
-    omega arith
-
--- an event before another ends before it
-pub further : (w k j : ℕ) → k < j → w * k + w ≤ w * j
-further w k j h =
-    let m : w * suc k ≤ w * j = mul-le-mul-left w h in
-    omega arith
 
 -- the loop's invariant: the names are an array of 64, of which the first `depth` are open, and the numbers beside them are theirs
 pub record Judging (s : List ℕ) (b w d e : ℕ) (names numbers : List ℕ) (depth first at number last left : ℕ) : Type 0 where

@@ -13,12 +13,16 @@ use lib.Dec.{leb, ltb, eqb}
 use borrow.Author.Tests.{leb-true, leb-false, ltb-true, ltb-false, eqb-true, eqb-false}
 use Rattle.record.specs.Choice.{choose, and}
 use Rattle.record.specs.Bytes.{u32At}
-use Rattle.record.specs.Form.{Form, old, placeIn, mateIn}
+use Rattle.record.specs.Form.{placeIn, mateIn}
+use Rattle.record.specs.Handed.{formOf}
+use Rattle.record.specs.declared.form.Form.{Form}
 use Rattle.record.specs.Event.{allStoredAt}
 use Rattle.record.specs.Stack.{none}
-use Rattle.record.specs.Check.{refuse, countAt, fitting, firstReturn, judge, insideOf, endOf, eventCountOf, checkedIn, checked, admitted}
+use Rattle.record.specs.Check.{refuse, countAt, fitting, firstReturn, judge, insideOf, endOf, eventCountOf, checkedIn, fronted, admitted}
 use Rattle.record.specs.Order.{rank, Least}
-use Rattle.record.specs.Rows.{documentCountIn, eventCountIn, documentCount, eventCount, Section, the-document, the-events, Misfits, no-room, over, past, follow, Returns, openNames, openNumbers, placeBefore, Broken, Unsound, an-event, left-open, Inner, in-3, in-4, in-5, Row, row-1, row-2, row-3, row-4, row-5, Exactly}
+use Rattle.record.specs.Rows.{documentCountIn, eventCountIn, Section, the-document, the-events, Misfits, no-room, over, past, follow, Returns, openNames, openNumbers, placeBefore, Broken, Unsound, an-event, left-open, Inner, in-3, in-4, in-5, OptionsRow, row-2, FirstSectionRow, other-count, over-options, no-count, runs-past, FrontRow, Row, row-1, front, inner, Exactly}
+use Rattle.record.specs.declared.form.Handed.{Handed}
+use Rattle.record.specs.declared.form.Handed.the-variants.{Old, Second}
 use Rattle.record.specs.declared.check.Count.{Count}
 use Rattle.record.specs.declared.check.Count.the-variants.{Fits, Misfit}
 use Rattle.record.specs.declared.check.Refusal.{Refusal}
@@ -283,56 +287,146 @@ module _ (fm : Form) (s : List ℕ) where
           rw y (found-second (rw y at f))
       go Misfit x = least-row 3 _ refl (at-3 _ (misfits fm s (fm .front) 16384 1 (the-document refl refl refl) x) (λ q m. before q (where-is fm s q m)))
 
--- where the front holds, the rows of the whole check are those that follow it
-outward : (s : List ℕ) (options works : ℕ) → 65536 ≤ works → options ≤ 63 → {r : Reading} → Found old (Inner old s) s r → Found old (Row s options works) s r
-outward s options works memory known (least-row n p q l) = least-row n p q record { holds = out (l .holds); least = λ m x y. l .least m x (back y) }
-  where
-    out : {n p : ℕ} → Inner old s n p → Row s options works n p
-    out (in-3 w a) = row-3 w a
-    out (in-4 w a) = row-4 w a
-    out (in-5 w a) = row-5 w a
+-- the rows that follow the front have numbers from 3 to 5, those of the front 2 and 3
+inner-low : {fm : Form} {s : List ℕ} {n p : ℕ} → Inner fm s n p → (3 ≤ n) × (n ≤ 5)
+inner-low (in-3 w a) = (omega arith, omega arith)
+inner-low (in-4 w a) = (omega arith, omega arith)
+inner-low (in-5 w a) = (omega arith, omega arith)
 
-    back : {n p : ℕ} → Row s options works n p → Inner old s n p
-    back (row-1 w a b) = absurd (omega arith)
-    back (row-2 w a b) = absurd (omega arith)
-    back (row-3 w a) = in-3 w a
-    back (row-4 w a) = in-4 w a
-    back (row-5 w a) = in-5 w a
-outward s options works memory known (no-row q f) = no-row q none-there
-  where
-    none-there : (n p : ℕ) → Row s options works n p → ⊥
-    none-there n p (row-1 w a b) = omega arith
-    none-there n p (row-2 w a b) = omega arith
-    none-there n p (row-3 w a) = f n p (in-3 w a)
-    none-there n p (row-4 w a) = f n p (in-4 w a)
-    none-there n p (row-5 w a) = f n p (in-5 w a)
+pub front-low : (h : Handed) (s : List ℕ) (n p : ℕ) → FrontRow h s n p → (2 ≤ n) × (n ≤ 3)
+front-low (Old options) s n p (row-2 w a b) = (omega arith, omega arith)
+front-low Second s n p (other-count r w a b) = (omega arith, omega arith)
+front-low Second s n p (over-options r w a b) = (omega arith, omega arith)
+front-low Second s n p (no-count w a b) = (omega arith, omega arith)
+front-low Second s n p (runs-past w a b) = (omega arith, omega arith)
 
--- the whole check
-pub found : (s : List ℕ) (options works : ℕ) → Found old (Row s options works) s (admitted s options works)
-unfolding admitted choose
-found s options works = first (ltb works 65536) refl
-  where
-    second : (z : Bool) → ltb 63 options ≡ z → 65536 ≤ works → Found old (Row s options works) s (choose z (refuse 2 0) (checked s))
-    second true e memory = least-row 2 0 refl record { holds = row-2 (ltb-true _ _ e) refl refl; least = go }
-      where
-        go : (m q : ℕ) → Row s options works m q → (rank 2 < rank m) ⊎ ((2 ≡ m) × (0 ≤ q))
-        go m q (row-1 w a b) = absurd (omega arith)
-        go m q (row-2 w a b) = inr (sym a, omega arith)
-        go m q (row-3 w a) = inl (lower-first _ _ (omega arith) (omega arith) (omega arith))
-        go m q (row-4 w a) = inl (lower-first _ _ (omega arith) (omega arith) (omega arith))
-        go m q (row-5 w a) = inl (lower-first _ _ (omega arith) (omega arith) (omega arith))
-    second false e memory = outward s options works memory (ltb-false _ _ e) (found-first old s)
+-- what the front comes to: a row of it, which none that holds comes before, or what follows it
+data Fronted (h : Handed) (s : List ℕ) (rest r : Reading) : Type 0 where
+  front-row : (n p : ℕ) → r ≡ refuse n p → FrontRow h s n p → ((m q : ℕ) → FrontRow h s m q → (rank n < rank m) ⊎ ((n ≡ m) × (p ≤ q))) →
+      ((m q : ℕ) → Inner (formOf h) s m q → (rank n < rank m) ⊎ ((n ≡ m) × (p ≤ q))) → Fronted h s rest r
+  front-none : r ≡ rest → ((m q : ℕ) → FrontRow h s m q → ⊥) → Fronted h s rest r
 
-    first : (z : Bool) → ltb works 65536 ≡ z → Found old (Row s options works) s (choose z (refuse 1 0) (choose (ltb 63 options) (refuse 2 0) (checked s)))
-    first true e = least-row 1 0 refl record { holds = row-1 (ltb-true _ _ e) refl refl; least = go }
-      where
-        go : (m q : ℕ) → Row s options works m q → (rank 1 < rank m) ⊎ ((1 ≡ m) × (0 ≤ q))
-        go m q (row-1 w a b) = inr (sym a, omega arith)
-        go m q (row-2 w a b) = inl (lower-first _ _ (omega arith) (omega arith) (omega arith))
-        go m q (row-3 w a) = inl (lower-first _ _ (omega arith) (omega arith) (omega arith))
-        go m q (row-4 w a) = inl (lower-first _ _ (omega arith) (omega arith) (omega arith))
-        go m q (row-5 w a) = inl (lower-first _ _ (omega arith) (omega arith) (omega arith))
-    first false e = second (ltb 63 options) refl (ltb-false _ _ e)
+behind-2 : {fm : Form} {s : List ℕ} (m q : ℕ) → Inner fm s m q → (rank 2 < rank m) ⊎ ((2 ≡ m) × (0 ≤ q))
+behind-2 m q i = let l = inner-low i in inl (lower-first _ _ (omega arith) (omega arith) (omega arith))
+
+behind-3 : {fm : Form} {s : List ℕ} (m q : ℕ) → Inner fm s m q → (rank 3 < rank m) ⊎ ((3 ≡ m) × (0 ≤ q))
+behind-3 m q (in-3 w a) = inr (sym a, omega arith)
+behind-3 m q (in-4 w a) = inl (lower-first _ _ (omega arith) (omega arith) (omega arith))
+behind-3 m q (in-5 w a) = inl (lower-first _ _ (omega arith) (omega arith) (omega arith))
+
+options-found : (options : ℕ) (s : List ℕ) (rest : Reading) → Fronted (Old options) s rest (fronted (Old options) s rest)
+unfolding fronted choose
+options-found options s rest = go (ltb 63 options) refl
+  where
+    only : (m q : ℕ) → OptionsRow options m q → (rank 2 < rank m) ⊎ ((2 ≡ m) × (0 ≤ q))
+    only m q (row-2 w a b) = inr (sym a, omega arith)
+
+    no-more : options ≤ 63 → (m q : ℕ) → OptionsRow options m q → ⊥
+    no-more l m q (row-2 w a b) = omega arith
+
+    go : (z : Bool) → ltb 63 options ≡ z → Fronted (Old options) s rest (choose z (refuse 2 0) rest)
+    go true e = front-row 2 0 refl (row-2 (ltb-true _ _ e) refl refl) only behind-2
+    go false e = front-none refl (no-more (ltb-false _ _ e))
+
+module _ (s : List ℕ) (rest : Reading) where
+  at-2 : FirstSectionRow s 2 0 → Fronted Second s rest (refuse 2 0)
+  at-2 h = front-row 2 0 refl h go behind-2
+    where
+      go : (m q : ℕ) → FirstSectionRow s m q → (rank 2 < rank m) ⊎ ((2 ≡ m) × (0 ≤ q))
+      go m q (other-count r w a b) = inr (sym a, omega arith)
+      go m q (over-options r w a b) = inr (sym a, omega arith)
+      go m q (no-count w a b) = inl (lower-first _ _ (omega arith) (omega arith) (omega arith))
+      go m q (runs-past w a b) = inl (lower-first _ _ (omega arith) (omega arith) (omega arith))
+
+  at-3-0 : FirstSectionRow s 3 0 → (4 ≤ length s → u32At s 0 ≡ 1) → length s < 5 → Fronted Second s rest (refuse 3 0)
+  at-3-0 h one short = front-row 3 0 refl h go behind-3
+    where
+      go : (m q : ℕ) → FirstSectionRow s m q → (rank 3 < rank m) ⊎ ((3 ≡ m) × (0 ≤ q))
+      go m q (other-count r w a b) = absurd (w (one r))
+      go m q (over-options r w a b) = absurd (omega arith)
+      go m q (no-count w a b) = inr (sym a, omega arith)
+      go m q (runs-past w a b) = inr (sym a, omega arith)
+
+  first-section-found : Fronted Second s rest (fronted Second s rest)
+  unfolding fronted choose
+  first-section-found = first (ltb (length s) 4) refl
+    where
+      no-more : u32At s 0 ≡ 1 → 5 ≤ length s → getD s 4 0 ≤ 63 → (m q : ℕ) → FirstSectionRow s m q → ⊥
+      no-more one room known m q (other-count r w a b) = w one
+      no-more one room known m q (over-options r w a b) = omega arith
+      no-more one room known m q (no-count w a b) = omega arith
+      no-more one room known m q (runs-past w a b) = omega arith
+
+      fourth : (z : Bool) → ltb 63 (getD s 4 0) ≡ z → u32At s 0 ≡ 1 → 5 ≤ length s → Fronted Second s rest (choose z (refuse 2 0) rest)
+      fourth true e one r = at-2 (over-options r (ltb-true _ _ e) refl refl)
+      fourth false e one r = front-none refl (no-more one r (ltb-false _ _ e))
+
+      third : (z : Bool) → ltb (length s) 5 ≡ z → u32At s 0 ≡ 1 → Fronted Second s rest (choose z (refuse 3 0) (choose (ltb 63 (getD s 4 0)) (refuse 2 0) rest))
+      third true e one =
+          let h : length s < 5 = ltb-true _ _ e in
+          at-3-0 (runs-past (omega arith) refl refl) (λ r. one) h
+      third false e one = fourth (ltb 63 (getD s 4 0)) refl one (ltb-false _ _ e)
+
+      next : (z : Bool) → eqb (u32At s 0) 1 ≡ z → 4 ≤ length s →
+          Fronted Second s rest (choose z (choose (ltb (length s) 5) (refuse 3 0) (choose (ltb 63 (getD s 4 0)) (refuse 2 0) rest)) (refuse 2 0))
+      next true e r = third (ltb (length s) 5) refl (eqb-true _ _ e)
+      next false e r = at-2 (other-count r (eqb-false _ _ e) refl refl)
+
+      first : (z : Bool) → ltb (length s) 4 ≡ z →
+          Fronted Second s rest (choose z (refuse 3 0) (choose (eqb (u32At s 0) 1) (choose (ltb (length s) 5) (refuse 3 0) (choose (ltb 63 (getD s 4 0)) (refuse 2 0) rest)) (refuse 2 0)))
+      first true e =
+          let h : length s < 4 = ltb-true _ _ e in
+          at-3-0 (no-count h refl refl) (λ r. absurd (omega arith)) (omega arith)
+      first false e = next (eqb (u32At s 0) 1) refl (ltb-false _ _ e)
+
+front-found : (h : Handed) (s : List ℕ) (rest : Reading) → Fronted h s rest (fronted h s rest)
+front-found (Old options) s rest = options-found options s rest
+front-found Second s rest = first-section-found s rest
+
+module _ (h : Handed) (s : List ℕ) (works : ℕ) where
+  -- where no row stands before them, the rows of the whole check are those that follow the front
+  outward : 65536 ≤ works → ((m q : ℕ) → FrontRow h s m q → ⊥) → {r : Reading} → Found (formOf h) (Inner (formOf h) s) s r → Found (formOf h) (Row h s works) s r
+  outward memory none-before (least-row n p q l) = least-row n p q record { holds = inner (l .holds); least = λ m x y. l .least m x (back y) }
+    where
+      back : {m x : ℕ} → Row h s works m x → Inner (formOf h) s m x
+      back (row-1 w a b) = absurd (omega arith)
+      back (front r) = absurd (none-before _ _ r)
+      back (inner i) = i
+  outward memory none-before (no-row q f) = no-row q none-there
+    where
+      none-there : (m x : ℕ) → Row h s works m x → ⊥
+      none-there m x (row-1 w a b) = omega arith
+      none-there m x (front r) = none-before m x r
+      none-there m x (inner i) = f m x i
+
+  -- the whole check
+  pub found : Found (formOf h) (Row h s works) s (admitted h s works)
+  unfolding admitted choose
+  found = first (ltb works 65536) refl
+    where
+      second : 65536 ≤ works → {r : Reading} → Fronted h s (checkedIn (formOf h) s) r → Found (formOf h) (Row h s works) s r
+      second memory (front-row n p e r f i) = least-row n p e record { holds = front r; least = go }
+        where
+          go : (m q : ℕ) → Row h s works m q → (rank n < rank m) ⊎ ((n ≡ m) × (p ≤ q))
+          go m q (row-1 w a b) = absurd (omega arith)
+          go m q (front x) = f m q x
+          go m q (inner x) = i m q x
+      second memory (front-none e f) = rw e (outward memory f (found-first (formOf h) s))
+
+      first : (z : Bool) → ltb works 65536 ≡ z → Found (formOf h) (Row h s works) s (choose z (refuse 1 0) (fronted h s (checkedIn (formOf h) s)))
+      first true e = least-row 1 0 refl record { holds = row-1 (ltb-true _ _ e) refl refl; least = go }
+        where
+          go : (m q : ℕ) → Row h s works m q → (rank 1 < rank m) ⊎ ((1 ≡ m) × (0 ≤ q))
+          go m q (row-1 w a b) = inr (sym a, omega arith)
+          go m q (front r) = let l = front-low h s m q r in inl (lower-first _ _ (omega arith) (omega arith) (omega arith))
+          go m q (inner i) = let l = inner-low i in inl (lower-first _ _ (omega arith) (omega arith) (omega arith))
+      first false e = second (ltb-false _ _ e) (front-found h s (checkedIn (formOf h) s))
+
+-- the numbers of the check's rows
+pub row-low : {h : Handed} {s : List ℕ} {works n p : ℕ} → Row h s works n p → (0 < n) × (n ≤ 5)
+row-low (row-1 w a b) = (omega arith, omega arith)
+row-low {h} {s} {works} {n} {p} (front r) = let l = front-low h s n p r in (omega arith, omega arith)
+row-low (inner i) = let l = inner-low i in (omega arith, omega arith)
 
 pub same-refusal : (n p m q : ℕ) → refuse n p ≡ refuse m q → (n ≡ m) × (p ≡ q)
 same-refusal n p m q e =
@@ -346,10 +440,10 @@ pub same-good : (d e m n : ℕ) → Good d e ≡ Good m n → (d ≡ m) × (e �
 same-good d e m n q = (cc, cc)
 
 -- "Given exactly when"
-pub exactly : (s : List ℕ) (options works : ℕ) → Exactly s options works
-exactly s options works = by (found s options works)
+pub exactly : (h : Handed) (s : List ℕ) (works : ℕ) → Exactly h s works
+exactly h s works = by (found h s works)
   where
-    by : Found old (Row s options works) s (admitted s options works) → Exactly s options works
+    by : Found (formOf h) (Row h s works) s (admitted h s works) → Exactly h s works
     by (least-row n p r l) =
         record {
           refused = λ m q e. let x = same-refusal n p m q (sym r ∙ e) in rw (x .0, x .1) at l;
@@ -359,8 +453,8 @@ exactly s options works = by (found s options works)
         }
     by (no-row r f) =
         record {
-          refused = λ m q e. absurd (apart m q (documentCount s) (eventCount s) (sym e ∙ r));
+          refused = λ m q e. absurd (apart m q (documentCountIn (formOf h) s) (eventCountIn (formOf h) s) (sym e ∙ r));
           given = λ m q k. absurd (f m q (k .holds));
-          good = λ d e q. let x = same-good d e (documentCount s) (eventCount s) (sym q ∙ r) in (x .0, x .1, f);
+          good = λ d e q. let x = same-good d e (documentCountIn (formOf h) s) (eventCountIn (formOf h) s) (sym q ∙ r) in (x .0, x .1, f);
           accepted = λ g. r;
         }

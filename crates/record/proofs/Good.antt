@@ -10,13 +10,17 @@ use lib.Dec.{eqb}
 use borrow.Author.Tests.{ne-eqb, le-ltb, eqb-true, eqb-false, ltb-false}
 use Rattle.record.specs.Choice.{choose, and}
 use Rattle.record.specs.Bytes.{u32At}
-use Rattle.record.specs.Form.{Form, old, placeIn, mateIn}
-use Rattle.record.specs.Event.{Stored, storedAt, allStoredAt, eventAt, eventsBy, eventsAt, eventsIn, eventsOf}
+use Rattle.record.specs.Form.{old, second, placeIn, mateIn, Known}
+use Rattle.record.specs.Handed.{formOf, optionsOf}
+use Rattle.record.specs.Event.{Stored, storedAt, allStoredAt, eventAt, eventsBy, eventsIn}
 use Rattle.record.specs.Stack.{innermostOf, after, openAfter, openAt}
 use Rattle.record.specs.Sound.{soundFrom, sound}
-use Rattle.record.specs.Good.{GoodIn, GoodRecord}
-use Rattle.record.specs.Check.{refuse, countAt, fitting, firstReturn, formed, paired, truly, judge, insideOf, endOf, eventCountOf, checkedIn, admitted}
+use Rattle.record.specs.Good.{GoodIn}
+use Rattle.record.specs.Check.{refuse, countAt, fitting, firstReturn, formed, paired, truly, judge, insideOf, endOf, eventCountOf, checkedIn, fronted, admitted}
 use Rattle.record.specs.declared.event.Event.{Event}
+use Rattle.record.specs.declared.form.Form.{Form}
+use Rattle.record.specs.declared.form.Handed.{Handed}
+use Rattle.record.specs.declared.form.Handed.the-variants.{Old, Second}
 use Rattle.record.specs.declared.check.Count.{Count}
 use Rattle.record.specs.declared.check.Count.the-variants.{Fits, Misfit}
 use Rattle.record.specs.declared.check.Reading.{Reading}
@@ -126,9 +130,9 @@ none-returned (suc n) s at h (suc k) l e =
     let z : at + suc k ≡ at + 1 + k = omega arith in
     none-returned n s (at + 1) (none-by _ _ _ _ h .1) k (omega arith) (ap (λ (m : ℕ). getD s m 0) (sym z) ∙ e)
 
-good-end : (f : Form) (s : List ℕ) (d′ e′ d e : ℕ) → Fitted s (f .front) 16384 1 d′ → Fitted s (4 + f .front + d′) 2048 (f .width) e′ → endOf f s d′ e′ ≡ Good d e → GoodIn f s d e
+good-end : (f : Form) (s : List ℕ) (d′ e′ d e : ℕ) → Fitted s (f .front) 16384 1 d′ → Fitted s (4 + f .front + d′) 2048 (f .width) e′ → endOf f s d′ e′ ≡ Good d e → Known f → GoodIn f s d e
 unfolding endOf insideOf eventsIn
-good-end f s d′ e′ d e fd fe q =
+good-end f s d′ e′ d e fd fe q k =
     let r₁ = held-side _ _ _ _ _ _ q in
     let r₂ = other-side _ _ _ _ _ _ r₁ in
     let g : Good d′ e′ ≡ Good d e = same-good _ _ _ _ _ _ _ _ _ _ _ _ r₂ in
@@ -147,6 +151,7 @@ good-end f s d′ e′ d e fd fe q =
     let small′ : d′ ≤ 16384 = fd .within in
     let few′ : e′ ≤ 2048 = fe .within in
     record {
+      known = k;
       document-count = count-d ∙ gd;
       event-count = rw gd at count-e ∙ ge;
       small = rw gd at small′;
@@ -163,35 +168,60 @@ fitting-fits : (c : Count) (x : Reading) (f : ℕ → Reading) (n p d e : ℕ) �
 fitting-fits (Fits m) x f n p d e r q = (m, refl, q)
 fitting-fits Misfit x f n p d e r q = absurd (never n p d e (sym r ∙ q))
 
-pub good-record : (f : Form) (s : List ℕ) (d e : ℕ) → checkedIn f s ≡ Good d e → GoodIn f s d e
+pub good-record : (f : Form) (s : List ℕ) (d e : ℕ) → Known f → checkedIn f s ≡ Good d e → GoodIn f s d e
 unfolding checkedIn eventCountOf
-good-record f s d e q =
+good-record f s d e k q =
     let a = fitting-fits (countAt s (f .front) 16384 1) (refuse 3 (f .front)) (λ n. eventCountOf f s n) 3 (f .front) d e refl q in
     let b = fitting-fits (countAt s (4 + f .front + a .0) 2048 (f .width)) (refuse 3 (4 + f .front + a .0)) (λ n. endOf f s (a .0) n) 3 (4 + f .front + a .0) d e refl (a .2) in
-    good-end f s (a .0) (b .0) d e (fitted _ _ _ _ _ (a .1)) (fitted _ _ _ _ _ (b .1)) (b .2)
+    good-end f s (a .0) (b .0) d e (fitted _ _ _ _ _ (a .1)) (fitted _ _ _ _ _ (b .1)) (b .2) k
 
--- events of eight bytes
-pub events-by : (n : ℕ) (s : List ℕ) (at : ℕ) → eventsBy 8 n s at ≡ eventsAt n s at
-unfolding eventsBy eventsAt
-events-by zero s at = refl
-events-by (suc n) s at = ap (λ (l : List Event). eventAt s at ∷ l) (events-by n s (at + 8))
+-- the two forms
+pub old-known : Known old
+old-known = record { wide = omega arith; slim = omega arith; near = omega arith }
 
-pub events-are-sound : {s : List ℕ} {d e : ℕ} → GoodRecord s d e → sound 64 d (eventsOf s d e) ≡ true
-unfolding eventsOf eventsIn
-events-are-sound {s} {d} {e} g = ap (λ (l : List Event). sound 64 d l) (sym (events-by e s (8 + d))) ∙ g .sound-events
+pub second-known : Known second
+second-known = record { wide = omega arith; slim = omega arith; near = omega arith }
 
--- the same of a call's whole check, with the work memory and the options
-pub record Admitted (s : List ℕ) (options works d e : ℕ) : Type 0 where
+pub form-known : (h : Handed) → Known (formOf h)
+form-known (Old options) = old-known
+form-known Second = second-known
+
+-- what stands before the document's count, where the check lets it pass
+abbrev pub FrontGood : Handed → List ℕ → Type 0
+FrontGood (Old options) s = options ≤ 63
+FrontGood Second s = (5 ≤ length s) × (u32At s 0 ≡ 1) × (getD s 4 0 ≤ 63)
+
+front-good : (h : Handed) (s : List ℕ) (rest : Reading) (d e : ℕ) → fronted h s rest ≡ Good d e → FrontGood h s × (rest ≡ Good d e)
+unfolding fronted
+front-good (Old options) s rest d e q = (ltb-false _ _ (other-test _ _ _ _ _ _ q), other-side _ _ _ _ _ _ q)
+front-good Second s rest d e q =
+    let r₁ = other-side _ _ _ _ _ _ q in
+    let r₂ = held-side _ _ _ _ _ _ r₁ in
+    let r₃ = other-side _ _ _ _ _ _ r₂ in
+    ((ltb-false _ _ (other-test _ _ _ _ _ _ r₂), eqb-true _ _ (held-test _ _ _ _ _ _ r₁), ltb-false _ _ (other-test _ _ _ _ _ _ r₃)), other-side _ _ _ _ _ _ r₃)
+
+pub options-small : (h : Handed) (s : List ℕ) → FrontGood h s → optionsOf h s ≤ 63
+options-small (Old options) s g = g
+options-small Second s g = g .2
+
+-- the same of a call's whole check, with the work memory and the front
+pub record Admitted (h : Handed) (s : List ℕ) (works d e : ℕ) : Type 0 where
   pub memory : 65536 ≤ works
-  pub options-known : options ≤ 63
-  pub good : GoodRecord s d e
+  pub front : FrontGood h s
+  pub options-known : optionsOf h s ≤ 63
+  pub good : GoodIn (formOf h) s d e
 
-pub admission : (s : List ℕ) (options works d e : ℕ) → admitted s options works ≡ Good d e → Admitted s options works d e
+pub admission : (h : Handed) (s : List ℕ) (works d e : ℕ) → admitted h s works ≡ Good d e → Admitted h s works d e
 unfolding admitted
-admission s options works d e q =
-    let r = other-side _ _ _ _ _ _ q in
+admission h s works d e q =
+    let r = front-good h s (checkedIn (formOf h) s) d e (other-side _ _ _ _ _ _ q) in
     record {
       memory = ltb-false _ _ (other-test _ _ _ _ _ _ q);
-      options-known = ltb-false _ _ (other-test _ _ _ _ _ _ r);
-      good = good-record old s d e (other-side _ _ _ _ _ _ r);
+      front = r .0;
+      options-known = options-small h s (r .0);
+      good = good-record (formOf h) s d e (form-known h) (r .1);
     }
+
+-- the record that a call goes on with
+pub admitted-good : (h : Handed) (s : List ℕ) (works d e : ℕ) (f : Form) → f ≡ formOf h → admitted h s works ≡ Good d e → GoodIn f s d e
+admitted-good h s works d e f g q = rw g (admission h s works d e q .good)

@@ -1,3 +1,4 @@
+pub mod Parts
 pub mod Splice
 pub mod Sections
 pub mod Bools
@@ -17,9 +18,7 @@ pub mod Output
 pub mod Verdict
 pub mod Order
 pub mod Exactly
-pub mod Second
 pub mod ExactlyWritten
-pub mod Parts
 pub mod ReadsBack
 pub mod RecordReadsBack
 pub mod Rewritten

@@ -9,7 +9,7 @@ use native.Mathlib.Omega.{arith}
 use lib.ListN.{length, getD, take, drop}
 use lib.Seq.{sets-eq, getD-append-add, length-take-le}
 use Rattle.record.specs.Bytes.{u32At, u32Bytes, Wrote}
-use Rattle.record.specs.Event.{event, eventAt, eventsAt, storedAt, bytesOf, flat, sectionBytes}
+use Rattle.record.specs.Event.{event, eventAt, eventsBy, storedAt, bytesOf, flat, sectionBytes}
 use Rattle.record.specs.Stack.{nth, after}
 use Rattle.record.specs.Sound.{soundFrom}
 use Rattle.record.specs.ReadsBack.{NumberReadsBack, stored, EventReadsBack, PutNumberReadsBack, PutEventReadsBack, Storable, SectionReadsBack}
@@ -39,8 +39,8 @@ stored-behind before s at k e =
       number-behind before s (at + 4) (k + 4) (omega arith),
     )
 
-events-behind : (n : ℕ) (before s : List ℕ) (at k : ℕ) → at ≡ length before + k → eventsAt n (before ++ s) at ≡ eventsAt n s k
-unfolding eventsAt
+events-behind : (n : ℕ) (before s : List ℕ) (at k : ℕ) → at ≡ length before + k → eventsBy 8 n (before ++ s) at ≡ eventsBy 8 n s k
+unfolding eventsBy
 events-behind zero before s at k e = refl
 events-behind (suc n) before s at k e =
     rw (ap (λ v. v .what) (stored-behind before s at k e), events-behind n before s (at + 8) (k + 8) (omega arith))
@@ -95,14 +95,14 @@ flat-each (e ∷ es) behind b zero h = event-first e (flat es ++ behind) (b 0 (o
 flat-each (e ∷ es) behind b (suc k) h =
     stored-behind (bytesOf e) (flat es ++ behind) (8 * suc k) (8 * k) (omega arith) ∙ flat-each es behind (λ j g. b (suc j) (omega arith)) k (omega arith)
 
-flat-all : (es : List Event) (behind : List ℕ) → Storable es → eventsAt (length es) (flat es ++ behind) 0 ≡ es
-unfolding flat eventsAt
+flat-all : (es : List Event) (behind : List ℕ) → Storable es → eventsBy 8 (length es) (flat es ++ behind) 0 ≡ es
+unfolding flat eventsBy
 flat-all [] behind b = refl
 flat-all (e ∷ es) behind b =
     let one : eventAt (bytesOf e ++ (flat es ++ behind)) 0 ≡ e = ap (λ v. v .what) (event-first e (flat es ++ behind) (b 0 (omega arith))) in
-    let more : eventsAt (length es) (bytesOf e ++ (flat es ++ behind)) 8 ≡ es =
+    let more : eventsBy 8 (length es) (bytesOf e ++ (flat es ++ behind)) 8 ≡ es =
     events-behind (length es) (bytesOf e) (flat es ++ behind) 8 0 (omega arith) ∙ flat-all es behind (λ j g. b (suc j) (omega arith)) in
-    ap (λ (x : Event). x ∷ eventsAt (length es) (bytesOf e ++ (flat es ++ behind)) 8) one ∙ ap (λ (l : List Event). e ∷ l) more
+    ap (λ (x : Event). x ∷ eventsBy 8 (length es) (bytesOf e ++ (flat es ++ behind)) 8) one ∙ ap (λ (l : List Event). e ∷ l) more
 
 pub section-reads-back : SectionReadsBack
 unfolding sectionBytes
@@ -115,7 +115,7 @@ section-reads-back before behind es n b =
           ∙ stored-behind (u32Bytes (length es)) (flat es ++ behind) (4 + 8 * k) (8 * k) (omega arith)
           ∙ flat-each es behind b k h;
       all =
-          ap (λ (m : ℕ). eventsAt m (before ++ (sectionBytes es ++ behind)) (length before + 4)) counted
+          ap (λ (m : ℕ). eventsBy 8 m (before ++ (sectionBytes es ++ behind)) (length before + 4)) counted
           ∙ events-behind (length es) before (u32Bytes (length es) ++ (flat es ++ behind)) (length before + 4) 4 (omega arith)
           ∙ events-behind (length es) (u32Bytes (length es)) (flat es ++ behind) 4 0 (omega arith)
           ∙ flat-all es behind b;

@@ -12,10 +12,10 @@ use borrow.Author.Tests.{eq-eqb, ne-eqb, lt-ltb}
 use Rattle.record.specs.Choice.{choose}
 use Rattle.record.specs.Bytes.{u32At, u32Bytes}
 use Rattle.record.specs.Form.{old, mateIn}
-use Rattle.record.specs.Event.{eventsAt, eventsBy, storedAt, allStoredAt, bytesOf, flat, sectionBytes, recordBytes, documentOf, eventsOf}
+use Rattle.record.specs.Event.{eventsBy, storedAt, allStoredAt, bytesOf, flat, sectionBytes, recordBytes, documentIn, eventsIn}
 use Rattle.record.specs.Stack.{after}
 use Rattle.record.specs.Sound.{soundFrom, sound}
-use Rattle.record.specs.Check.{firstReturn, formed, paired, truly, judge, checked}
+use Rattle.record.specs.Check.{firstReturn, formed, paired, truly, judge, checkedIn}
 use Rattle.record.specs.ReadsBack.{SectionThere, Holdable, RecordReadsBack, AreBytes, RecordIsBytes}
 use Rattle.record.specs.declared.event.Event.{Event}
 use Rattle.record.specs.declared.check.Reading.{Reading}
@@ -25,7 +25,6 @@ use Rattle.record.proofs.Sections.{length-section}
 use Rattle.record.proofs.Counts.{fits}
 use Rattle.record.proofs.Soundness.{Stands, stands, sound-rest}
 use Rattle.record.proofs.Whole.{document-fits, events-fit, ends, inside}
-use Rattle.record.proofs.Good.{events-by}
 use Rattle.record.proofs.ReadsBack.{byte-behind, number-of-bytes, section-reads-back, sound-storable}
 
 -- a scan that meets no carriage return ends behind the last byte
@@ -100,21 +99,21 @@ module _ (document : List ℕ) (es : List Event) where
     record-byte k g =
         byte-behind (u32Bytes (length document)) (document ++ sectionBytes es) (4 + k) k (omega arith) ∙ byte-in-front document (sectionBytes es) k g
 
-    record-document : documentOf (recordBytes document es) (length document) ≡ document
-    unfolding recordBytes documentOf
+    record-document : documentIn old (recordBytes document es) (length document) ≡ document
+    unfolding recordBytes documentIn
     record-document = take-append-seam document (sectionBytes es)
 
-    record-events : eventsOf (recordBytes document es) (length document) (length es) ≡ es
-    unfolding eventsOf
+    record-events : eventsIn old (recordBytes document es) (length document) (length es) ≡ es
+    unfolding eventsIn
     record-events =
         let t = record-section in
         let at : 4 + length document + 4 ≡ 8 + length document = omega arith in
-        ap (λ (m : ℕ). eventsAt (length es) (recordBytes document es) m) (sym at)
-        ∙ ap (λ (n : ℕ). eventsAt n (recordBytes document es) (4 + length document + 4)) (sym (t .count))
+        ap (λ (m : ℕ). eventsBy 8 (length es) (recordBytes document es) m) (sym at)
+        ∙ ap (λ (n : ℕ). eventsBy 8 n (recordBytes document es) (4 + length document + 4)) (sym (t .count))
         ∙ t .all
 
-    record-good : checked (recordBytes document es) ≡ Good (length document) (length es)
-    unfolding eventsOf
+    record-good : checkedIn old (recordBytes document es) ≡ Good (length document) (length es)
+    unfolding eventsIn
     record-good =
         let s : List ℕ = recordBytes document es in
         let d : ℕ = length document in
@@ -124,7 +123,7 @@ module _ (document : List ℕ) (es : List Event) where
         let none : firstReturn (length document) (recordBytes document es) 4 ≡ 4 + length document =
         passes-all (length document) (recordBytes document es) 4 (λ k g q. h .no-return k g (sym (record-byte k g) ∙ q)) in
         let events : soundFrom 64 (length document) 0 [] (eventsBy 8 (length es) (recordBytes document es) (8 + length document)) ≡ true =
-        ap (λ (l : List Event). sound 64 (length document) l) (events-by (length es) (recordBytes document es) (8 + length document) ∙ record-events) ∙ h .sound-events in
+        ap (λ (l : List Event). sound 64 (length document) l) record-events ∙ h .sound-events in
         let zeros : (k : ℕ) → k < length es → storedAt (recordBytes document es) (8 + length document + 8 * k) .zeros ≡ 0 =
         λ k g. let at : 4 + length document + 4 + 8 * k ≡ 8 + length document + 8 * k = omega arith in rw at at (ap (λ v. v .zeros) (t .each k g)) in
         sym (document-fits old s d (sym (fits s 0 16384 1 d (sym record-count) (omega arith) (h .small) (omega arith))))

@@ -11,7 +11,8 @@ use lib.ListN.{length}
 use lib.Dec.{leb, ltb, eqb}
 use borrow.Author.Tests.{ne-eqb, le-ltb, leb-true, leb-false, ltb-false, eqb-true, eqb-false}
 use Rattle.record.specs.Choice.{choose, and}
-use Rattle.record.specs.Form.{Form, placeIn, mateIn}
+use Rattle.record.specs.Form.{placeIn, mateIn}
+use Rattle.record.specs.declared.form.Form.{Form}
 use Rattle.record.specs.Event.{storedAt, allStoredAt, eventAt}
 use Rattle.record.specs.Stack.{innermost, innermostOf, none, fitsOpen}
 use Rattle.record.specs.Sound.{placed}

@@ -5,10 +5,11 @@ use mathlib.Core.List.{List, [], _∷_, _++_, map}
 use Prim.Native.Nat.{ℕ}
 use Rattle.record.specs.Choice.{choose, and}
 use Rattle.record.specs.Bytes.{u32At, u32Bytes}
+use Rattle.record.specs.Form.{old}
 use Rattle.record.specs.Event.{storedAt, enter, exit, flat, allStoredAt}
 use Rattle.record.specs.Stack.{fitsOpen, after}
 use Rattle.record.specs.Sound.{placed}
-use Rattle.record.specs.Check.{refuse, countAt, firstReturn, formed, paired, truly, judge, insideOf, endOf, eventCountOf, checkedIn, checked}
+use Rattle.record.specs.Check.{refuse, countAt, firstReturn, formed, paired, truly, judge, insideOf, endOf, eventCountOf, checkedIn}
 use Rattle.record.specs.declared.check.Reading.{Reading}
 use Rattle.record.specs.declared.check.Reading.the-variants.{Good}
 
@@ -48,6 +49,6 @@ cases =
     ∷ case (u32Bytes 0 ++ u32Bytes 1 ++ flat (enter 0 0 ∷ [])) (refuse 5 16)
     ∷ []
 
-pub computed : map (λ (c : Case). checked (c .bytes)) cases ≡ map (λ (c : Case). c .found) cases
+pub computed : map (λ (c : Case). checkedIn old (c .bytes)) cases ≡ map (λ (c : Case). c .found) cases
 unfolding cases flat checkedIn countAt eventCountOf endOf insideOf firstReturn allStoredAt judge paired truly formed placed fitsOpen after choose and
 computed = refl

@@ -7,11 +7,15 @@ use lib.ListN.{length, getD}
 use lib.Dec.{leb, ltb, eqb}
 use Rattle.record.specs.Choice.{choose, and}
 use Rattle.record.specs.Bytes.{u32At}
-use Rattle.record.specs.Form.{Form, old, placeIn, mateIn}
+use Rattle.record.specs.Form.{placeIn, mateIn}
+use Rattle.record.specs.Handed.{formOf}
+use Rattle.record.specs.declared.form.Form.{Form}
 use Rattle.record.specs.Event.{Stored, allStoredAt}
 use Rattle.record.specs.Stack.{innermostOf, none, fitsOpen, after}
 use Rattle.record.specs.Sound.{placed}
 use Rattle.record.specs.declared.event.Event.{Event}
+use Rattle.record.specs.declared.form.Handed.{Handed}
+use Rattle.record.specs.declared.form.Handed.the-variants.{Old, Second}
 use Rattle.record.specs.declared.check.Count.{Count}
 use Rattle.record.specs.declared.check.Count.the-variants.{Fits, Misfit}
 use Rattle.record.specs.declared.check.Reading.{Reading}
@@ -71,7 +75,7 @@ insideOf f s d e =
 unfoldable pub endOf : Form → List ℕ → ℕ → ℕ → Reading
 endOf f s d e = choose (eqb (length s) (placeIn f d e)) (insideOf f s d e) (refuse 3 (placeIn f d e))
 
--- Amendment D18 here and in `checked`: the standard sets no limit to a document or its events
+-- Amendment D18 here and in `checkedIn`: the standard sets no limit to a document or its events
 unfoldable pub eventCountOf : Form → List ℕ → ℕ → Reading
 eventCountOf f s d = fitting (countAt s (4 + f .front + d) 2048 (f .width)) (refuse 3 (4 + f .front + d)) (λ e. endOf f s d e)
 
@@ -79,12 +83,18 @@ eventCountOf f s d = fitting (countAt s (4 + f .front + d) 2048 (f .width)) (ref
 unfoldable pub checkedIn : Form → List ℕ → Reading
 checkedIn f s = fitting (countAt s (f .front) 16384 1) (refuse 3 (f .front)) (λ d. eventCountOf f s d)
 
-abbrev pub checked : List ℕ → Reading
-checked s = checkedIn old s
+-- what comes before the document's count. Beside the old form there are the options: "options over 63". Form 2 has them in a first section: "2 also for a
+-- count other than 1 or a byte over 63 in the first section". A count other than 1 is refused even where no byte follows it
+unfoldable pub fronted : Handed → List ℕ → Reading → Reading
+fronted (Old options) s rest = choose (ltb 63 options) (refuse 2 0) rest
+fronted Second s rest =
+    choose (ltb (length s) 4) (refuse 3 0)
+    (choose (eqb (u32At s 0) 1)
+    (choose (ltb (length s) 5) (refuse 3 0)
+    (choose (ltb 63 (getD s 4 0)) (refuse 2 0)
+    rest))
+    (refuse 2 0))
 
--- "work memory under 65,536 bytes", "options over 63", then the record
-unfoldable pub admitted : List ℕ → ℕ → ℕ → Reading
-admitted s options works =
-    choose (ltb works 65536) (refuse 1 0)
-    (choose (ltb 63 options) (refuse 2 0)
-    (checked s))
+-- "work memory under 65,536 bytes", then the front, then the record
+unfoldable pub admitted : Handed → List ℕ → ℕ → Reading
+admitted h s works = choose (ltb works 65536) (refuse 1 0) (fronted h s (checkedIn (formOf h) s))

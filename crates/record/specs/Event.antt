@@ -4,8 +4,8 @@ use Prim.Native.Nat.{ℕ, zero, suc, _+_, _*_}
 use mathlib.Core.List.{List, [], _∷_, _++_}
 use lib.ListN.{length, getD, take, drop}
 use Rattle.record.specs.Bytes.{u32At, u32Bytes}
-use Rattle.record.specs.Form.{Form}
 use Rattle.record.specs.declared.event.Event.{Event}
+use Rattle.record.specs.declared.form.Form.{Form}
 
 abbrev pub event : ℕ → ℕ → ℕ → Event
 event kind name place = record { kind = kind; name = name; place = place }
@@ -20,11 +20,6 @@ exit name place = event 1 name place
 abbrev pub eventAt : List ℕ → ℕ → Event
 eventAt s at = event (getD s at 0) (getD s (at + 1) 0) (u32At s (at + 4))
 
--- n events from a place on
-unfoldable pub eventsAt : ℕ → List ℕ → ℕ → List Event
-eventsAt zero s at = []
-eventsAt (suc n) s at = eventAt s at ∷ eventsAt n s (at + 8)
-
 -- an event as it is stored, with the two bytes that have to be zero, as one number
 pub record Stored : Type 0 where
   pub what : Event
@@ -38,6 +33,7 @@ unfoldable pub allStoredAt : ℕ → ℕ → List ℕ → ℕ → List Stored
 allStoredAt width zero s at = []
 allStoredAt width (suc n) s at = storedAt s at ∷ allStoredAt width n s (at + width)
 
+-- the same as events
 unfoldable pub eventsBy : ℕ → ℕ → List ℕ → ℕ → List Event
 eventsBy width zero s at = []
 eventsBy width (suc n) s at = eventAt s at ∷ eventsBy width n s (at + width)
@@ -59,18 +55,15 @@ sectionBytes es = u32Bytes (length es) ++ flat es
 
 -- the events of the section that stands at a place: as many as its count says
 abbrev pub sectionAt : List ℕ → ℕ → List Event
-sectionAt s at = eventsAt (u32At s at) s (at + 4)
+sectionAt s at = eventsBy 8 (u32At s at) s (at + 4)
 
 -- "First the document: count D, D bytes. Then the events": a document before its section
 unfoldable pub recordBytes : List ℕ → List Event → List ℕ
 recordBytes document es = u32Bytes (length document) ++ (document ++ sectionBytes es)
 
--- the parts of a good record, whose counts are d and e
-unfoldable pub documentOf : List ℕ → ℕ → List ℕ
-documentOf s d = take d (drop 4 s)
+-- the parts of a good record of a form, whose counts are d and e
+unfoldable pub documentIn : Form → List ℕ → ℕ → List ℕ
+documentIn f s d = take d (drop (4 + f .front) s)
 
 unfoldable pub eventsIn : Form → List ℕ → ℕ → ℕ → List Event
 eventsIn f s d e = eventsBy (f .width) e s (8 + f .front + d)
-
-unfoldable pub eventsOf : List ℕ → ℕ → ℕ → List Event
-eventsOf s d e = eventsAt e s (8 + d)

@@ -8,13 +8,15 @@ use mathlib.Core.Bool.{true}
 use mathlib.Core.List.{List}
 use lib.ListN.{length, getD}
 use Rattle.record.specs.Bytes.{u32At}
-use Rattle.record.specs.Form.{Form, old, placeIn, mateIn}
+use Rattle.record.specs.Form.{old, placeIn, mateIn, Known}
+use Rattle.record.specs.declared.form.Form.{Form}
 use Rattle.record.specs.Event.{storedAt, eventAt, eventsIn}
 use Rattle.record.specs.Stack.{innermostOf, openAt}
 use Rattle.record.specs.Sound.{sound}
 
 -- a good record of a form: its document has d bytes, and it has e events
 pub record GoodIn (f : Form) (s : List ℕ) (d e : ℕ) : Type 0 where
+  pub known : Known f
   -- both counts fit and are within their limits, and nothing follows the events
   pub document-count : u32At s (f .front) ≡ d
   pub event-count : u32At s (4 + f .front + d) ≡ e

@@ -3,15 +3,16 @@ pub mod Options
 pub mod Bytes
 pub mod Stretch
 pub mod Form
+pub mod Handed
 pub mod Event
 pub mod Stack
+pub mod Partners
 pub mod Sound
 pub mod Good
 pub mod Check
 pub mod ReadsBack
 pub mod Order
 pub mod Rows
-pub mod Second
 pub mod Outcome
 pub mod Written
 pub mod Promise

@@ -7,6 +7,8 @@ use mathlib.Core.List.{List}
 use lib.ListN.{length, replicate}
 use Rattle.record.specs.Check.{admitted}
 use Rattle.record.specs.Outcome.{Outcome, bytesWritten, onto}
+use Rattle.record.specs.declared.form.Form.{Form}
+use Rattle.record.specs.declared.form.Handed.{Handed}
 use Rattle.record.specs.declared.check.Reading.{Reading}
 use Rattle.record.specs.declared.check.Reading.the-variants.{Good, Refused}
 
@@ -28,19 +30,19 @@ pub record SectionNumbers : Type 0 where
   pub events : ℕ
 
 -- `read` answers r, and work′ is what the work memory then holds: the answer is one of the record, the options and the memory's length alone
-pub record Read (s : List ℕ) (options : ℕ) (work : List ℕ) (r : Reading) (work′ : List ℕ) : Type 0 where
-  pub answer : r ≡ admitted s options (length work)
+pub record Read (h : Handed) (s work : List ℕ) (r : Reading) (work′ : List ℕ) : Type 0 where
+  pub answer : r ≡ admitted h s (length work)
   pub wiped : work′ ≡ replicate (length work) 0
 
--- a call's answer and output, where it comes to o: r is answered, which is `answers` of o, and out′ is what its output then holds. The inner
+-- a call's answer and output, where it comes to o on a record of form f: r is answered, which is `answers` of o, and out′ is what its output then holds. The inner
 -- promise of a call that writes: nothing is said of the work memory
-pub record Answered {A : Type 0} (o : Outcome) (answers : Outcome → A) (out : List ℕ) (r : A) (out′ : List ℕ) : Type 0 where
+pub record Answered {A : Type 0} (f : Form) (o : Outcome) (answers : Outcome → A) (out : List ℕ) (r : A) (out′ : List ℕ) : Type 0 where
   pub answer : r ≡ answers o
-  pub output : out′ ≡ onto (bytesWritten o) out
+  pub output : out′ ≡ onto (bytesWritten f o) out
 
--- a call that writes answers r, and out′ and work′ are what its output and work memory then hold. What it comes to is a definition of the two
+-- a call on a record of form f that writes answers r, and out′ and work′ are what its output and work memory then hold. What it comes to is a definition of the two
 -- lengths, `comes` (the record, the options and other arguments are in it), and `answers` is its answer type's reading of that
-pub record Writes {A : Type 0} (comes : ℕ → ℕ → Outcome) (answers : Outcome → A) (out work : List ℕ) (r : A) (out′ work′ : List ℕ) : Type 0 where
+pub record Writes {A : Type 0} (f : Form) (comes : ℕ → ℕ → Outcome) (answers : Outcome → A) (out work : List ℕ) (r : A) (out′ work′ : List ℕ) : Type 0 where
   pub answer : r ≡ answers (comes (length out) (length work))
-  pub output : out′ ≡ onto (bytesWritten (comes (length out) (length work))) out
+  pub output : out′ ≡ onto (bytesWritten f (comes (length out) (length work))) out
   pub wiped : work′ ≡ replicate (length work) 0

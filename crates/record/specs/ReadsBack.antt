@@ -8,10 +8,11 @@ use mathlib.Core.Bool.{true}
 use mathlib.Core.List.{List, _++_}
 use lib.ListN.{length, getD}
 use Rattle.record.specs.Bytes.{u32At, u32Bytes, Wrote}
-use Rattle.record.specs.Event.{Stored, storedAt, bytesOf, sectionBytes, sectionAt, recordBytes, documentOf, eventsOf}
+use Rattle.record.specs.Form.{old}
+use Rattle.record.specs.Event.{Stored, storedAt, bytesOf, sectionBytes, sectionAt, recordBytes, documentIn, eventsIn}
 use Rattle.record.specs.Stack.{nth}
 use Rattle.record.specs.Sound.{sound}
-use Rattle.record.specs.Check.{checked}
+use Rattle.record.specs.Check.{checkedIn}
 use Rattle.record.specs.declared.event.Event.{Event}
 use Rattle.record.specs.declared.check.Reading.the-variants.{Good}
 
@@ -60,9 +61,9 @@ pub record Holdable (document : List ℕ) (es : List Event) : Type 0 where
 
 -- a record that is good, and what is read from it
 pub record RecordThere (s document : List ℕ) (es : List Event) : Type 0 where
-  pub good : checked s ≡ Good (length document) (length es)
-  pub its-document : documentOf s (length document) ≡ document
-  pub its-events : eventsOf s (length document) (length es) ≡ es
+  pub good : checkedIn old s ≡ Good (length document) (length es)
+  pub its-document : documentIn old s (length document) ≡ document
+  pub its-events : eventsIn old s (length document) (length es) ≡ es
 
 abbrev pub RecordReadsBack : Type 0
 RecordReadsBack = (document : List ℕ) (es : List Event) → Holdable document es → RecordThere (recordBytes document es) document es
@@ -76,8 +77,8 @@ RecordIsBytes = (document : List ℕ) (es : List Event) → AreBytes document �
 
 -- the other way: a good record is the bytes of the document and the events that are read from it, and these a record may hold
 pub record Rewritten (s : List ℕ) (d e : ℕ) : Type 0 where
-  pub same : s ≡ recordBytes (documentOf s d) (eventsOf s d e)
-  pub holdable : Holdable (documentOf s d) (eventsOf s d e)
+  pub same : s ≡ recordBytes (documentIn old s d) (eventsIn old s d e)
+  pub holdable : Holdable (documentIn old s d) (eventsIn old s d e)
 
 abbrev pub GoodIsRewritten : Type 0
-GoodIsRewritten = (s : List ℕ) (d e : ℕ) → AreBytes s → checked s ≡ Good d e → Rewritten s d e
+GoodIsRewritten = (s : List ℕ) (d e : ℕ) → AreBytes s → checkedIn old s ≡ Good d e → Rewritten s d e

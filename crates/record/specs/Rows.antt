@@ -7,11 +7,15 @@ use mathlib.Core.Bool.{false}
 use mathlib.Core.List.{List, []}
 use lib.ListN.{length, getD}
 use Rattle.record.specs.Bytes.{u32At}
-use Rattle.record.specs.Form.{Form, old, placeIn, mateIn}
+use Rattle.record.specs.Form.{placeIn, mateIn}
+use Rattle.record.specs.Handed.{formOf}
+use Rattle.record.specs.declared.form.Form.{Form}
 use Rattle.record.specs.Event.{storedAt, eventAt}
 use Rattle.record.specs.Stack.{innermost, innermostOf, none, after}
 use Rattle.record.specs.Check.{refuse, admitted}
 use Rattle.record.specs.Order.{Least}
+use Rattle.record.specs.declared.form.Handed.{Handed}
+use Rattle.record.specs.declared.form.Handed.the-variants.{Old, Second}
 use Rattle.record.specs.declared.check.Reading.the-variants.{Good}
 
 -- D and E, wherever the record has them
@@ -20,13 +24,6 @@ documentCountIn f s = u32At s (f .front)
 
 abbrev pub eventCountIn : Form → List ℕ → ℕ
 eventCountIn f s = u32At s (4 + f .front + documentCountIn f s)
-
--- and in the old form
-abbrev pub documentCount : List ℕ → ℕ
-documentCount s = documentCountIn old s
-
-abbrev pub eventCount : List ℕ → ℕ
-eventCount s = eventCountIn old s
 
 -- the two sections: where the count stands, its limit, and the bytes of an entry. The events' count is there if the document ends in the record
 pub data Section (f : Form) (s : List ℕ) (at limit width : ℕ) : Type 0 where
@@ -77,23 +74,37 @@ pub data Unsound (f : Form) (s : List ℕ) (p : ℕ) : Type 0 where
   an-event : (k : ℕ) → k < eventCountIn f s → Broken f s (documentCountIn f s) k → p ≡ placeIn f (documentCountIn f s) k → Unsound f s p
   left-open : none (openNames f s (documentCountIn f s) (eventCountIn f s)) ≡ false → p ≡ length s → Unsound f s p
 
--- the rows that follow the front
+-- the rows of what follows the front
 pub data Inner (f : Form) (s : List ℕ) (n p : ℕ) : Type 0 where
   in-3 : Misfits f s p → n ≡ 3 → Inner f s n p
   in-4 : Returns f s p → n ≡ 4 → Inner f s n p
   in-5 : Unsound f s p → n ≡ 5 → Inner f s n p
 
--- the rows of the table that a check of the record can give. Amendment D18: the limits in 3 and 5, since the standard sets none
-pub data Row (s : List ℕ) (options works n p : ℕ) : Type 0 where
-  row-1 : works < 65536 → n ≡ 1 → p ≡ 0 → Row s options works n p
-  row-2 : 63 < options → n ≡ 2 → p ≡ 0 → Row s options works n p
-  row-3 : Misfits old s p → n ≡ 3 → Row s options works n p
-  row-4 : Returns old s p → n ≡ 4 → Row s options works n p
-  row-5 : Unsound old s p → n ≡ 5 → Row s options works n p
+-- the rows of what comes before it: beside the old form, "options over 63"
+pub data OptionsRow (options n p : ℕ) : Type 0 where
+  row-2 : 63 < options → n ≡ 2 → p ≡ 0 → OptionsRow options n p
 
--- "Given exactly when": proved in proofs/Exactly.antt, for every record, option number and length of work memory
-pub record Exactly (s : List ℕ) (options works : ℕ) : Type 0 where
-  pub refused : (n p : ℕ) → admitted s options works ≡ refuse n p → Least (Row s options works) n p
-  pub given : (n p : ℕ) → Least (Row s options works) n p → admitted s options works ≡ refuse n p
-  pub good : (d e : ℕ) → admitted s options works ≡ Good d e → (d ≡ documentCount s) × (e ≡ eventCount s) × ((n p : ℕ) → Row s options works n p → ⊥)
-  pub accepted : ((n p : ℕ) → Row s options works n p → ⊥) → admitted s options works ≡ Good (documentCount s) (eventCount s)
+-- and form 2's first section: "2 also for a count other than 1 or a byte over 63"; 3 where its count doesn't fit, or runs past the record
+pub data FirstSectionRow (s : List ℕ) (n p : ℕ) : Type 0 where
+  other-count : 4 ≤ length s → (u32At s 0 ≡ 1 → ⊥) → n ≡ 2 → p ≡ 0 → FirstSectionRow s n p
+  over-options : 5 ≤ length s → 63 < getD s 4 0 → n ≡ 2 → p ≡ 0 → FirstSectionRow s n p
+  no-count : length s < 4 → n ≡ 3 → p ≡ 0 → FirstSectionRow s n p
+  runs-past : length s < 4 + u32At s 0 → n ≡ 3 → p ≡ 0 → FirstSectionRow s n p
+
+abbrev pub FrontRow : Handed → List ℕ → ℕ → ℕ → Type 0
+FrontRow (Old options) s n p = OptionsRow options n p
+FrontRow Second s n p = FirstSectionRow s n p
+
+-- the rows of the table that a check of a record can give. Amendment D18: the limits in 3 and 5, since the standard sets none
+pub data Row (h : Handed) (s : List ℕ) (works n p : ℕ) : Type 0 where
+  row-1 : works < 65536 → n ≡ 1 → p ≡ 0 → Row h s works n p
+  front : FrontRow h s n p → Row h s works n p
+  inner : Inner (formOf h) s n p → Row h s works n p
+
+-- "Given exactly when": proved in proofs/Exactly.antt, for every record, however it is handed over, and every length of work memory
+pub record Exactly (h : Handed) (s : List ℕ) (works : ℕ) : Type 0 where
+  pub refused : (n p : ℕ) → admitted h s works ≡ refuse n p → Least (Row h s works) n p
+  pub given : (n p : ℕ) → Least (Row h s works) n p → admitted h s works ≡ refuse n p
+  pub good : (d e : ℕ) → admitted h s works ≡ Good d e →
+      (d ≡ documentCountIn (formOf h) s) × (e ≡ eventCountIn (formOf h) s) × ((n p : ℕ) → Row h s works n p → ⊥)
+  pub accepted : ((n p : ℕ) → Row h s works n p → ⊥) → admitted h s works ≡ Good (documentCountIn (formOf h) s) (eventCountIn (formOf h) s)

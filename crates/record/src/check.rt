@@ -2,6 +2,7 @@
 
 use crate::blocks::find;
 use crate::bytes::u32_at;
+use crate::form::Handed;
 use crate::limits::ENTER;
 use crate::limits::EXIT;
 use crate::limits::LAST_NAME;
@@ -15,11 +16,10 @@ ghost use mathlib.Core.Path.{_≡_};
 ghost use mathlib.Core.List.{[]};
 ghost use Prim.Native.Nat.{_+_, _*_, _≤_};
 ghost use lib.ListN.{length};
-ghost use Rattle.record.specs.Form.{form, mateIn};
+ghost use Rattle.record.specs.Form.{form, old, second, mateIn};
 ghost use Rattle.record.specs.Bytes.{u32At};
 ghost use Rattle.record.specs.Event.{storedAt, allStoredAt};
-ghost use Rattle.record.specs.Second.{admittedSecond};
-ghost use Rattle.record.specs.Check.{countAt, firstReturn, formed, paired, judge, checkedIn, admitted};
+ghost use Rattle.record.specs.Check.{countAt, firstReturn, formed, paired, judge, fronted, checkedIn, admitted};
 
 // A refusal: document 01's number, and the place that it names.
 pub struct Refusal {
@@ -201,26 +201,20 @@ pub fn check(s: &[u8], front: usize, width: usize) -> Reading
     check_events(s, front, width, d, e)
 }
 
-// Numbers 1 to 5: what every call on a record begins with. Of the work memory only its length matters.
-pub fn admit(s: &[u8], options: u32, works: usize) -> Reading
-    ensures { λ r. ⌜ r ≡ admitted (now (s .entry)) options works ⌝ }
+// Of a record in the old form, once the memory is found long enough: the options beside it, and the record.
+fn admit_old(s: &[u8], options: u32) -> Reading
+    ensures { λ r. ⌜ r ≡ fronted (Handed.Old options) (now (s .entry)) (checkedIn old (now (s .entry))) ⌝ }
 {
-    if works < MIN_WORK {
-        return refused(1, 0);
-    }
     if options > MAX_OPTIONS {
         return refused(2, 0);
     }
     check(s, 0, 8)
 }
 
-// The same of a record of form 2: what every call on one begins with. The options are read from the record.
-pub fn admit_second(s: &[u8], works: usize) -> Reading
-    ensures { λ r. ⌜ r ≡ admittedSecond (now (s .entry)) works ⌝ }
+// Of a record in form 2: its first section, and the rest.
+fn admit_second(s: &[u8]) -> Reading
+    ensures { λ r. ⌜ r ≡ fronted Handed.Second (now (s .entry)) (checkedIn second (now (s .entry))) ⌝ }
 {
-    if works < MIN_WORK {
-        return refused(1, 0);
-    }
     if s.len() < 4 {
         return refused(3, 0);
     }
@@ -235,4 +229,17 @@ pub fn admit_second(s: &[u8], works: usize) -> Reading
         return refused(2, 0);
     }
     check(s, 5, 12)
+}
+
+// Numbers 1 to 5: what every call on a record begins with. Of the work memory only its length matters.
+pub fn admit(handed: Handed, s: &[u8], works: usize) -> Reading
+    ensures { λ r. ⌜ r ≡ admitted handed (now (s .entry)) works ⌝ }
+{
+    if works < MIN_WORK {
+        return refused(1, 0);
+    }
+    match handed {
+        Handed::Old(options) => admit_old(s, options),
+        Handed::Second => admit_second(s),
+    }
 }

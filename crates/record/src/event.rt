@@ -6,7 +6,7 @@ ghost use mathlib.Core.Path.{_≡_};
 ghost use Prim.Native.Nat.{_+_, _*_, _≤_, _<_};
 ghost use lib.ListN.{length};
 ghost use Rattle.record.specs.Bytes.{Wrote};
-ghost use Rattle.record.specs.Event.{eventAt, eventsAt, eventBytes, flat};
+ghost use Rattle.record.specs.Event.{eventAt, eventsBy, eventBytes, flat};
 
 // An event: its kind (0 enter, 1 exit), its name, and its place in the document.
 pub struct Event {
@@ -39,10 +39,10 @@ pub fn put_event(out: &mut [u8], at: usize, kind: u8, name: u8, place: usize)
     put_u32(out, at + 4, place);
 }
 
-// Copies the n events that stand in a record from a place on to a place of an output.
-pub fn copy_events(out: &mut [u8], at: usize, s: &[u8], from: usize, n: usize)
-    requires { ⌜ (at + 8 * n ≤ length (now out)) × (from + 8 * n ≤ length (now s)) ⌝ }
-    ensures { λ _. ⌜ Wrote (now (out .entry)) at (flat (eventsAt n (now (s .entry)) from)) (now (out .exit)) ⌝ }
+// Copies the n events that stand in a record from a place on, each `width` bytes after the one before, to a place of an output, side by side.
+pub fn copy_events(out: &mut [u8], at: usize, s: &[u8], from: usize, width: usize, n: usize)
+    requires { ⌜ (8 ≤ width) × (at + 8 * n ≤ length (now out)) × (from + width * n ≤ length (now s)) ⌝ }
+    ensures { λ _. ⌜ Wrote (now (out .entry)) at (flat (eventsBy width n (now (s .entry)) from)) (now (out .exit)) ⌝ }
 {
     let mut i = 0;
     let mut to = at;
@@ -50,7 +50,7 @@ pub fn copy_events(out: &mut [u8], at: usize, s: &[u8], from: usize, n: usize)
     while i < n {
         put_event(out, to, s[read], s[read + 1], u32_at(s, read + 4));
         to += 8;
-        read += 8;
+        read += width;
         i += 1;
     }
 }

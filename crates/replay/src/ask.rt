@@ -24,6 +24,7 @@ use lines::spaces::Spaces;
 use lines::spaces::space_or_tab;
 use list::call::resolve_lists;
 use record::check::Refusal;
+use record::form::Handed;
 
 // What we answer.
 pub enum Reply {
@@ -62,7 +63,7 @@ fn flag(set: bool) -> usize {
 
 // The attention resolver. Of its three counts only the events are on the list.
 fn ask_attention(s: &[u8], options: u32, out: &mut [u8], work: &mut [u8]) -> Reply {
-    match resolve_attention(s, options, out, work) {
+    match resolve_attention(Handed::Old(options), s, out, work) {
         attention::call::Answer::Resolved {
             events,
             groups: _,
@@ -74,7 +75,7 @@ fn ask_attention(s: &[u8], options: u32, out: &mut [u8], work: &mut [u8]) -> Rep
 
 // The heading resolver: how many events its section has, or a refusal.
 fn ask_headings(s: &[u8], options: u32, out: &mut [u8], work: &mut [u8]) -> Reply {
-    match resolve_headings(s, options, out, work) {
+    match resolve_headings(Handed::Old(options), s, out, work) {
         heading::resolve::Answer::Resolved { events } => resolved(events),
         heading::resolve::Answer::Refused(refusal) => Reply::Refused(refusal),
     }
@@ -82,7 +83,7 @@ fn ask_headings(s: &[u8], options: u32, out: &mut [u8], work: &mut [u8]) -> Repl
 
 // The list resolver: how many events its section has, or a refusal.
 fn ask_lists(s: &[u8], options: u32, out: &mut [u8], work: &mut [u8]) -> Reply {
-    match resolve_lists(s, options, out, work) {
+    match resolve_lists(Handed::Old(options), s, out, work) {
         list::call::Answer::Resolved { events } => resolved(events),
         list::call::Answer::Refused(refusal) => Reply::Refused(refusal),
     }

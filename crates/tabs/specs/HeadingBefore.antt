@@ -8,6 +8,7 @@ use mathlib.Core.List.{List}
 use lib.ListN.{drop}
 use Rattle.record.specs.Choice.{choose, and}
 use Rattle.record.specs.Options.{optionOn}
+use Rattle.record.specs.Form.{old}
 use Rattle.record.specs.Outcome.{sized}
 use Rattle.scan.specs.Run.{every}
 use Rattle.scan.specs.Line.{lineOf, reading}
@@ -21,7 +22,7 @@ isHeadingBefore l options = and (optionOn options 8) (opening (drop (indentation
 unfoldable pub headedBefore : List ℕ → ℕ → ℕ → Result
 headedBefore s options outs =
     reading (checkedBefore s options) (λ r. nothing (Refused r))
-    (choose (isHeadingBefore (lineOf s) options) (headed (sized (headingEvents (lineOf s)) outs)) (nothing NotHeading))
+    (choose (isHeadingBefore (lineOf s) options) (headed (sized old (headingEvents (lineOf s)) outs)) (nothing NotHeading))
 
 -- Document 01: "Lines with no tab and starting column 0 answer as they did when a tab was one byte." Proved: proofs/HeadingBefore.antt
 abbrev pub WithoutTabs : Type 0

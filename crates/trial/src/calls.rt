@@ -4,6 +4,7 @@ use crate::say::say_with;
 use crate::section::Written;
 use record::check::Reading;
 use record::check::Refusal;
+use record::form::Handed;
 
 // A refusal by its number and place; a call that refuses writes nothing.
 fn say_refusal(refusal: Refusal) -> Written {
@@ -35,7 +36,7 @@ fn say_good(document: usize, events: usize) -> Written {
 
 // Whether a record is good. The one call that has no output.
 fn call_read(s: &[u8], options: u32, work: &mut [u8]) -> Written {
-    match record::call::read(s, options, work) {
+    match record::call::read(Handed::Old(options), s, work) {
         Reading::Good { document, events } => say_good(document, events),
         Reading::Refused(refusal) => say_refusal(refusal),
     }
@@ -43,7 +44,7 @@ fn call_read(s: &[u8], options: u32, work: &mut [u8]) -> Written {
 
 // The attention resolver, the one with three counts.
 fn call_attention(s: &[u8], options: u32, out: &mut [u8], work: &mut [u8]) -> Written {
-    match attention::call::resolve_attention(s, options, out, work) {
+    match attention::call::resolve_attention(Handed::Old(options), s, out, work) {
         attention::call::Answer::Resolved {
             events,
             groups,
@@ -55,7 +56,7 @@ fn call_attention(s: &[u8], options: u32, out: &mut [u8], work: &mut [u8]) -> Wr
 
 // The heading resolver, which answers how many events there are and nothing more.
 fn call_headings(s: &[u8], options: u32, out: &mut [u8], work: &mut [u8]) -> Written {
-    match heading::resolve::resolve_headings(s, options, out, work) {
+    match heading::resolve::resolve_headings(Handed::Old(options), s, out, work) {
         heading::resolve::Answer::Resolved { events } => say_events(events),
         heading::resolve::Answer::Refused(refusal) => say_refusal(refusal),
     }
@@ -63,7 +64,7 @@ fn call_headings(s: &[u8], options: u32, out: &mut [u8], work: &mut [u8]) -> Wri
 
 // The list resolver, which answers how many events there are and nothing more.
 fn call_lists(s: &[u8], options: u32, out: &mut [u8], work: &mut [u8]) -> Written {
-    match list::call::resolve_lists(s, options, out, work) {
+    match list::call::resolve_lists(Handed::Old(options), s, out, work) {
         list::call::Answer::Resolved { events } => say_events(events),
         list::call::Answer::Refused(refusal) => say_refusal(refusal),
     }

@@ -1,7 +1,7 @@
 -- The loop over a record's events: what is written, with what the events ahead come to, is what the whole comes to; and the runs of the events
 -- ahead are the runs of the record from the next one on.
 -- Assumes nothing.
-use Prim.Native.Nat.{ℕ, zero, suc, _+_, _-_, _*_, _≤_, _<_}
+use Prim.Native.Nat.{ℕ, suc, _+_, _-_, _*_, _≤_, _<_}
 use mathlib.Core.Path.{_≡_, refl, sym, ap, _∙_}
 use mathlib.Core.Bool.{Bool, true, false}
 use mathlib.Core.List.{List, [], _∷_, _++_, append-assoc, append-nil}
@@ -11,9 +11,12 @@ use lib.ListN.{length, getD, drop, length-drop}
 use lib.Seq.{getD-drop, drop-drop}
 use Rattle.record.specs.Choice.{choose}
 use Rattle.record.specs.Bytes.{Wrote, u32At}
-use Rattle.record.specs.Event.{flat, eventAt, eventsAt, documentOf, eventsOf}
+use Rattle.record.specs.Form.{placeIn}
+use Rattle.record.specs.Event.{flat, eventAt, eventsBy, documentIn, eventsIn}
 use Rattle.record.specs.Stack.{after}
 use Rattle.record.specs.declared.event.Event.{Event}
+use Rattle.record.specs.declared.form.Form.{Form}
+use Rattle.record.proofs.Parts.{less, events-cons}
 use Rattle.runs.specs.Runs.{Run, entersRun, runOf, runsFrom, runsOf}
 use Rattle.runs.specs.Plain.{Group}
 use Rattle.runs.specs.Pieces.{remains}
@@ -21,12 +24,6 @@ use Rattle.runs.specs.Output.{leftoverEvents, runEvents, replaced, noRun}
 use Rattle.writing.specs.Put.{Put, Fits}
 use Rattle.writing.specs.Kept.{Slotted, groupsIn, runKept, insteadOf, nextRun, runsIn, writtenOf}
 use Rattle.writing.proofs.Puts.{put-none, put-then, fits-first, fits-then}
-
--- the first of some events, and the others
-events-first : (n m : ℕ) (s : List ℕ) (at : ℕ) → n ≡ m + 1 → eventsAt n s at ≡ eventAt s at ∷ eventsAt m s (at + 8)
-unfolding eventsAt
-events-first zero m s at e = absurd (omega arith)
-events-first (suc n) m s at e = let x : n ≡ m = omega arith in rw x
 
 -- what comes of the first event, and of the others
 replaced-first : (e : Event) (es : List Event) (rs : List Run) (gs : List Group) (q : ℕ) →
@@ -85,38 +82,43 @@ instead-same {w} {runs} {rs} k e gs q h = go (entersRun e) refl
         rw x (events-same gs q (getD rs q noRun) (runKept w q (e .place)) (t .1) (sym (k .size q l)) (sym (k .marker q l)))
     go false x = rw x
 
--- so many events are ahead, the first of them at a place of the record, and the next run is q
-pub record Writing (d₀ s w doc : List ℕ) (n : ℕ) (rs : List Run) (total : List Event) (d : List ℕ) (ahead read to q : ℕ) : Type 0 where
+-- so many events are ahead, `width` bytes apart, the first of them at a place of the record, and the next run is q
+pub record Writing (width : ℕ) (d₀ s w doc : List ℕ) (n : ℕ) (rs : List Run) (total : List Event) (d : List ℕ) (ahead read to q : ℕ) : Type 0 where
   pub written : List Event
   pub number : ℕ
   pub held : List ℕ
-  pub inside : read + 8 * ahead ≤ length s
+  pub inside : read + width * ahead ≤ length s
   pub put : Put d₀ 4 written d to
-  pub whole : total ≡ written ++ replaced (eventsAt ahead s read) rs (groupsIn w n) q
-  pub runs-ahead : runsFrom doc (eventsAt ahead s read) number held ≡ drop q rs
+  pub whole : total ≡ written ++ replaced (eventsBy width ahead s read) rs (groupsIn w n) q
+  pub runs-ahead : runsFrom doc (eventsBy width ahead s read) number held ≡ drop q rs
 
-pub start : (out s w : List ℕ) (d e n : ℕ) → 8 + d + 8 * e ≤ length s →
-    Writing out s w (documentOf s d) n (runsIn s d e) (writtenOf s d e w n) out e (8 + d) 4 0
-unfolding runsOf eventsOf
-start out s w d e n h =
+pub start : (f : Form) (out s w : List ℕ) (d e n : ℕ) → placeIn f d e ≤ length s →
+    Writing (f .width) out s w (documentIn f s d) n (runsIn f s d e) (writtenOf f s d e w n) out e (8 + f .front + d) 4 0
+unfolding runsOf eventsIn
+start f out s w d e n h =
     record { written = []; number = 0; held = []; inside = h; put = put-none out 4; whole = refl; runs-ahead = refl }
 
-module _ {d₀ s w doc : List ℕ} {n : ℕ} {rs : List Run} {total : List Event} {d : List ℕ} {ahead read to q : ℕ}
-    (c : Writing d₀ s w doc n rs total d ahead read to q) (pos : 0 < ahead) {runs : ℕ} (k : Slotted w runs rs) where
+module _ {width : ℕ} {d₀ s w doc : List ℕ} {n : ℕ} {rs : List Run} {total : List Event} {d : List ℕ} {ahead read to q : ℕ}
+    (c : Writing width d₀ s w doc n rs total d ahead read to q) (pos : 0 < ahead) {runs : ℕ} (k : Slotted w runs rs) where
+  -- the next event is whole
+  pub whole-ahead : read + width ≤ length s
+  whole-ahead = omega (arith, c .inside, less width ahead pos)
+
   -- what the next event gives
   abbrev given : List Event
   given = insteadOf (eventAt s read) (groupsIn w n) q (runKept w q (u32At s (read + 4)))
 
   abbrev rest : List Event
-  rest = replaced (eventsAt (ahead - 1) s (read + 8)) rs (groupsIn w n) (nextRun (eventAt s read) q)
+  rest = replaced (eventsBy width (ahead - 1) s (read + width)) rs (groupsIn w n) (nextRun (eventAt s read) q)
 
-  split : eventsAt ahead s read ≡ eventAt s read ∷ eventsAt (ahead - 1) s (read + 8)
-  split = events-first ahead (ahead - 1) s read (omega arith)
+  split : eventsBy width ahead s read ≡ eventAt s read ∷ eventsBy width (ahead - 1) s (read + width)
+  split = events-cons width ahead (ahead - 1) s read (omega arith)
 
   first-run : (entersRun (eventAt s read) ≡ true → (q < length rs) × (getD rs q noRun .start ≡ u32At s (read + 4)))
-      × (runsFrom doc (eventsAt (ahead - 1) s (read + 8)) (c .number + 1) (after (eventAt s read) (c .number) (c .held)) ≡ drop (nextRun (eventAt s read) q) rs)
+      × (runsFrom doc (eventsBy width (ahead - 1) s (read + width)) (c .number + 1) (after (eventAt s read) (c .number) (c .held)) ≡
+      drop (nextRun (eventAt s read) q) rs)
   first-run =
-      runs-first doc (eventAt s read) (eventsAt (ahead - 1) s (read + 8)) (c .number) (c .held) rs q
+      runs-first doc (eventAt s read) (eventsBy width (ahead - 1) s (read + width)) (c .number) (c .held) rs q
       (ap (λ (l : List Event). runsFrom doc l (c .number) (c .held)) (sym split) ∙ c .runs-ahead)
 
   whole-is : total ≡ c .written ++ (given ++ rest)
@@ -124,7 +126,7 @@ module _ {d₀ s w doc : List ℕ} {n : ℕ} {rs : List Run} {total : List Event
       c .whole
       ∙ ap (λ (l : List Event). c .written ++ l)
       (ap (λ (l : List Event). replaced l rs (groupsIn w n) q) split
-      ∙ (replaced-first (eventAt s read) (eventsAt (ahead - 1) s (read + 8)) rs (groupsIn w n) q
+      ∙ (replaced-first (eventAt s read) (eventsBy width (ahead - 1) s (read + width)) rs (groupsIn w n) q
       ∙ ap (λ (l : List Event). l ++ rest) (instead-same k (eventAt s read) (groupsIn w n) q (first-run .0))))
 
   -- what the step asks
@@ -135,23 +137,24 @@ module _ {d₀ s w doc : List ℕ} {n : ℕ} {rs : List Run} {total : List Event
   room h = fits-first (length d) to given rest (fits-then (c .written) (given ++ rest) (c .put) (rw whole-is at h))
 
   -- one event more
-  pub turn : {d′ : List ℕ} {to′ q′ : ℕ} → Put d to given d′ to′ → q′ ≡ nextRun (eventAt s read) q → Writing d₀ s w doc n rs total d′ (ahead - 1) (read + 8) to′ q′
+  pub turn : {d′ : List ℕ} {to′ q′ : ℕ} → Put d to given d′ to′ → q′ ≡ nextRun (eventAt s read) q →
+      Writing width d₀ s w doc n rs total d′ (ahead - 1) (read + width) to′ q′
   turn p e =
       record {
         written = c .written ++ given;
         number = c .number + 1;
         held = after (eventAt s read) (c .number) (c .held);
-        inside = omega (arith, c .inside);
+        inside = omega (arith, c .inside, less width ahead pos);
         put = put-then (c .written) given (c .put) p;
         whole = rw e (whole-is ∙ sym (append-assoc (c .written) given rest));
         runs-ahead = rw e (first-run .1);
       }
 
 -- no event is ahead
-pub ended : {d₀ s w doc : List ℕ} {n : ℕ} {rs : List Run} {total : List Event} {d : List ℕ} {ahead read to q : ℕ} →
-    Writing d₀ s w doc n rs total d ahead read to q → ahead ≤ 0 → Wrote d₀ 4 (flat total) d
-unfolding eventsAt replaced
-ended {d₀} {s} {w} {doc} {n} {rs} {total} {d} {ahead} {read} {to} {q} c h =
+pub ended : {width : ℕ} {d₀ s w doc : List ℕ} {n : ℕ} {rs : List Run} {total : List Event} {d : List ℕ} {ahead read to q : ℕ} →
+    Writing width d₀ s w doc n rs total d ahead read to q → ahead ≤ 0 → Wrote d₀ 4 (flat total) d
+unfolding eventsBy replaced
+ended {width} {d₀} {s} {w} {doc} {n} {rs} {total} {d} {ahead} {read} {to} {q} c h =
     let z : ahead ≡ 0 = omega arith in
     let e : total ≡ c .written ++ [] = rw z at (c .whole) in
     rw (e, append-nil) (c .put .wrote)

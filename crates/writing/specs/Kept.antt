@@ -8,8 +8,9 @@ use lib.Dec.{eqb}
 use mathlib.Core.Option.{none}
 use lib.ListN.{length, getD}
 use Rattle.record.specs.Choice.{choose}
-use Rattle.record.specs.Event.{documentOf, eventsOf}
+use Rattle.record.specs.Event.{documentIn, eventsIn}
 use Rattle.record.specs.declared.event.Event.{Event}
+use Rattle.record.specs.declared.form.Form.{Form}
 use Rattle.runs.specs.Runs.{Run, runsOf, entersRun}
 use Rattle.runs.specs.Plain.{Group, group}
 use Rattle.runs.specs.Pieces.{closings, openings, closed, opened}
@@ -78,9 +79,9 @@ unfoldable pub nextRun : Event → ℕ → ℕ
 nextRun e q = choose (entersRun e) (q + 1) q
 
 -- the runs of a record
-abbrev pub runsIn : List ℕ → ℕ → ℕ → List Run
-runsIn s d e = runsOf (documentOf s d) (eventsOf s d e)
+abbrev pub runsIn : Form → List ℕ → ℕ → ℕ → List Run
+runsIn f s d e = runsOf (documentIn f s d) (eventsIn f s d e)
 
 -- what comes out of a record with these groups
-abbrev pub writtenOf : List ℕ → ℕ → ℕ → List ℕ → ℕ → List Event
-writtenOf s d e w n = replaced (eventsOf s d e) (runsIn s d e) (groupsIn w n) 0
+abbrev pub writtenOf : Form → List ℕ → ℕ → ℕ → List ℕ → ℕ → List Event
+writtenOf f s d e w n = replaced (eventsIn f s d e) (runsIn f s d e) (groupsIn w n) 0

@@ -6,6 +6,7 @@
 
 use record::bytes::u32_at;
 use record::event::put_event;
+use record::form::Form;
 use slots::layout::first_group;
 use slots::layout::group_closer;
 use slots::layout::group_earlier;
@@ -16,9 +17,10 @@ use slots::layout::marker;
 ghost use mathlib.Core.Path.{_≡_};
 ghost use mathlib.Core.Bool.{true};
 ghost use mathlib.Core.List.{[], _∷_};
-ghost use Prim.Native.Nat.{_+_, _*_, _≤_, _<_};
+ghost use Prim.Native.Nat.{_+_, _≤_, _<_};
 ghost use lib.ListN.{length};
 ghost use Rattle.record.specs.Bytes.{Wrote, u32At};
+ghost use Rattle.record.specs.Form.{placeIn};
 ghost use Rattle.record.specs.Event.{flat, eventAt, enter, exit};
 ghost use Rattle.runs.specs.Runs.{entersRun};
 ghost use Rattle.runs.specs.Pieces.{groupName, closed, piece};
@@ -208,28 +210,30 @@ fn put_instead(
     Step { at: to, run: q + 1 }
 }
 
-// The events that come out of a record of d bytes and e events, stored from the output's byte 4 on.
+// The events that come out of a record of d bytes and e events, stored from the output's byte 4 on: read in the record's form, and written side by
+// side, eight bytes to an event, in any.
 pub fn write_events(
     out: &mut [u8],
     s: &[u8],
+    form: Form,
     d: usize,
     e: usize,
     w: &[u8],
     groups: usize,
     runs: usize,
 )
-    requires { ⌜ Kept (now w) groups runs × (Slotted (now w) runs (runsIn (now s) d e) × ((8 + d + 8 * e ≤ length (now s)) × Fits (now out) 4 (writtenOf (now s) d e (now w) groups))) ⌝ }
-    ensures { λ _. ⌜ Wrote (now (out .entry)) 4 (flat (writtenOf (now (s .entry)) d e (now (w .entry)) groups)) (now (out .exit)) ⌝ }
+    requires { ⌜ Kept (now w) groups runs × (Slotted (now w) runs (runsIn form (now s) d e) × ((8 ≤ form .width) × ((placeIn form d e ≤ length (now s)) × Fits (now out) 4 (writtenOf form (now s) d e (now w) groups)))) ⌝ }
+    ensures { λ _. ⌜ Wrote (now (out .entry)) 4 (flat (writtenOf form (now (s .entry)) d e (now (w .entry)) groups)) (now (out .exit)) ⌝ }
 {
     let mut ahead = e;
-    let mut read = 8 + d;
+    let mut read = 8 + form.front + d;
     let mut to = 4;
     let mut q = 0;
     while ahead > 0 {
         let step = put_instead(out, to, s, read, w, groups, runs, q);
         to = step.at;
         q = step.run;
-        read += 8;
+        read += form.width;
         ahead -= 1;
     }
 }

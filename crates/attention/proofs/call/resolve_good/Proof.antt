@@ -1,6 +1,5 @@
 -- `attention::call::resolve_good` meets its contract: each return is a case of the definition.
 -- Assumes nothing.
-use native.Mathlib.Omega.{arith}
 use Rattle.attention.proofs.Calls.{offender-low, offended-call}
 use borrow.Author.Needs.{needs}
 use Rattle.attention.proofs.call.resolve_good.Statement.{statement}
@@ -10,6 +9,7 @@ use Rattle.attention.proofs.call.resolve_good.Lts as lts
 use Rattle.attention.proofs.call.match_runs.Reads as match-runs-reads
 use Rattle.attention.proofs.call.refused.Reads as refused-reads
 use Rattle.loading.proofs.pass.load.Reads as load-reads
+use Rattle.record.proofs.form.place_of.Reads as place-of-reads
 
 load-requires : tie.Need-load-requires
 load-requires c κs = search needs
@@ -17,18 +17,11 @@ load-requires c κs = search needs
 enum-known-k : tie.Need-enum-known-k
 enum-known-k c = search needs
 
-add-refused : tie.Need-add-refused
-add-refused c = search needs
-
-mul-refused : tie.Need-mul-refused
-mul-refused c =
+place-of-requires : tie.Need-place-of-requires
+place-of-requires c κs =
     let k = offender-low (c .before .before .before .before .before .load .ensures) _ (c .before .k .given .1) in
-    omega (arith, c .before .before .before .before .before .before .before .before .before .before .pre)
-
-add-refused-2 : tie.Need-add-refused-2
-add-refused-2 c =
-    let k = offender-low (c .before .before .before .before .before .load .ensures) _ (c .before .k .given .1) in
-    omega (arith, c .before .before .before .before .before .before .before .before .before .before .pre)
+    let g = c .before .before .before .before .before .before .before .before .before .before .pre .0 in
+    search needs
 
 refused-requires : tie.Need-refused-requires
 refused-requires c κs = search needs
@@ -37,7 +30,7 @@ same-length : tie.Need-same-length
 same-length c = search needs
 
 returns : tie.Need-returns
-returns c = offended-call (c .before .before .before .before .before .before .load .ensures) _ (c .before .before .k .given .1) _ _ (c .refused .ensures)
+returns c = offended-call (c .before .before .before .before .before .before .before .load .ensures) _ _ (c .before .before .before .k .given .1) (c .before .place-of .ensures) _ _ (c .refused .ensures)
 
 enum-known-n : tie.Need-enum-known-n
 enum-known-n c = search needs
@@ -60,9 +53,7 @@ resolve-good-spec =
     (tie.spec
     load-requires
     enum-known-k
-    add-refused
-    mul-refused
-    add-refused-2
+    place-of-requires
     refused-requires
     same-length
     returns

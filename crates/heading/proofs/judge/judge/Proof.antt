@@ -4,25 +4,26 @@
 use mathlib.Core.Path.{sym, _∙_}
 use Prim.Native.Nat.{_-_}
 use borrow.Author.Tests.{not-true, not-false}
+use Rattle.heading.proofs.Lists.{front-room, next-room}
 use Rattle.heading.proofs.Passes.{Judging, judging-start, judging-other, judging-refused, judging-heading, judging-done}
 use borrow.Author.Needs.{needs}
 use Rattle.heading.proofs.judge.judge.Statement.{statement}
 use Rattle.heading.proofs.judge.judge.Tie as tie
 
 abbrev Inv-loop : tie.InvT-loop
-Inv-loop s from e at₀ i₀ size₀ at i size = Judging s from e at i size
+Inv-loop s from width e at₀ i₀ size₀ at i size = Judging s from width e at i size
 
 abbrev μ-loop : tie.MeasureT-loop
-μ-loop s from e at₀ i₀ size₀ at i size = e - i
+μ-loop s from width e at₀ i₀ size₀ at i size = e - i
 
 loop-holds : tie.Need-loop-holds Inv-loop μ-loop
-loop-holds c = judging-start _ _ _
+loop-holds c = judging-start _ _ _ _
 
 is-of-requires : tie.Need-is-of-requires Inv-loop μ-loop
-is-of-requires c κs = search needs
+is-of-requires c κs = let h = next-room _ _ _ _ _ (c .before .before .before .pre .2) (c .loop-test .taken) in search needs
 
 add-at : tie.Need-add-at Inv-loop μ-loop
-add-at c = search needs
+add-at c = let h = next-room _ _ _ _ _ (c .before .before .before .before .before .pre .2) (c .before .before .loop-test .taken) in search needs
 
 add-i : tie.Need-add-i Inv-loop μ-loop
 add-i c = search needs
@@ -37,7 +38,7 @@ loop-again : tie.Need-loop-again Inv-loop μ-loop
 loop-again c = judging-other (c .before .before .before .loop .inv) (c .before .before .loop-test .taken) (sym (c .before .is-of .ensures) ∙ not-true (c .before .is-of .result) (c .if1 .taken))
 
 add-inside : tie.Need-add-inside Inv-loop μ-loop
-add-inside c = search needs
+add-inside c = let h = next-room _ _ _ _ _ (c .before .before .before .before .before .pre .2) (c .before .before .loop-test .taken) in search needs
 
 sub-before-first : tie.Need-sub-before-first Inv-loop μ-loop
 sub-before-first c = search needs
@@ -46,10 +47,10 @@ sub-before-first-2 : tie.Need-sub-before-first-2 Inv-loop μ-loop
 sub-before-first-2 c = search needs
 
 before-first-requires : tie.Need-before-first-requires Inv-loop μ-loop
-before-first-requires c κs = search needs
+before-first-requires c κs = let h = next-room _ _ _ _ _ (c .before .before .before .before .before .pre .2) (c .before .before .loop-test .taken) in search needs
 
 is-shaped-requires : tie.Need-is-shaped-requires Inv-loop μ-loop
-is-shaped-requires c κs = search needs
+is-shaped-requires c κs = let h = front-room _ _ _ _ _ (next-room _ _ _ _ _ (c .before .before .before .before .before .before .pre .2) (c .before .before .before .loop-test .taken)) (c .before-first .ensures .1) in search needs
 
 returns : tie.Need-returns Inv-loop μ-loop
 returns c = judging-refused (c .before .before .before .before .before .before .loop .inv) (c .before .before .before .before .before .loop-test .taken) _ (sym (c .before .before .before .before .is-of .ensures) ∙ not-false (c .before .before .before .before .is-of .result) (c .before .before .before .if1 .left)) (c .before .before .before-first .ensures .0) (c .before .before .before-first .ensures .1) (sym (c .before .is-shaped .ensures) ∙ not-true (c .before .is-shaped .result) (c .if2 .taken))
@@ -57,7 +58,7 @@ returns c = judging-refused (c .before .before .before .before .before .before .
 inner-size-requires : tie.Need-inner-size-requires Inv-loop μ-loop
 inner-size-requires c κs =
     let q = sym (c .before .is-shaped .ensures) ∙ not-false (c .before .is-shaped .result) (c .if2 .left) in
-    search needs
+    let h = front-room _ _ _ _ _ (next-room _ _ _ _ _ (c .before .before .before .before .before .before .before .before .pre .2) (c .before .before .before .before .before .loop-test .taken)) (c .before .before .before-first .ensures .1) in search needs
 
 add-size-2 : tie.Need-add-size-2 Inv-loop μ-loop
 add-size-2 c = search needs
@@ -66,10 +67,10 @@ add-size-3 : tie.Need-add-size-3 Inv-loop μ-loop
 add-size-3 c = search needs
 
 mul-at : tie.Need-mul-at Inv-loop μ-loop
-mul-at c = search needs
+mul-at c = let h = front-room _ _ _ _ _ (next-room _ _ _ _ _ (c .before .before .before .before .before .before .before .before .before .pre .2) (c .before .before .before .before .before .before .loop-test .taken)) (c .before .before .before .before-first .ensures .1) in search needs
 
 add-at-2 : tie.Need-add-at-2 Inv-loop μ-loop
-add-at-2 c = search needs
+add-at-2 c = let h = front-room _ _ _ _ _ (next-room _ _ _ _ _ (c .before .before .before .before .before .before .before .before .before .pre .2) (c .before .before .before .before .before .before .loop-test .taken)) (c .before .before .before .before-first .ensures .1) in search needs
 
 add-i-2 : tie.Need-add-i-2 Inv-loop μ-loop
 add-i-2 c = search needs

@@ -3,6 +3,7 @@
 -- Assumes nothing.
 use Prim.Native.Nat.{_-_}
 use mathlib.Core.Path.{sym, _∙_}
+use Rattle.record.proofs.Parts.{event-room}
 use Rattle.heading.specs.Steps.{soughtBy}
 use Rattle.heading.proofs.Seeking.{Onward, onward-start, onward-found, onward-turn, onward-none}
 use borrow.Author.Needs.{needs}
@@ -10,22 +11,22 @@ use Rattle.heading.proofs.seek.before_first.Statement.{statement}
 use Rattle.heading.proofs.seek.before_first.Tie as tie
 
 abbrev Inv-loop : tie.InvT-loop
-Inv-loop s from n what at₀ i₀ at i = Onward s from n (soughtBy what) at i
+Inv-loop s from width n what at₀ i₀ at i = Onward s from width n (soughtBy what) at i
 
 abbrev μ-loop : tie.MeasureT-loop
-μ-loop s from n what at₀ i₀ at i = n - i
+μ-loop s from width n what at₀ i₀ at i = n - i
 
 loop-holds : tie.Need-loop-holds Inv-loop μ-loop
-loop-holds c = onward-start _ _ _ _
+loop-holds c = onward-start _ _ _ _ _
 
 is-sought-requires : tie.Need-is-sought-requires Inv-loop μ-loop
-is-sought-requires c κs = search needs
+is-sought-requires c κs = let h = event-room _ _ _ _ _ (c .before .before .before .pre .1) (c .loop-test .taken) in search needs
 
 returns : tie.Need-returns Inv-loop μ-loop
 returns c = onward-found (c .before .before .before .loop .inv) (c .before .before .loop-test .taken) (sym (c .before .is-sought .ensures) ∙ c .if1 .taken)
 
 add-at : tie.Need-add-at Inv-loop μ-loop
-add-at c = search needs
+add-at c = let h = event-room _ _ _ _ _ (c .before .before .before .before .before .pre .1) (c .before .before .loop-test .taken) in search needs
 
 add-i : tie.Need-add-i Inv-loop μ-loop
 add-i c = search needs

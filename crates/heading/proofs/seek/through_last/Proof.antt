@@ -3,16 +3,16 @@
 -- Assumes nothing.
 use mathlib.Core.Path.{sym, _∙_}
 use Rattle.heading.specs.Steps.{soughtBy}
-use Rattle.heading.proofs.Seeking.{Backward, backward-start, backward-found, backward-turn, backward-none}
+use Rattle.heading.proofs.Seeking.{Backward, backward-start, backward-room, backward-found, backward-turn, backward-none}
 use borrow.Author.Needs.{needs}
 use Rattle.heading.proofs.seek.through_last.Statement.{statement}
 use Rattle.heading.proofs.seek.through_last.Tie as tie
 
 abbrev Inv-loop : tie.InvT-loop
-Inv-loop s from n what end₀ left₀ end left = Backward s from n (soughtBy what) end left
+Inv-loop s from width n what end₀ left₀ end left = Backward s from width n (soughtBy what) end left
 
 abbrev μ-loop : tie.MeasureT-loop
-μ-loop s from n what end₀ left₀ end left = left
+μ-loop s from width n what end₀ left₀ end left = left
 
 mul-end : tie.Need-mul-end Inv-loop μ-loop
 mul-end c = search needs
@@ -21,19 +21,19 @@ add-end : tie.Need-add-end Inv-loop μ-loop
 add-end c = search needs
 
 loop-holds : tie.Need-loop-holds Inv-loop μ-loop
-loop-holds c = backward-start _ _ _ _
+loop-holds c = backward-start _ _ _ _ _
 
 sub-is-sought : tie.Need-sub-is-sought Inv-loop μ-loop
-sub-is-sought c = search needs
+sub-is-sought c = let h = backward-room (c .before .loop .inv) (c .loop-test .taken) (c .before .before .before .pre .1) in search needs
 
 is-sought-requires : tie.Need-is-sought-requires Inv-loop μ-loop
-is-sought-requires c κs = search needs
+is-sought-requires c κs = let h = backward-room (c .before .loop .inv) (c .loop-test .taken) (c .before .before .before .pre .1) in search needs
 
 returns : tie.Need-returns Inv-loop μ-loop
 returns c = backward-found (c .before .before .before .loop .inv) (c .before .before .loop-test .taken) (sym (c .before .is-sought .ensures) ∙ c .if1 .taken)
 
 sub-end : tie.Need-sub-end Inv-loop μ-loop
-sub-end c = search needs
+sub-end c = let h = backward-room (c .before .before .before .loop .inv) (c .before .before .loop-test .taken) (c .before .before .before .before .before .pre .1) in search needs
 
 sub-left : tie.Need-sub-left Inv-loop μ-loop
 sub-left c = search needs

@@ -11,7 +11,7 @@ text-of-requires : tie.Need-text-of-requires
 text-of-requires c κs = search needs
 
 returns : tie.Need-returns
-returns c = (sym (length-unchanged _ _ _ _ _ (c .before .text-of .ensures) (c .if1 .taken)), omega arith)
+returns c = (sym (length-unchanged _ _ _ _ _ _ (c .before .text-of .ensures) (c .if1 .taken)), omega arith)
 
 add-result : tie.Need-add-result
 add-result c = search needs
@@ -23,7 +23,7 @@ add-result-2 : tie.Need-add-result-2
 add-result-2 c = search needs
 
 returns-2 : tie.Need-returns-2
-returns-2 c = (sym (length-text _ _ _ _ _ (c .before .text-of .ensures) (c .if1 .left)), omega arith)
+returns-2 c = (sym (length-text _ _ _ _ _ _ (c .before .text-of .ensures) (c .if1 .left)), omega arith)
 
 pub inner-size-spec : {M : Type 1} → statement M
 inner-size-spec =

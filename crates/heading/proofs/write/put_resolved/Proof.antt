@@ -4,30 +4,31 @@
 use mathlib.Core.Path.{sym, _∙_}
 use Prim.Native.Nat.{_-_}
 use borrow.Author.Tests.{not-true, not-false}
+use Rattle.heading.proofs.Lists.{front-room, next-room}
 use Rattle.heading.proofs.Passes.{Writing, writing-start, writing-fits, writing-other, writing-shaped, writing-room, writing-heading, writing-done}
 use borrow.Author.Needs.{needs}
 use Rattle.heading.proofs.write.put_resolved.Statement.{statement}
 use Rattle.heading.proofs.write.put_resolved.Tie as tie
 
 abbrev Inv-loop : tie.InvT-loop
-Inv-loop out₀ to s from e next₀ at₀ i₀ out next at i = Writing s from e out₀ to at i out next
+Inv-loop out₀ to s from width e next₀ at₀ i₀ out next at i = Writing s from width e out₀ to at i out next
 
 abbrev μ-loop : tie.MeasureT-loop
-μ-loop out₀ to s from e next₀ at₀ i₀ out next at i = e - i
+μ-loop out₀ to s from width e next₀ at₀ i₀ out next at i = e - i
 
 loop-holds : tie.Need-loop-holds Inv-loop μ-loop
-loop-holds c = writing-start _ _ _ _ _ (c .before .before .pre .0)
+loop-holds c = writing-start _ _ _ _ _ _ (c .before .before .pre .1)
 
 copy-events-requires : tie.Need-copy-events-requires Inv-loop μ-loop
 copy-events-requires c κs =
     let f = writing-fits (c .before .before .loop .inv) (c .before .loop-test .taken) in
-    search needs
+    let h = next-room _ _ _ _ _ (c .before .before .before .before .before .pre .3) (c .before .loop-test .taken) in search needs
 
 add-next : tie.Need-add-next Inv-loop μ-loop
 add-next c = search needs
 
 add-inside : tie.Need-add-inside Inv-loop μ-loop
-add-inside c = search needs
+add-inside c = let h = next-room _ _ _ _ _ (c .before .before .before .before .before .before .before .before .pre .3) (c .before .before .before .before .loop-test .taken) in search needs
 
 sub-left : tie.Need-sub-left Inv-loop μ-loop
 sub-left c = search needs
@@ -36,7 +37,7 @@ sub-left-2 : tie.Need-sub-left-2 Inv-loop μ-loop
 sub-left-2 c = search needs
 
 is-of-requires : tie.Need-is-of-requires Inv-loop μ-loop
-is-of-requires c κs = search needs
+is-of-requires c κs = let h = next-room _ _ _ _ _ (c .before .before .before .before .before .before .before .before .pre .3) (c .before .before .before .before .loop-test .taken) in search needs
 
 add-i : tie.Need-add-i Inv-loop μ-loop
 add-i c = search needs
@@ -48,7 +49,7 @@ loop-again : tie.Need-loop-again Inv-loop μ-loop
 loop-again c = writing-other (c .before .before .before .before .before .before .before .loop .inv) (c .before .before .before .before .before .before .loop-test .taken) (sym (c .before .is-of .ensures) ∙ not-true (c .before .is-of .result) (c .if1 .taken)) (c .before .before .before .before .copy-events .ensures)
 
 before-first-requires : tie.Need-before-first-requires Inv-loop μ-loop
-before-first-requires c κs = search needs
+before-first-requires c κs = let h = next-room _ _ _ _ _ (c .before .before .before .before .before .before .before .before .before .before .pre .3) (c .before .before .before .before .before .before .loop-test .taken) in search needs
 
 put-inner-requires : tie.Need-put-inner-requires Inv-loop μ-loop
 put-inner-requires c κs =
@@ -59,13 +60,14 @@ put-inner-requires c κs =
     let ln = c .before .before-first .ensures .1 in
     let room = writing-room v l _ q en ln in
     let all = writing-shaped v l _ q en ln in
+    let h = front-room _ _ _ _ _ (next-room _ _ _ _ _ (c .before .before .before .before .before .before .before .before .before .before .before .before .pre .3) l) ln in
     search needs
 
 mul-at : tie.Need-mul-at Inv-loop μ-loop
-mul-at c = search needs
+mul-at c = let h = front-room _ _ _ _ _ (next-room _ _ _ _ _ (c .before .before .before .before .before .before .before .before .before .before .before .before .before .before .before .pre .3) (c .before .before .before .before .before .before .before .before .before .before .before .loop-test .taken)) (c .before .before .before .before .before-first .ensures .1) in search needs
 
 add-at : tie.Need-add-at Inv-loop μ-loop
-add-at c = search needs
+add-at c = let h = front-room _ _ _ _ _ (next-room _ _ _ _ _ (c .before .before .before .before .before .before .before .before .before .before .before .before .before .before .before .pre .3) (c .before .before .before .before .before .before .before .before .before .before .before .loop-test .taken)) (c .before .before .before .before .before-first .ensures .1) in search needs
 
 add-i-2 : tie.Need-add-i-2 Inv-loop μ-loop
 add-i-2 c = search needs

@@ -4,7 +4,8 @@
 use mathlib.Core.Path.{_≡_, refl}
 use Prim.Native.Nat.{_-_}
 use lib.ListN.{length}
-use Rattle.record.specs.Event.{documentOf}
+use Rattle.record.specs.Event.{documentIn}
+use Rattle.list.proofs.Onward.{lies}
 use Rattle.list.proofs.Notings.{Noting, start, finished, other, room-inside, right-behind, broken, entered, some-open, left-one}
 use borrow.Author.Needs.{needs}
 use Rattle.list.proofs.chain.note_lists.Statement.{statement}
@@ -15,30 +16,25 @@ use Rattle.list.proofs.chain.more.Reads as more-reads
 use Rattle.list.proofs.chain.next_mark.Reads as next-mark-reads
 use Rattle.list.proofs.chain.unless_joined.Reads as unless-joined-reads
 use Rattle.list.proofs.item.item_mark.Reads as item-mark-reads
+use Rattle.record.proofs.form.place_of.Reads as place-of-reads
 
 abbrev Inv-loop : tie.InvT-loop
-Inv-loop s d e work₀ held₀ joined₀ behind₀ count₀ i₀ work held joined behind count i = (length work ≡ length work₀) × Noting (documentOf s d) s d e work (held .marks) (held .open) joined behind count i
+Inv-loop s f d e work₀ held₀ joined₀ behind₀ count₀ i₀ work held joined behind count i = (length work ≡ length work₀) × Noting (documentIn f s d) f s d e work (held .marks) (held .open) joined behind count i
 
 abbrev μ-loop : tie.MeasureT-loop
-μ-loop s d e work₀ held₀ joined₀ behind₀ count₀ i₀ work held joined behind count i = e - i
+μ-loop s f d e work₀ held₀ joined₀ behind₀ count₀ i₀ work held joined behind count i = e - i
 
 loop-holds : tie.Need-loop-holds Inv-loop μ-loop
-loop-holds c = (refl, start _ _ _ _ _ (c .before .before .pre .0) (c .before .before .pre .1) refl)
+loop-holds c = (refl, start _ _ _ _ _ _ (c .before .before .pre .0) (c .before .before .pre .1) refl)
 
-add-at : tie.Need-add-at Inv-loop μ-loop
-add-at c = search needs
-
-mul-at : tie.Need-mul-at Inv-loop μ-loop
-mul-at c = search needs
-
-add-at-2 : tie.Need-add-at-2 Inv-loop μ-loop
-add-at-2 c = search needs
+place-of-requires : tie.Need-place-of-requires Inv-loop μ-loop
+place-of-requires c κs = (c .before .before .before .before .pre .0 .known, c .before .before .before .before .pre .0 .small, search needs)
 
 add-if1 : tie.Need-add-if1 Inv-loop μ-loop
-add-if1 c = search needs
+add-if1 c = let l = lies _ _ _ _ _ (c .before .loop-test .taken) _ (c .place-of .ensures) (c .before .before .before .before .before .pre .0) in search needs
 
 shared-slice-read-if1 : tie.Need-shared-slice-read-if1 Inv-loop μ-loop
-shared-slice-read-if1 c = search needs
+shared-slice-read-if1 c = let l = lies _ _ _ _ _ (c .before .before .loop-test .taken) _ (c .before .place-of .ensures) (c .before .before .before .before .before .before .pre .0) in search needs
 
 slice-write-work : tie.Need-slice-write-work Inv-loop μ-loop
 slice-write-work c = search needs
@@ -50,16 +46,16 @@ loop-less : tie.Need-loop-less Inv-loop μ-loop
 loop-less c = search needs
 
 loop-again : tie.Need-loop-again Inv-loop μ-loop
-loop-again c = (search needs, other (c .before .before .before .loop .inv .1) (c .before .before .loop-test .taken) (c .if1 .taken) (c .before .before .before .loop .inv .1 .room) (c .before .before .before .before .before .before .pre .0 .few))
+loop-again c = (search needs, other (c .before .before .before .before .loop .inv .1) (c .before .before .before .loop-test .taken) _ (c .before .before .place-of .ensures) (c .if1 .taken) (c .before .before .before .before .loop .inv .1 .room) (c .before .before .before .before .before .before .before .pre .0 .few))
 
 shared-slice-read-if2 : tie.Need-shared-slice-read-if2 Inv-loop μ-loop
-shared-slice-read-if2 c = search needs
+shared-slice-read-if2 c = let l = lies _ _ _ _ _ (c .before .before .before .before .loop-test .taken) _ (c .before .before .before .place-of .ensures) (c .before .before .before .before .before .before .before .before .pre .0) in search needs
 
 same-length : tie.Need-same-length Inv-loop μ-loop
 same-length c = search needs
 
 returns : tie.Need-returns Inv-loop μ-loop
-returns c = right-behind (c .before .before .before .before .before .before .loop .inv .1) (c .before .before .before .before .before .loop-test .taken) (c .before .before .before .if1 .left) (c .before .if2 .taken) (c .if3 .taken)
+returns c = right-behind (c .before .before .before .before .before .before .before .loop .inv .1) (c .before .before .before .before .before .before .loop-test .taken) _ (c .before .before .before .before .before .place-of .ensures) (c .before .before .before .if1 .left) (c .before .if2 .taken) (c .if3 .taken)
 
 add-item-mark : tie.Need-add-item-mark Inv-loop μ-loop
 add-item-mark c = search needs
@@ -71,7 +67,7 @@ same-length-2 : tie.Need-same-length-2 Inv-loop μ-loop
 same-length-2 c = search needs
 
 returns-2 : tie.Need-returns-2 Inv-loop μ-loop
-returns-2 c = broken (c .before .before .before .before .before .before .before .before .loop .inv .1) (c .before .before .before .before .before .before .before .loop-test .taken) (c .before .before .before .before .before .if1 .left) (c .before .before .before .if2 .taken) (c .before .before .if3 .left) _ (c .before .item-mark .ensures) (c .if4 .taken)
+returns-2 c = broken (c .before .before .before .before .before .before .before .before .before .loop .inv .1) (c .before .before .before .before .before .before .before .before .loop-test .taken) _ (c .before .before .before .before .before .before .before .place-of .ensures) (c .before .before .before .before .before .if1 .left) (c .before .before .before .if2 .taken) (c .before .before .if3 .left) _ (c .before .item-mark .ensures) (c .if4 .taken)
 
 unless-joined-requires : tie.Need-unless-joined-requires Inv-loop μ-loop
 unless-joined-requires c κs = search needs
@@ -86,10 +82,10 @@ add-count : tie.Need-add-count Inv-loop μ-loop
 add-count c = search needs
 
 element-write-held : tie.Need-element-write-held Inv-loop μ-loop
-element-write-held c = let l = room-inside (c .before .before .before .before .before .before .before .before .before .before .loop .inv .1) (c .before .before .before .before .before .before .before .before .before .loop-test .taken) (c .before .before .before .before .before .before .before .if1 .left) (c .before .before .before .before .before .if2 .taken) in search needs
+element-write-held c = let l = room-inside (c .before .before .before .before .before .before .before .before .before .before .before .loop .inv .1) (c .before .before .before .before .before .before .before .before .before .before .loop-test .taken) _ (c .before .before .before .before .before .before .before .before .before .place-of .ensures) (c .before .before .before .before .before .before .before .if1 .left) (c .before .before .before .before .before .if2 .taken) in search needs
 
 add-held : tie.Need-add-held Inv-loop μ-loop
-add-held c = let l = room-inside (c .before .before .before .before .before .before .before .before .before .before .loop .inv .1) (c .before .before .before .before .before .before .before .before .before .loop-test .taken) (c .before .before .before .before .before .before .before .if1 .left) (c .before .before .before .before .before .if2 .taken) in search needs
+add-held c = let l = room-inside (c .before .before .before .before .before .before .before .before .before .before .before .loop .inv .1) (c .before .before .before .before .before .before .before .before .before .before .loop-test .taken) _ (c .before .before .before .before .before .before .before .before .before .place-of .ensures) (c .before .before .before .before .before .before .before .if1 .left) (c .before .before .before .before .before .if2 .taken) in search needs
 
 add-i-2 : tie.Need-add-i-2 Inv-loop μ-loop
 add-i-2 c = search needs
@@ -98,13 +94,13 @@ loop-less-2 : tie.Need-loop-less-2 Inv-loop μ-loop
 loop-less-2 c = search needs
 
 loop-again-2 : tie.Need-loop-again-2 Inv-loop μ-loop
-loop-again-2 c = (search needs, entered (c .before .before .before .before .before .before .before .before .before .before .loop .inv .1) (c .before .before .before .before .before .before .before .before .before .loop-test .taken) (c .before .before .before .before .before .before .before .if1 .left) (c .before .before .before .before .before .if2 .taken) (c .before .before .before .before .if3 .left) _ (c .before .before .before .item-mark .ensures) (c .before .before .if4 .left) (c .before .before .before .before .before .before .before .before .before .before .loop .inv .1 .room) (c .before .before .before .before .before .before .before .before .before .before .before .before .before .pre .0 .few) _ _ (c .before .unless-joined .ensures) (c .more .ensures .0) (c .more .ensures .1))
+loop-again-2 c = (search needs, entered (c .before .before .before .before .before .before .before .before .before .before .before .loop .inv .1) (c .before .before .before .before .before .before .before .before .before .before .loop-test .taken) _ (c .before .before .before .before .before .before .before .before .before .place-of .ensures) (c .before .before .before .before .before .before .before .if1 .left) (c .before .before .before .before .before .if2 .taken) (c .before .before .before .before .if3 .left) _ (c .before .before .before .item-mark .ensures) (c .before .before .if4 .left) (c .before .before .before .before .before .before .before .before .before .before .before .loop .inv .1 .room) (c .before .before .before .before .before .before .before .before .before .before .before .before .before .before .pre .0 .few) _ _ (c .before .unless-joined .ensures) (c .more .ensures .0) (c .more .ensures .1))
 
 sub-top : tie.Need-sub-top Inv-loop μ-loop
-sub-top c = let l = some-open (c .before .before .before .before .before .loop .inv .1) (c .before .before .before .before .loop-test .taken) (c .before .before .if1 .left) (c .if2 .left) in search needs
+sub-top c = let l = some-open (c .before .before .before .before .before .before .loop .inv .1) (c .before .before .before .before .before .loop-test .taken) _ (c .before .before .before .before .place-of .ensures) (c .before .before .if1 .left) (c .if2 .left) in search needs
 
 element-copy-out-mark : tie.Need-element-copy-out-mark Inv-loop μ-loop
-element-copy-out-mark c = let l = some-open (c .before .before .before .before .before .loop .inv .1) (c .before .before .before .before .loop-test .taken) (c .before .before .if1 .left) (c .if2 .left) in search needs
+element-copy-out-mark c = let l = some-open (c .before .before .before .before .before .before .loop .inv .1) (c .before .before .before .before .before .loop-test .taken) _ (c .before .before .before .before .place-of .ensures) (c .before .before .if1 .left) (c .if2 .left) in search needs
 
 add-next-mark : tie.Need-add-next-mark Inv-loop μ-loop
 add-next-mark c = search needs
@@ -131,7 +127,7 @@ loop-less-3 : tie.Need-loop-less-3 Inv-loop μ-loop
 loop-less-3 c = search needs
 
 loop-again-3 : tie.Need-loop-again-3 Inv-loop μ-loop
-loop-again-3 c = (search needs, left-one (c .before .before .before .before .before .before .before .before .before .loop .inv .1) (c .before .before .before .before .before .before .before .before .loop-test .taken) (c .before .before .before .before .before .before .if1 .left) (c .before .before .before .before .if2 .left) (c .before .before .before .before .before .before .before .before .before .loop .inv .1 .room) (c .before .before .before .before .before .before .before .before .before .before .before .before .pre .0 .few) _ _ refl (c .before .before .next-mark .ensures) _ _ (c .before .unless-joined2 .ensures) (c .more2 .ensures .0) (c .more2 .ensures .1))
+loop-again-3 c = (search needs, left-one (c .before .before .before .before .before .before .before .before .before .before .loop .inv .1) (c .before .before .before .before .before .before .before .before .before .loop-test .taken) _ (c .before .before .before .before .before .before .before .before .place-of .ensures) (c .before .before .before .before .before .before .if1 .left) (c .before .before .before .before .if2 .left) (c .before .before .before .before .before .before .before .before .before .before .loop .inv .1 .room) (c .before .before .before .before .before .before .before .before .before .before .before .before .before .pre .0 .few) _ _ refl (c .before .before .next-mark .ensures) _ _ (c .before .unless-joined2 .ensures) (c .more2 .ensures .0) (c .more2 .ensures .1))
 
 same-length-3 : tie.Need-same-length-3 Inv-loop μ-loop
 same-length-3 c = search needs
@@ -146,9 +142,7 @@ note-lists-spec =
     Inv-loop
     μ-loop
     loop-holds
-    add-at
-    mul-at
-    add-at-2
+    place-of-requires
     add-if1
     shared-slice-read-if1
     slice-write-work

@@ -2,29 +2,39 @@
 -- Assumes nothing.
 use borrow.Author.Tests.{not-true, not-false}
 use mathlib.Core.Path.{sym, _∙_}
-use Rattle.list.proofs.Onward.{onward-tail}
-use Rattle.list.proofs.Shapes.{no-enter, by-exit}
+use Rattle.list.proofs.Shapes.{no-pair, no-enter, by-exit, both-lie}
 use borrow.Author.Needs.{needs}
 use Rattle.list.proofs.item.leaf.Statement.{statement}
 use Rattle.list.proofs.item.leaf.Tie as tie
 use Rattle.list.proofs.item.leaf.Reads as reads
 use Rattle.list.proofs.item.leaf.Lts as lts
-use Rattle.list.proofs.item.stands.Reads as stands-reads
-
-stands-requires : tie.Need-stands-requires
-stands-requires c κs = search needs
+use Rattle.list.proofs.item.has.Reads as has-reads
 
 returns : tie.Need-returns
-returns c = no-enter _ _ (sym (c .before .stands .ensures) ∙ not-true (c .before .stands .result) (c .if1 .taken))
+returns c = no-pair _ _ _ _ (c .if1 .taken)
 
-add-stands : tie.Need-add-stands
-add-stands c = search needs
-
-stands-requires-2 : tie.Need-stands-requires-2
-stands-requires-2 c κs = search needs
+has-requires : tie.Need-has-requires
+has-requires c κs = let l = both-lie (c .before .before .before .pre) (c .if1 .left) in search needs
 
 returns-2 : tie.Need-returns-2
-returns-2 c = c .stands2 .ensures ∙ by-exit _ _ _ (sym (c .before .before .stands .ensures) ∙ not-false (c .before .before .stands .result) (c .before .if1 .left)) (onward-tail _ _ _ _)
+returns-2 c = no-enter _ _ _ _ (c .before .before .if1 .left) (sym (c .before .has .ensures) ∙ not-true (c .before .has .result) (c .if2 .taken))
+
+add-has : tie.Need-add-has
+add-has c = let l = both-lie (c .before .before .before .before .before .before .before .pre) (c .before .before .before .before .if1 .left) in search needs
+
+has-requires-2 : tie.Need-has-requires-2
+has-requires-2 c κs = let l = both-lie (c .before .before .before .before .before .before .before .pre) (c .before .before .before .before .if1 .left) in search needs
+
+returns-3 : tie.Need-returns-3
+returns-3 c = c .has2 .ensures ∙ by-exit _ _ _ _ (c .before .before .before .before .before .if1 .left) (sym (c .before .before .before .before .has .ensures) ∙ not-false (c .before .before .before .before .has .result) (c .before .before .before .if2 .left))
 
 pub leaf-spec : {M : Type 1} → statement M
-leaf-spec = tie.close (tie.spec stands-requires returns add-stands stands-requires-2 returns-2)
+leaf-spec =
+    tie.close
+    (tie.spec
+    returns
+    has-requires
+    returns-2
+    add-has
+    has-requires-2
+    returns-3)

@@ -4,6 +4,7 @@
 use mathlib.Core.Path.{_≡_, refl}
 use Prim.Native.Nat.{_-_}
 use lib.ListN.{length}
+use Rattle.list.proofs.Onward.{lies}
 use Rattle.list.proofs.Written.{Writing, start, room-next, turn, finished}
 use borrow.Author.Needs.{needs}
 use Rattle.list.proofs.write.write_lists.Statement.{statement}
@@ -13,48 +14,43 @@ use Rattle.list.proofs.write.write_lists.Lts as lts
 use Rattle.list.proofs.write.put_noted.Reads as put-noted-reads
 use Rattle.record.proofs.bytes.put_u32.Reads as put-u32-reads
 use Rattle.record.proofs.bytes.u32_at.Reads as u32-at-reads
+use Rattle.record.proofs.form.place_of.Reads as place-of-reads
 
 abbrev Inv-loop : tie.InvT-loop
-Inv-loop out₀ s d e work count to₀ i₀ out to i = (length out ≡ length out₀) × Writing s d e work out₀ count out to i
+Inv-loop out₀ s f d e work count to₀ i₀ out to i = (length out ≡ length out₀) × Writing f s d e work out₀ count out to i
 
 abbrev μ-loop : tie.MeasureT-loop
-μ-loop out₀ s d e work count to₀ i₀ out to i = e - i
+μ-loop out₀ s f d e work count to₀ i₀ out to i = e - i
 
 put-u32-requires : tie.Need-put-u32-requires Inv-loop μ-loop
 put-u32-requires c κs = search needs
 
 loop-holds : tie.Need-loop-holds Inv-loop μ-loop
-loop-holds c = (refl, start _ _ _ _ _ _ (c .before .before .before .before .before .before .before .pre .2))
+loop-holds c = (refl, start _ _ _ _ _ _ _ (c .before .before .before .before .before .before .before .pre .2))
 
-add-at : tie.Need-add-at Inv-loop μ-loop
-add-at c = search needs
-
-mul-at : tie.Need-mul-at Inv-loop μ-loop
-mul-at c = search needs
-
-add-at-2 : tie.Need-add-at-2 Inv-loop μ-loop
-add-at-2 c = search needs
+place-of-requires : tie.Need-place-of-requires Inv-loop μ-loop
+place-of-requires c κs = (c .before .before .before .before .before .before .before .before .before .pre .0 .known, c .before .before .before .before .before .before .before .before .before .pre .0 .small, search needs)
 
 shared-slice-read-put-noted : tie.Need-shared-slice-read-put-noted Inv-loop μ-loop
-shared-slice-read-put-noted c = search needs
+shared-slice-read-put-noted c = let l = lies _ _ _ _ _ (c .before .before .before .loop-test .taken) _ (c .before .before .place-of .ensures) (c .before .before .before .before .before .before .before .before .before .before .before .before .pre .0) in search needs
 
 add-put-noted : tie.Need-add-put-noted Inv-loop μ-loop
-add-put-noted c = search needs
+add-put-noted c = let l = lies _ _ _ _ _ (c .before .before .before .loop-test .taken) _ (c .before .before .place-of .ensures) (c .before .before .before .before .before .before .before .before .before .before .before .before .pre .0) in search needs
 
 shared-slice-read-put-noted-2 : tie.Need-shared-slice-read-put-noted-2 Inv-loop μ-loop
-shared-slice-read-put-noted-2 c = search needs
+shared-slice-read-put-noted-2 c = let l = lies _ _ _ _ _ (c .before .before .before .before .loop-test .taken) _ (c .before .before .before .place-of .ensures) (c .before .before .before .before .before .before .before .before .before .before .before .before .before .pre .0) in search needs
 
 add-u32-at : tie.Need-add-u32-at Inv-loop μ-loop
-add-u32-at c = search needs
+add-u32-at c = let l = lies _ _ _ _ _ (c .before .before .before .before .loop-test .taken) _ (c .before .before .before .place-of .ensures) (c .before .before .before .before .before .before .before .before .before .before .before .before .before .pre .0) in search needs
 
 u32-at-requires : tie.Need-u32-at-requires Inv-loop μ-loop
-u32-at-requires c κs = search needs
+u32-at-requires c κs = let l = lies _ _ _ _ _ (c .before .before .before .before .loop-test .taken) _ (c .before .before .before .place-of .ensures) (c .before .before .before .before .before .before .before .before .before .before .before .before .before .pre .0) in search needs
 
 shared-slice-read-put-noted-3 : tie.Need-shared-slice-read-put-noted-3 Inv-loop μ-loop
 shared-slice-read-put-noted-3 c = search needs
 
 put-noted-requires : tie.Need-put-noted-requires Inv-loop μ-loop
-put-noted-requires c κs = let l = room-next (c .before .before .before .before .before .before .loop .inv .1) (c .before .before .before .before .before .loop-test .taken) (c .before .before .before .before .before .before .before .before .before .before .before .before .before .before .pre .1) _ (c .before .u32-at .ensures .0) in search needs
+put-noted-requires c κs = let l = room-next (c .before .before .before .before .before .before .before .loop .inv .1) (c .before .before .before .before .before .before .loop-test .taken) _ (c .before .before .before .before .before .place-of .ensures) (c .before .before .before .before .before .before .before .before .before .before .before .before .before .before .before .pre .1) _ (c .before .u32-at .ensures .0) in search needs
 
 add-i : tie.Need-add-i Inv-loop μ-loop
 add-i c = search needs
@@ -63,7 +59,7 @@ loop-less : tie.Need-loop-less Inv-loop μ-loop
 loop-less c = search needs
 
 loop-again : tie.Need-loop-again Inv-loop μ-loop
-loop-again c = (search needs, turn (c .before .before .before .before .before .before .before .before .before .loop .inv .1) (c .before .before .before .before .before .before .before .before .loop-test .taken) (c .before .before .before .before .before .before .before .before .before .before .before .before .before .before .before .before .before .pre .1) _ (c .before .before .before .before .u32-at .ensures .0) _ (c .before .before .put-noted .ensures .0) (c .before .before .put-noted .ensures .1))
+loop-again c = (search needs, turn (c .before .before .before .before .before .before .before .before .before .before .loop .inv .1) (c .before .before .before .before .before .before .before .before .before .loop-test .taken) _ (c .before .before .before .before .before .before .before .before .place-of .ensures) (c .before .before .before .before .before .before .before .before .before .before .before .before .before .before .before .before .before .before .pre .1) _ (c .before .before .before .before .u32-at .ensures .0) _ (c .before .before .put-noted .ensures .0) (c .before .before .put-noted .ensures .1))
 
 same-length : tie.Need-same-length Inv-loop μ-loop
 same-length c = search needs
@@ -79,9 +75,7 @@ write-lists-spec =
     μ-loop
     put-u32-requires
     loop-holds
-    add-at
-    mul-at
-    add-at-2
+    place-of-requires
     shared-slice-read-put-noted
     add-put-noted
     shared-slice-read-put-noted-2

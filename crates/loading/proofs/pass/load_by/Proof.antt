@@ -7,37 +7,33 @@ use mathlib.Core.Logic.{⊎-elim}
 use native.Mathlib.Omega.{arith}
 use borrow.Author.Tests.{not-true, not-false}
 use Rattle.runs.specs.Rule.{crate}
-use Rattle.loading.proofs.Walk.{Walking, start, container-none, container-top, inner, left-one, shallow, entered, not-last, next-place, broken, settling, run-passed, answers-broken, answers-runs, pass-done, pass-wide}
+use Rattle.loading.proofs.Walk.{Walking, start, container-none, container-top, inner, left-one, shallow, entered, whole-here, document-whole, whole-next, next-place, broken, settling, run-passed, answers-broken, answers-runs, pass-done, pass-wide}
 use borrow.Author.Needs.{needs}
 use Rattle.loading.proofs.pass.load_by.Statement.{statement}
 use Rattle.loading.proofs.pass.load_by.Tie as tie
 
 abbrev Inv-loop : tie.InvT-loop
-Inv-loop ascii marks s d e options w₀ inside₀ i₀ n₀ w inside i n = Walking crate s d e options w₀ w (inside .numbers) (inside .depth) i n
+Inv-loop ascii marks s form d e options w₀ inside₀ i₀ n₀ w inside i n = Walking crate form s d e options w₀ w (inside .numbers) (inside .depth) i n
 
 abbrev μ-loop : tie.MeasureT-loop
-μ-loop ascii marks s d e options w₀ inside₀ i₀ n₀ w inside i n = e - i
+μ-loop ascii marks s form d e options w₀ inside₀ i₀ n₀ w inside i n = e - i
 
 outside-requires : tie.Need-outside-requires Inv-loop μ-loop
 outside-requires c κs = search needs
 
 loop-holds : tie.Need-loop-holds Inv-loop μ-loop
-loop-holds c = start _ _ _ _ _ _ _ _ (search needs) (c .outside .ensures .0) (c .outside .ensures .1)
+loop-holds c = start _ _ _ _ _ _ _ _ _ (search needs) (c .outside .ensures .0) (c .outside .ensures .1)
 
-add-at : tie.Need-add-at Inv-loop μ-loop
-add-at c = search needs
-
-mul-at : tie.Need-mul-at Inv-loop μ-loop
-mul-at c = search needs
-
-add-at-2 : tie.Need-add-at-2 Inv-loop μ-loop
-add-at-2 c = search needs
+place-of-requires : tie.Need-place-of-requires Inv-loop μ-loop
+place-of-requires c κs = search needs
 
 shared-slice-read-if1 : tie.Need-shared-slice-read-if1 Inv-loop μ-loop
-shared-slice-read-if1 c = search needs
+shared-slice-read-if1 c =
+    let h = whole-here (c .before .before .before .loop .inv) (c .before .before .loop-test .taken) _ (c .before .place-of .ensures) in
+    search needs
 
 sub-inside : tie.Need-sub-inside Inv-loop μ-loop
-sub-inside c = omega (arith, inner (c .before .before .before .loop .inv) (c .before .before .loop-test .taken) (c .if1 .taken))
+sub-inside c = omega (arith, inner (c .before .before .before .before .loop .inv) (c .before .before .before .loop-test .taken) _ (c .before .before .place-of .ensures) (c .if1 .taken))
 
 add-i : tie.Need-add-i Inv-loop μ-loop
 add-i c = search needs
@@ -46,24 +42,28 @@ loop-less : tie.Need-loop-less Inv-loop μ-loop
 loop-less c = search needs
 
 loop-again : tie.Need-loop-again Inv-loop μ-loop
-loop-again c = left-one (c .before .before .before .loop .inv) (c .before .before .loop-test .taken) (c .if1 .taken)
+loop-again c = left-one (c .before .before .before .before .loop .inv) (c .before .before .before .loop-test .taken) _ (c .before .before .place-of .ensures) (c .if1 .taken)
 
 add-if2 : tie.Need-add-if2 Inv-loop μ-loop
-add-if2 c = search needs
+add-if2 c =
+    let h = whole-here (c .before .before .before .before .loop .inv) (c .before .before .before .loop-test .taken) _ (c .before .before .place-of .ensures) in
+    search needs
 
 shared-slice-read-if2 : tie.Need-shared-slice-read-if2 Inv-loop μ-loop
-shared-slice-read-if2 c = search needs
+shared-slice-read-if2 c =
+    let h = whole-here (c .before .before .before .before .before .loop .inv) (c .before .before .before .before .loop-test .taken) _ (c .before .before .before .place-of .ensures) in
+    search needs
 
 mul-inside : tie.Need-mul-inside Inv-loop μ-loop
-mul-inside c = omega (arith, shallow (c .before .before .before .before .before .loop .inv) (c .before .before .before .before .loop-test .taken) (c .before .before .if1 .left))
+mul-inside c = omega (arith, shallow (c .before .before .before .before .before .before .loop .inv) (c .before .before .before .before .before .loop-test .taken) _ (c .before .before .before .before .place-of .ensures) (c .before .before .if1 .left))
 
 element-write-inside : tie.Need-element-write-inside Inv-loop μ-loop
 element-write-inside c =
-    let h = shallow (c .before .before .before .before .before .loop .inv) (c .before .before .before .before .loop-test .taken) (c .before .before .if1 .left) in
+    let h = shallow (c .before .before .before .before .before .before .loop .inv) (c .before .before .before .before .before .loop-test .taken) _ (c .before .before .before .before .place-of .ensures) (c .before .before .if1 .left) in
     search needs
 
 add-inside : tie.Need-add-inside Inv-loop μ-loop
-add-inside c = omega (arith, shallow (c .before .before .before .before .before .loop .inv) (c .before .before .before .before .loop-test .taken) (c .before .before .if1 .left))
+add-inside c = omega (arith, shallow (c .before .before .before .before .before .before .loop .inv) (c .before .before .before .before .before .loop-test .taken) _ (c .before .before .before .before .place-of .ensures) (c .before .before .if1 .left))
 
 add-i-2 : tie.Need-add-i-2 Inv-loop μ-loop
 add-i-2 c = search needs
@@ -72,42 +72,43 @@ loop-less-2 : tie.Need-loop-less-2 Inv-loop μ-loop
 loop-less-2 c = search needs
 
 loop-again-2 : tie.Need-loop-again-2 Inv-loop μ-loop
-loop-again-2 c = entered (c .before .before .before .before .before .loop .inv) (c .before .before .before .before .loop-test .taken) (c .before .before .if1 .left) (c .if2 .taken)
+loop-again-2 c = entered (c .before .before .before .before .before .before .loop .inv) (c .before .before .before .before .before .loop-test .taken) _ (c .before .before .before .before .place-of .ensures) (c .before .before .if1 .left) (c .if2 .taken)
 
 shaped-at-requires : tie.Need-shaped-at-requires Inv-loop μ-loop
-shaped-at-requires c κs =
-    let l = not-last (c .before .before .before .before .before .loop .inv) (c .before .before .before .before .loop-test .taken) (c .before .before .if1 .left) in
-    let p = next-place (c .before .before .before .before .before .loop .inv) (c .before .before .before .before .loop-test .taken) (c .before .before .if1 .left) in
-    (omega arith, p, omega arith)
+shaped-at-requires c κs = (
+  whole-next (c .before .before .before .before .before .before .loop .inv) (c .before .before .before .before .before .loop-test .taken) _ (c .before .before .before .before .place-of .ensures) (c .before .before .if1 .left),
+  next-place (c .before .before .before .before .before .before .loop .inv) (c .before .before .before .before .before .loop-test .taken) _ (c .before .before .before .before .place-of .ensures) (c .before .before .if1 .left),
+  document-whole (c .before .before .before .before .before .before .loop .inv),
+)
 
 same-length : tie.Need-same-length Inv-loop μ-loop
 same-length c = search needs
 
 returns : tie.Need-returns Inv-loop μ-loop
-returns c = pass-done (answers-broken (c .before .before .before .before .before .before .before .loop .inv) (broken (c .before .before .before .before .before .before .before .loop .inv) (c .before .before .before .before .before .before .loop-test .taken) (c .before .before .before .before .if1 .left) (c .before .before .if2 .left) (sym (c .before .shaped-at .ensures) ∙ not-true (c .before .shaped-at .result) (c .if3 .taken))))
+returns c = pass-done (answers-broken (c .before .before .before .before .before .before .before .before .loop .inv) (broken (c .before .before .before .before .before .before .before .before .loop .inv) (c .before .before .before .before .before .before .before .loop-test .taken) _ (c .before .before .before .before .before .before .place-of .ensures) (c .before .before .before .before .if1 .left) (c .before .before .if2 .left) (sym (c .before .shaped-at .ensures) ∙ not-true (c .before .shaped-at .result) (c .if3 .taken))))
 
 sub-container : tie.Need-sub-container Inv-loop μ-loop
 sub-container c = search needs
 
 mul-container : tie.Need-mul-container Inv-loop μ-loop
-mul-container c = omega (arith, shallow (c .before .before .before .before .before .before .before .before .loop .inv) (c .before .before .before .before .before .before .before .loop-test .taken) (c .before .before .before .before .before .if1 .left))
+mul-container c = omega (arith, shallow (c .before .before .before .before .before .before .before .before .before .loop .inv) (c .before .before .before .before .before .before .before .before .loop-test .taken) _ (c .before .before .before .before .before .before .before .place-of .ensures) (c .before .before .before .before .before .if1 .left))
 
 element-copy-out-container : tie.Need-element-copy-out-container Inv-loop μ-loop
 element-copy-out-container c =
-    let h = shallow (c .before .before .before .before .before .before .before .before .loop .inv) (c .before .before .before .before .before .before .before .loop-test .taken) (c .before .before .before .before .before .if1 .left) in
+    let h = shallow (c .before .before .before .before .before .before .before .before .before .loop .inv) (c .before .before .before .before .before .before .before .before .loop-test .taken) _ (c .before .before .before .before .before .before .before .place-of .ensures) (c .before .before .before .before .before .if1 .left) in
     search needs
 
 add-container : tie.Need-add-container Inv-loop μ-loop
-add-container c = omega (arith, container-top (c .before .before .before .before .before .before .before .before .before .loop .inv) (c .before .if4 .taken) .known)
+add-container c = omega (arith, container-top (c .before .before .before .before .before .before .before .before .before .before .loop .inv) (c .before .if4 .taken) .known)
 
 settle-requires : tie.Need-settle-requires Inv-loop μ-loop
 settle-requires c κs = (
   search needs,
-  settling (c .before .before .before .before .before .before .before .before .before .loop .inv) (c .before .before .before .before .before .before .before .before .loop-test .taken) (c .before .before .before .before .before .before .if1 .left) (c .before .before .before .before .if2 .left)
+  settling (c .before .before .before .before .before .before .before .before .before .before .loop .inv) (c .before .before .before .before .before .before .before .before .before .loop-test .taken) _ (c .before .before .before .before .before .before .before .before .place-of .ensures) (c .before .before .before .before .before .before .if1 .left) (c .before .before .before .before .if2 .left)
       (sym (c .before .before .before .shaped-at .ensures) ∙ not-false (c .before .before .before .shaped-at .result) (c .before .before .if3 .left))
       (⊎-elim
-      (λ a. rw (a .2) (container-top (c .before .before .before .before .before .before .before .before .before .loop .inv) (a .0 .taken)))
-      (λ a. rw (a .1) (container-none (c .before .before .before .before .before .before .before .before .before .loop .inv) (a .0 .left)))
+      (λ a. rw (a .2) (container-top (c .before .before .before .before .before .before .before .before .before .before .loop .inv) (a .0 .taken)))
+      (λ a. rw (a .1) (container-none (c .before .before .before .before .before .before .before .before .before .before .loop .inv) (a .0 .left)))
       (c .before .if4 .came))
       (search needs),
 )
@@ -129,11 +130,11 @@ loop-less-3 c = search needs
 
 loop-again-3 : tie.Need-loop-again-3 Inv-loop μ-loop
 loop-again-3 c =
-    run-passed (c .before .before .before .before .before .before .before .before .before .before .before .before .before .loop .inv) (c .before .before .before .before .before .before .before .before .before .before .before .before .loop-test .taken) (c .before .before .before .before .before .before .before .before .before .before .if1 .left) (c .before .before .before .before .before .before .before .before .if2 .left)
+    run-passed (c .before .before .before .before .before .before .before .before .before .before .before .before .before .before .loop .inv) (c .before .before .before .before .before .before .before .before .before .before .before .before .before .loop-test .taken) _ (c .before .before .before .before .before .before .before .before .before .before .before .before .place-of .ensures) (c .before .before .before .before .before .before .before .before .before .before .if1 .left) (c .before .before .before .before .before .before .before .before .if2 .left)
     (sym (c .before .before .before .before .before .before .before .shaped-at .ensures) ∙ not-false (c .before .before .before .before .before .before .before .shaped-at .result) (c .before .before .before .before .before .before .if3 .left))
     (⊎-elim
-    (λ a. rw (a .2) (container-top (c .before .before .before .before .before .before .before .before .before .before .before .before .before .loop .inv) (a .0 .taken)))
-    (λ a. rw (a .1) (container-none (c .before .before .before .before .before .before .before .before .before .before .before .before .before .loop .inv) (a .0 .left)))
+    (λ a. rw (a .2) (container-top (c .before .before .before .before .before .before .before .before .before .before .before .before .before .before .loop .inv) (a .0 .taken)))
+    (λ a. rw (a .1) (container-none (c .before .before .before .before .before .before .before .before .before .before .before .before .before .before .loop .inv) (a .0 .left)))
     (c .before .before .before .before .before .if4 .came))
     (c .before .before .before .settle .ensures .done (not-false (c .before .before .before .settle .result) (c .if5 .left)))
     (search needs)
@@ -152,9 +153,7 @@ load-by-spec =
     μ-loop
     outside-requires
     loop-holds
-    add-at
-    mul-at
-    add-at-2
+    place-of-requires
     shared-slice-read-if1
     sub-inside
     add-i

@@ -6,14 +6,14 @@ use borrow.Author.Needs.{needs}
 use Rattle.loading.proofs.shape.shaped_at.Statement.{statement}
 use Rattle.loading.proofs.shape.shaped_at.Tie as tie
 
-add-if1 : tie.Need-add-if1
-add-if1 c = search needs
+add-next : tie.Need-add-next
+add-next c = search needs
 
 shared-slice-read-if1 : tie.Need-shared-slice-read-if1
 shared-slice-read-if1 c = search needs
 
 returns : tie.Need-returns
-returns c = not-left _ _ _ _ (c .if1 .taken)
+returns c = not-left _ _ _ _ _ (c .if1 .taken)
 
 add-if2 : tie.Need-add-if2
 add-if2 c = search needs
@@ -22,7 +22,7 @@ shared-slice-read-if2 : tie.Need-shared-slice-read-if2
 shared-slice-read-if2 c = search needs
 
 returns-2 : tie.Need-returns-2
-returns-2 c = other-left _ _ _ _ (c .before .before .if1 .left) (c .if2 .taken)
+returns-2 c = other-left _ _ _ _ _ (c .before .before .if1 .left) (c .if2 .taken)
 
 add-u32-at : tie.Need-add-u32-at
 add-u32-at c = search needs
@@ -40,13 +40,13 @@ run-between-requires : tie.Need-run-between-requires
 run-between-requires c κs = search needs
 
 returns-3 : tie.Need-returns-3
-returns-3 c = c .run-between .ensures ∙ at-once-left _ _ _ _ (c .before .before .before .before .before .if1 .left) (c .before .before .before .if2 .left) _ _ (c .before .before .u32-at .ensures .0) (c .before .u32-at2 .ensures .0)
+returns-3 c = c .run-between .ensures ∙ at-once-left _ _ _ _ _ (c .before .before .before .before .before .if1 .left) (c .before .before .before .if2 .left) _ _ (c .before .before .u32-at .ensures .0) (c .before .u32-at2 .ensures .0)
 
 pub shaped-at-spec : {M : Type 1} → statement M
 shaped-at-spec =
     tie.close
     (tie.spec
-    add-if1
+    add-next
     shared-slice-read-if1
     returns
     add-if2

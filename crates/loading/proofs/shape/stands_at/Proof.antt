@@ -11,6 +11,9 @@ returns c = search (needs, byte-past)
 add-result : tie.Need-add-result
 add-result c = search needs
 
+add-result-2 : tie.Need-add-result-2
+add-result-2 c = search needs
+
 shared-slice-read-result : tie.Need-shared-slice-read-result
 shared-slice-read-result c = search needs
 
@@ -18,4 +21,4 @@ returns-2 : tie.Need-returns-2
 returns-2 c = search (needs, byte-inside)
 
 pub stands-at-spec : {M : Type 1} → statement M
-stands-at-spec = tie.close (tie.spec returns add-result shared-slice-read-result returns-2)
+stands-at-spec = tie.close (tie.spec returns add-result add-result-2 shared-slice-read-result returns-2)

@@ -25,17 +25,23 @@ u32-at-requires c κs = search needs
 add-u32-at-2 : tie.Need-add-u32-at-2
 add-u32-at-2 c = search needs
 
+add-u32-at-3 : tie.Need-add-u32-at-3
+add-u32-at-3 c = search needs
+
 u32-at-requires-2 : tie.Need-u32-at-requires-2
 u32-at-requires-2 c κs = search needs
+
+add-start : tie.Need-add-start
+add-start c = search needs
+
+add-end : tie.Need-add-end
+add-end c = search needs
 
 add-marker : tie.Need-add-marker
 add-marker c = search needs
 
 shared-slice-read-marker : tie.Need-shared-slice-read-marker
 shared-slice-read-marker c = search needs
-
-add-end : tie.Need-add-end
-add-end c = search needs
 
 sub-neighbour-before : tie.Need-sub-neighbour-before
 sub-neighbour-before c = search needs
@@ -83,10 +89,18 @@ chain-number-requires : tie.Need-chain-number-requires
 chain-number-requires c κs = search needs
 
 sub-fill : tie.Need-sub-fill
-sub-fill c = search needs
+sub-fill c =
+    let p = c .before .before .before .before .before .before .before .before .before .before .before .before .before .before .before .before .before .before .before .before .before .pre .1 in
+    let from = c .before .before .before .before .before .before .before .before .before .before .before .before .before .before .before .before .u32-at .ensures .0 in
+    let to = c .before .before .before .before .before .before .before .before .before .before .before .before .before .before .u32-at2 .ensures .0 in
+    search needs
 
 fill-requires : tie.Need-fill-requires
-fill-requires c κs = search needs
+fill-requires c κs =
+    let p = c .before .before .before .before .before .before .before .before .before .before .before .before .before .before .before .before .before .before .before .before .before .pre .1 in
+    let from = c .before .before .before .before .before .before .before .before .before .before .before .before .before .before .before .before .u32-at .ensures .0 in
+    let to = c .before .before .before .before .before .before .before .before .before .before .before .before .before .before .u32-at2 .ensures .0 in
+    search needs
 
 same-length : tie.Need-same-length
 same-length c = search needs
@@ -95,13 +109,13 @@ returns-3 : tie.Need-returns-3
 returns-3 c =
     now-settled _ _
     (settled
-    (c .before .before .before .before .before .before .before .before .before .before .before .before .before .before .before .before .before .before .before .before .before .before .pre .1)
+    (c .before .before .before .before .before .before .before .before .before .before .before .before .before .before .before .before .before .before .before .before .before .before .before .before .pre .1)
     (record {
-      place = c .before .before .before .before .before .before .before .before .before .before .before .before .before .before .before .before .before .u32-at .ensures .0;
-      end = c .before .before .before .before .before .before .before .before .before .before .before .before .before .before .before .before .u32-at2 .ensures .0;
+      place = c .before .before .before .before .before .before .before .before .before .before .before .before .before .before .before .before .before .before .before .u32-at .ensures .0;
+      end = c .before .before .before .before .before .before .before .before .before .before .before .before .before .before .before .before .before .u32-at2 .ensures .0;
       byte = refl;
-      stands-before = c .before .before .before .before .before .before .before .before .before .before .before .before .before .neighbour-before .ensures ∙ before-in _ _ _;
-      stands-after = c .before .before .before .before .before .before .before .before .before .before .before .neighbour-after .ensures ∙ after-in _ _ _;
+      stands-before = c .before .before .before .before .before .before .before .before .before .before .before .before .before .neighbour-before .ensures ∙ before-in _ _ _ _;
+      stands-after = c .before .before .before .before .before .before .before .before .before .before .before .neighbour-after .ensures ∙ after-in _ _ _ _;
       can-open = rw (← c .before .before .before .before .before .before .option-on .ensures) (c .before .before .before .before .before .flanking .ensures .0);
       can-close = rw (← c .before .before .before .before .before .before .option-on .ensures) (c .before .before .before .before .before .flanking .ensures .1);
       number = c .before .before .before .before .chain-number .ensures .0;
@@ -116,10 +130,12 @@ settle-spec =
     add-u32-at
     u32-at-requires
     add-u32-at-2
+    add-u32-at-3
     u32-at-requires-2
+    add-start
+    add-end
     add-marker
     shared-slice-read-marker
-    add-end
     sub-neighbour-before
     part-neighbour-before-start
     part-neighbour-before-end

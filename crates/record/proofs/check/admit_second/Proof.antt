@@ -2,7 +2,7 @@
 -- Assumes nothing.
 use mathlib.Core.Path.{_∙_}
 use borrow.Author.Needs.{needs}
-use Rattle.record.proofs.Second.{short-work, short-count, wrong-count, no-options, wrong-options, rest-checked}
+use Rattle.record.proofs.Whole.{short-count, wrong-count, no-options, wrong-options, rest-checked}
 use borrow.Author.Needs.{needs}
 use Rattle.record.proofs.check.admit_second.Statement.{statement}
 use Rattle.record.proofs.check.admit_second.Tie as tie
@@ -16,43 +16,37 @@ refused-requires : tie.Need-refused-requires
 refused-requires c κs = search needs
 
 returns : tie.Need-returns
-returns c = c .refused .ensures ∙ short-work _ _ (search needs)
+returns c = c .refused .ensures ∙ short-count _ _ (search needs)
+
+u32-at-requires : tie.Need-u32-at-requires
+u32-at-requires c κs = search needs
 
 refused-requires-2 : tie.Need-refused-requires-2
 refused-requires-2 c κs = search needs
 
 returns-2 : tie.Need-returns-2
-returns-2 c = c .refused2 .ensures ∙ short-count _ _ (search needs) (search needs)
-
-u32-at-requires : tie.Need-u32-at-requires
-u32-at-requires c κs = search needs
+returns-2 c = c .refused2 .ensures ∙ wrong-count _ _ (search needs) _ (c .before .before .u32-at .ensures .0) (c .before .if2 .taken)
 
 refused-requires-3 : tie.Need-refused-requires-3
 refused-requires-3 c κs = search needs
 
 returns-3 : tie.Need-returns-3
-returns-3 c = c .refused3 .ensures ∙ wrong-count _ _ (search needs) (search needs) _ (c .before .before .u32-at .ensures .0) (c .before .if3 .taken)
+returns-3 c = c .refused3 .ensures ∙ no-options _ _ (search needs) _ (c .before .before .before .u32-at .ensures .0) (c .before .before .if2 .left) (search needs)
+
+shared-slice-read-if4 : tie.Need-shared-slice-read-if4
+shared-slice-read-if4 c = search needs
 
 refused-requires-4 : tie.Need-refused-requires-4
 refused-requires-4 c κs = search needs
 
 returns-4 : tie.Need-returns-4
-returns-4 c = c .refused4 .ensures ∙ no-options _ _ (search needs) (search needs) _ (c .before .before .before .u32-at .ensures .0) (c .before .before .if3 .left) (search needs)
-
-shared-slice-read-if5 : tie.Need-shared-slice-read-if5
-shared-slice-read-if5 c = search needs
-
-refused-requires-5 : tie.Need-refused-requires-5
-refused-requires-5 c κs = search needs
-
-returns-5 : tie.Need-returns-5
-returns-5 c = c .refused5 .ensures ∙ wrong-options _ _ (search needs) (search needs) _ (c .before .before .before .before .before .u32-at .ensures .0) (c .before .before .before .before .if3 .left) (search needs) (search needs)
+returns-4 c = c .refused4 .ensures ∙ wrong-options _ _ (search needs) _ (c .before .before .before .before .before .u32-at .ensures .0) (c .before .before .before .before .if2 .left) (search needs) (search needs)
 
 check-requires : tie.Need-check-requires
 check-requires c κs = search needs
 
-returns-6 : tie.Need-returns-6
-returns-6 c = c .check .ensures ∙ rest-checked _ _ (search needs) (search needs) _ (c .before .before .before .before .before .u32-at .ensures .0) (c .before .before .before .before .if3 .left) (search needs) (search needs)
+returns-5 : tie.Need-returns-5
+returns-5 c = c .check .ensures ∙ rest-checked _ _ (search needs) _ (c .before .before .before .before .before .u32-at .ensures .0) (c .before .before .before .before .if2 .left) (search needs) (search needs)
 
 pub admit-second-spec : {M : Type 1} → statement M
 admit-second-spec =
@@ -60,15 +54,13 @@ admit-second-spec =
     (tie.spec
     refused-requires
     returns
+    u32-at-requires
     refused-requires-2
     returns-2
-    u32-at-requires
     refused-requires-3
     returns-3
+    shared-slice-read-if4
     refused-requires-4
     returns-4
-    shared-slice-read-if5
-    refused-requires-5
-    returns-5
     check-requires
-    returns-6)
+    returns-5)

@@ -1,0 +1,11 @@
+pub mod Sets
+pub mod Puts
+pub mod Walk
+pub mod Closing
+pub mod Laws
+pub mod Linking
+pub mod Written
+pub mod Carried
+pub mod Widening
+pub mod Finished
+pub mod Settled

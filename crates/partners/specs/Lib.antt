@@ -1,0 +1,4 @@
+pub mod Fields
+pub mod Finished
+pub mod Laws
+pub mod Cases
