@@ -4,6 +4,7 @@ use Prim.Native.Nat.{ℕ, zero, suc, _+_, _*_, _<_, _≤_}
 use native.Mathlib.Omega.{arith}
 use mathlib.Core.Path.{_≡_, refl, sym, ap, _∙_}
 use mathlib.Core.Bool.{Bool, true, false}
+use mathlib.Core.Logic.{inl}
 use mathlib.Core.List.{List, [], _∷_, _++_}
 use lib.ListN.{length, getD, take, drop, length-append}
 use lib.Seq.{take-at}
@@ -12,22 +13,27 @@ use Rattle.record.specs.Good.{GoodRecord}
 use Rattle.record.specs.Choice.{choose}
 use Rattle.record.specs.Bytes.{u32At, u32Bytes}
 use Rattle.record.specs.Event.{sectionBytes, sectionAt, recordBytes, documentIn, eventsIn}
+use Rattle.record.specs.Check.{admitted}
 use Rattle.record.specs.Rows.{Row, documentCountIn, eventCountIn}
 use Rattle.record.specs.Sound.{sound}
-use Rattle.record.specs.ReadsBack.{SectionThere, Holdable, AreBytes}
+use Rattle.record.specs.ReadsBack.{Holdable, AreBytes}
+use Rattle.partners.specs.Records.{SectionThere, beside, RecordThere}
+use Rattle.partners.proofs.Written.{section-narrow}
+use Rattle.partners.proofs.SectionReadsBack.{section-onto}
+use Rattle.partners.proofs.Records.{old-record, record-reads-back}
 use Rattle.record.specs.Written.{WrittenRow, by-check, row-7}
 use Rattle.record.specs.Outcome.{Resolution, gives, onto}
 use Rattle.record.specs.Partners.{sectionIn}
+use Rattle.record.specs.declared.check.Reading.the-variants.{Good}
 use Rattle.record.specs.declared.event.Event.{Event}
 use Rattle.record.specs.declared.form.Handed.the-variants.{Old}
 use Rattle.record.proofs.Exactly.{exactly}
-use Rattle.record.proofs.Good.{old-known, good-record, admission}
-use Rattle.record.proofs.Whole.{options-known, enough-work}
+use Rattle.record.proofs.Good.{admission}
+use Rattle.record.proofs.Whole.{enough-work}
 use Rattle.record.proofs.Parts.{length-document}
 use Rattle.record.proofs.Sections.{length-section}
-use Rattle.record.proofs.ReadsBack.{section-reads-back, sound-storable}
-use Rattle.record.proofs.RecordReadsBack.{record-reads-back}
-use Rattle.record.proofs.Rewritten.{front-rewritten, good-holdable}
+use Rattle.record.proofs.ReadsBack.{sound-storable}
+use Rattle.record.proofs.Rewritten.{document-rewritten, good-holdable}
 use Rattle.record.proofs.Depth.{sound-shallow, sound-deeper}
 use Rattle.scan.specs.Line.{endOf, lineOf}
 use Rattle.scan.specs.Rows.{row-3, row-4}
@@ -48,26 +54,27 @@ use Rattle.claims.proofs.Accepted.{accepted-attention, accepted-heading
 
 -- a section that stands at the front of an output
 section-there : (es : List Event) (out out′ : List ℕ) → length es < 4294967296 → (deep d : ℕ) → sound deep d es ≡ true → d < 4294967296 →
-    out′ ≡ onto (sectionBytes es) out → SectionThere out′ 0 es
-unfolding onto
+    out′ ≡ onto (sectionBytes es) out → SectionThere old out′ 0 es
 section-there es out out′ n deep d q h w =
-    rw w (section-reads-back [] (drop (length (sectionBytes es)) out) es n (sound-storable deep d 0 [] es q h))
+    section-onto old (inl refl) es out out′ n (sound-storable deep d 0 [] es q h) (w ∙ ap (λ (l : List ℕ). onto l out) (sym (section-narrow old es (omega arith))))
 
 -- what a record may hold is read again
 again : (document : List ℕ) (es : List Event) → Holdable document es → ReadAgain document es
 again document es h =
-    let t = record-reads-back document es h in
-    let g : GoodRecord (recordBytes document es) (length document) (length es) = good-record old (recordBytes document es) (length document) (length es) old-known (t .good) in
+    let t : (options : ℕ) → options ≤ 63 → RecordThere (Old options) options (recordBytes document es) document es =
+    λ options ho. rw (old-record options document es) at (record-reads-back (Old options) options document es beside ho h) in
+    let good : (options : ℕ) → options ≤ 63 → (works : ℕ) → 65536 ≤ works → admitted (Old options) (recordBytes document es) works ≡ Good (length document) (length es) =
+    λ options ho works hw. sym (enough-work (Old options) (recordBytes document es) works hw) ∙ t options ho .good in
+    let g = admission (Old 0) (recordBytes document es) 65536 (length document) (length es) (good 0 (omega arith) 65536 (omega arith)) .good in
     let d : documentCountIn old (recordBytes document es) ≡ length document = g .document-count in
     let e : eventCountIn old (recordBytes document es) ≡ length es = rw (sym d) at (g .event-count) in
     record {
-      accepted = λ options work r work′ ho hw a.
-          a .answer ∙ ap larkReading (sym (enough-work (Old options) (recordBytes document es) (length work) hw) ∙ sym (options-known (recordBytes document es) _ options ho) ∙ t .good);
-      its-document = ap (λ (n : ℕ). documentIn old (recordBytes document es) n) d ∙ t .its-document;
+      accepted = λ options work r work′ ho hw a. a .answer ∙ ap larkReading (good options ho (length work) hw);
+      its-document = ap (λ (n : ℕ). documentIn old (recordBytes document es) n) d ∙ t 0 (omega arith) .its-document;
       its-events =
           ap (λ (n : ℕ). eventsIn old (recordBytes document es) n (eventCountIn old (recordBytes document es))) d
           ∙ ap (λ (n : ℕ). eventsIn old (recordBytes document es) (length document) n) e
-          ∙ t .its-events;
+          ∙ t 0 (omega arith) .its-events;
     }
 
 -- a record that no row refuses
@@ -81,7 +88,7 @@ unfolding recordBytes
 in-memory s d es out out′ n b c h e w =
     let long : length (documentIn old s d) ≡ d = length-document old s d h in
     let front : take (4 + d) s ≡ u32Bytes d ++ documentIn old s d =
-    ap (λ (l : List ℕ). take (4 + d) l) (front-rewritten s d b h c)
+    ap (λ (l : List ℕ). take (4 + d) l) (document-rewritten old s d b h c)
     ∙ take-at (u32Bytes d ++ documentIn old s d) (drop (4 + d) s) (4 + d) (omega (arith, length-append (u32Bytes d) (documentIn old s d))) in
     let size : 4 + 8 * n ≡ length (sectionBytes es) = omega (arith, length-section es) in
     let behind : take (4 + 8 * n) out′ ≡ sectionBytes es = ap (λ (m : ℕ). take m out′) size ∙ seam (sectionBytes es) out out′ w .0 in
@@ -108,7 +115,7 @@ resolved-back {options = options} {works = works} s out r out′ deep a none q =
     let t = section-there (a .events) out out′ (omega arith) deep (documentCountIn old s) q (omega arith) (old-written a) in
     let same : sectionAt out′ 0 ≡ a .events = t .all in
     let count : r .events ≡ length (a .events) = ap (λ (x : LarkResolved). x .events) (a .answer) in
-    let holds = good-holdable s (documentCountIn old s) (eventCountIn old s) g in
+    let holds = good-holdable old s (documentCountIn old s) (eventCountIn old s) g in
     record {
       events = a .made-so ∙ ap gives (sym same);
       count = t .count ∙ sym count;

@@ -28,7 +28,7 @@ use Rattle.record.specs.declared.form.Handed.the-variants.{Old, Second}
 use Rattle.record.proofs.Exactly.{exactly, row-low}
 use Rattle.record.proofs.Good.{admission}
 use Rattle.record.proofs.Parts.{length-document}
-use Rattle.partners.proofs.Written.{length-sectionIn}
+use Rattle.partners.proofs.Written.{length-section-in}
 use Rattle.record.proofs.Output.{onto-bytes, onto-rest, onto-none}
 use Rattle.runs.specs.Rule.{Profile}
 use Rattle.attention.specs.Attention.{attention}
@@ -222,8 +222,8 @@ at-most a b f = go (leb a b) refl
 
 -- the bytes of a section, however the record was handed over
 length-handed : (h : Handed) (es : List Event) → length (sectionIn (formOf h) es) ≡ 4 + formOf h .width * length es
-length-handed (Old options) es = length-sectionIn old es (inl refl)
-length-handed Second es = length-sectionIn second es (inr refl)
+length-handed (Old options) es = length-section-in old es (inl refl)
+length-handed Second es = length-section-in second es (inr refl)
 
 -- which holds of each, by its promise alone
 claimed : (comes : ℕ → ℕ → Outcome) (answers : Outcome → LarkResolved) (h : Handed) (s : List ℕ) (Offends : ℕ → Type 0) (resolve : ℕ → ℕ → Resolution)

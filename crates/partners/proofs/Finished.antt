@@ -7,10 +7,11 @@ use mathlib.Core.List.{List, [], _++_}
 use Prim.Native.Nat.{ℕ, zero, suc, _+_, _*_, _≤_, _<_}
 use native.Mathlib.Nat.{mul-le-mul-right}
 use native.Mathlib.Omega.{arith}
-use lib.ListN.{length, drop, replicate, length-replicate, length-append}
+use lib.ListN.{length, replicate, length-replicate, length-append}
 use lib.Seq.{sets}
-use Rattle.record.specs.Bytes.{u32At, u32Bytes, Wrote}
+use Rattle.record.specs.Bytes.{u32Bytes, Wrote}
 use Rattle.record.specs.Event.{eventsBy, flat, sectionBytes}
+use Rattle.record.specs.Form.{old}
 use Rattle.record.specs.Outcome.{onto}
 use Rattle.record.specs.Partners.{balanced, partners, flatWith, flatLinked, sectionIn}
 use Rattle.record.specs.ReadsBack.{Storable}
@@ -18,7 +19,7 @@ use Rattle.record.specs.Sound.{sound}
 use Rattle.record.specs.declared.event.Event.{Event}
 use Rattle.record.specs.declared.form.Form.{Form}
 use Rattle.record.proofs.Parts.{length-events}
-use Rattle.record.proofs.ReadsBack.{section-reads-back, sound-storable}
+use Rattle.record.proofs.ReadsBack.{sound-storable}
 use Rattle.record.proofs.Sections.{length-flat}
 use Rattle.record.proofs.Splice.{wrote-length, sets-append, sets-front}
 use Rattle.partners.specs.Fields.{Links}
@@ -27,6 +28,7 @@ use Rattle.partners.proofs.Sets.{sets-over}
 use Rattle.partners.proofs.Walk.{length-partners}
 use Rattle.partners.proofs.Laws.{sound-balanced}
 use Rattle.partners.proofs.Written.{length-flatWith, length-flatLinked, section-narrow, section-wide, stand-read, stand-wrote, linked-flat, linked-section}
+use Rattle.partners.proofs.SectionReadsBack.{section-onto}
 
 -- the places of sound events are small
 places-small : (deep d : ℕ) (es : List Event) → sound deep d es ≡ true → d ≤ 16384 → Storable es
@@ -87,13 +89,10 @@ changed f n h w = record { kept = λ g. absurd (omega arith); made = λ _. w }
 
 -- what a resolver leaves, read again
 pub section-there : SectionIsRead
-unfolding onto
 section-there deep d n es out out₁ e few s small o =
-    let r = section-reads-back [] (drop (length (sectionBytes es)) out) es (omega arith) (places-small deep d es s small) in
-    let c : u32At (onto (sectionBytes es) out) 0 ≡ length es = r .count in
-    ap (λ (x : List ℕ). eventsBy 8 n x 4) o
-    ∙ ap (λ (m : ℕ). eventsBy 8 m (onto (sectionBytes es) out) 4) (sym (c ∙ e))
-    ∙ r .all
+    let w : out₁ ≡ onto (sectionIn old es) out = o ∙ ap (λ (x : List ℕ). onto x out) (sym (section-narrow old es (omega arith))) in
+    let t = section-onto old (inl refl) es out out₁ (omega arith) (places-small deep d es s small) w in
+    ap (λ (m : ℕ). eventsBy 8 m out₁ 4) (sym (t .count ∙ e)) ∙ t .all
 
 -- so that is sound, as `finish` asks
 pub section-sound : (deep d n : ℕ) (es : List Event) (out out₁ : List ℕ) → length es ≡ n → n ≤ 8000 → sound deep d es ≡ true → d ≤ 16384 →

@@ -5,6 +5,13 @@ pub mod Closing
 pub mod Laws
 pub mod Linking
 pub mod Written
+pub mod SectionReadsBack
+pub mod Laid
+pub mod Found
+pub mod Holdable
+pub mod Records
+pub mod Rewritten
+pub mod EitherForm
 pub mod Carried
 pub mod Widening
 pub mod Finished

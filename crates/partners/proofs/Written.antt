@@ -1,30 +1,27 @@
--- Events and numbers as bytes: `link` on events that stand in memory gives the bytes of events with their partners, and what is written reads back.
+-- Events and numbers as bytes: `link` on events that stand in memory gives the bytes of events with their partners.
 -- Assumes nothing.
 use mathlib.Core.Path.{_≡_, refl, sym, ap, _∙_}
-use mathlib.Core.Bool.{true}
 use mathlib.Core.Logic.{inl, inr}
 use mathlib.Core.List.{List, [], _∷_, _++_, append-assoc}
 use Prim.Native.Nat.{ℕ, suc, _+_, _*_, _≤_, _<_}
 use native.Mathlib.Omega.{arith}
-use lib.ListN.{length, getD, set, take, drop, length-append, take-append-drop}
+use lib.ListN.{length, set, take, drop, length-append, take-append-drop}
 use lib.Seq.{sets, sets-eq, length-sets, drop-set-lt, drop-drop, drop-at, length-take-le}
 use borrow.Author.Tests.{lt-ltb, le-ltb}
 use Rattle.record.specs.Choice.{choose}
-use Rattle.record.specs.Bytes.{u32At, u32Bytes, Wrote}
+use Rattle.record.specs.Bytes.{u32Bytes, Wrote}
 use Rattle.record.specs.Event.{eventAt, eventsBy, bytesOf, sectionBytes}
 use Rattle.record.specs.Outcome.{onto}
-use Rattle.record.specs.Partners.{balanced, partners, flatWith, flatLinked, sectionIn}
+use Rattle.record.specs.Partners.{partners, flatWith, flatLinked, sectionIn}
 use Rattle.record.specs.ReadsBack.{Storable}
 use Rattle.record.specs.declared.event.Event.{Event}
 use Rattle.record.specs.declared.form.Form.{Form}
-use Rattle.record.proofs.ReadsBack.{number-reads-back, event-reads-back}
+use Rattle.record.proofs.ReadsBack.{event-reads-back}
 use Rattle.record.proofs.Sections.{length-section}
 use Rattle.record.proofs.Splice.{sets-append, wrote-then, wrote-front}
-use Rattle.partners.specs.Fields.{fieldsBy, putFields, Links, Stand, none, next}
+use Rattle.partners.specs.Fields.{putFields, Links, Stand, none, next}
 use Rattle.partners.specs.Finished.{SectionLength}
-use Rattle.partners.specs.Laws.{partnerOf, LinkedReadsBack}
 use Rattle.partners.proofs.Walk.{length-partners}
-use Rattle.partners.proofs.Laws.{partner-inside}
 
 pub length-flatWith : (es : List Event) (ps : List ℕ) → length ps ≡ length es → length (flatWith es ps) ≡ 12 * length es
 unfolding flatWith
@@ -46,9 +43,9 @@ pub section-wide : (f : Form) (es : List Event) → 12 ≤ f .width → sectionI
 unfolding sectionIn choose
 section-wide f es h = rw (le-ltb (f .width) 12 h)
 
-pub length-sectionIn : SectionLength
-length-sectionIn f es (inl w) = ap length (section-narrow f es (omega arith)) ∙ length-section es ∙ ap (λ (k : ℕ). 4 + k * length es) (sym w)
-length-sectionIn f es (inr w) =
+pub length-section-in : SectionLength
+length-section-in f es (inl w) = ap length (section-narrow f es (omega arith)) ∙ length-section es ∙ ap (λ (k : ℕ). 4 + k * length es) (sym w)
+length-section-in f es (inr w) =
     ap length (section-wide f es (omega arith))
     ∙ length-append (u32Bytes (length es)) (flatLinked es)
     ∙ ap (λ (k : ℕ). 4 + k) (length-flatLinked es)
@@ -119,7 +116,7 @@ linked-flat {es} {d} {d′} {at} s h b l =
           ∙ put-flat es (partners es) d at s (length-partners es) h;
     }
 
--- events and numbers as bytes in a list: the events stand there, and the numbers are read
+-- events and numbers as bytes in a list: the events stand there
 stand-inside : (es : List Event) (ps xs ys : List ℕ) (at : ℕ) → length xs ≡ at → length ps ≡ length es → Stand (xs ++ (flatWith es ps ++ ys)) at es
 unfolding flatWith
 stand-inside [] ps xs ys at l h = none
@@ -132,28 +129,6 @@ stand-inside (e ∷ es) (p ∷ ps) xs ys at l h =
     rw q (stand-inside es ps (xs ++ (bytesOf e ++ u32Bytes p)) ys (at + 12) m (omega arith)) in
     next (ap (λ (x : List ℕ). take 8 x) (drop-at xs ((bytesOf e ++ (u32Bytes p ++ flatWith es ps)) ++ ys) at l)) r
 
-fields-inside : (es : List Event) (ps xs ys : List ℕ) (at : ℕ) → length xs ≡ at → length ps ≡ length es → ((k : ℕ) → k < length ps → getD ps k 0 < 4294967296) →
-    fieldsBy 12 (length es) (xs ++ (flatWith es ps ++ ys)) at ≡ ps
-unfolding flatWith fieldsBy
-fields-inside [] [] xs ys at l h b = refl
-fields-inside [] (p ∷ ps) xs ys at l h b = absurd (omega arith)
-fields-inside (e ∷ es) [] xs ys at l h b = absurd (omega arith)
-fields-inside (e ∷ es) (p ∷ ps) xs ys at l h b =
-    let q : xs ++ ((bytesOf e ++ (u32Bytes p ++ flatWith es ps)) ++ ys) ≡ (xs ++ (bytesOf e ++ u32Bytes p)) ++ (flatWith es ps ++ ys) =
-    sym (append-assoc xs (bytesOf e ++ u32Bytes p) (flatWith es ps ++ ys)) in
-    let q₈ : xs ++ ((bytesOf e ++ (u32Bytes p ++ flatWith es ps)) ++ ys) ≡ (xs ++ bytesOf e) ++ (u32Bytes p ++ (flatWith es ps ++ ys)) =
-    sym (append-assoc xs (bytesOf e) (u32Bytes p ++ (flatWith es ps ++ ys))) in
-    let m : length (xs ++ (bytesOf e ++ u32Bytes p)) ≡ at + 12 = length-append xs (bytesOf e ++ u32Bytes p) ∙ ap (λ (k : ℕ). k + 12) l in
-    let m₈ : length (xs ++ bytesOf e) ≡ at + 8 = length-append xs (bytesOf e) ∙ ap (λ (k : ℕ). k + 8) l in
-    let f : u32At (xs ++ ((bytesOf e ++ (u32Bytes p ++ flatWith es ps)) ++ ys)) (at + 8) ≡ p =
-    ap (λ (x : List ℕ). u32At x (at + 8)) q₈
-    ∙ ap (λ (k : ℕ). u32At ((xs ++ bytesOf e) ++ (u32Bytes p ++ (flatWith es ps ++ ys))) k) (sym m₈)
-    ∙ number-reads-back (xs ++ bytesOf e) (flatWith es ps ++ ys) p (b 0 (omega arith)) in
-    let r : fieldsBy 12 (length es) (xs ++ ((bytesOf e ++ (u32Bytes p ++ flatWith es ps)) ++ ys)) (at + 12) ≡ ps =
-    ap (λ (x : List ℕ). fieldsBy 12 (length es) x (at + 12)) q
-    ∙ fields-inside es ps (xs ++ (bytesOf e ++ u32Bytes p)) ys (at + 12) m (omega arith) (λ k g. b (suc k) (omega arith)) in
-    ap (λ (x : ℕ). x ∷ fieldsBy 12 (length es) (xs ++ ((bytesOf e ++ (u32Bytes p ++ flatWith es ps)) ++ ys)) (at + 12)) f ∙ ap (λ (x : List ℕ). p ∷ x) r
-
 -- what a write of events and any numbers leaves: the events stand, and so `link` may put the right numbers there
 pub stand-wrote : (es : List Event) (ps : List ℕ) {d d′ : List ℕ} {at : ℕ} → Wrote d at (flatWith es ps) d′ → length ps ≡ length es →
     at + 12 * length es ≤ length d → Stand d′ at es
@@ -162,38 +137,6 @@ stand-wrote es ps {d} {d′} {at} w l h =
     let split : d′ ≡ take at d ++ (flatWith es ps ++ drop (at + length (flatWith es ps)) d) =
     w .same ∙ sets-eq (flatWith es ps) d at (omega arith) ∙ append-assoc (take at d) (flatWith es ps) (drop (at + length (flatWith es ps)) d) in
     rw split (stand-inside es ps (take at d) (drop (at + length (flatWith es ps)) d) at (length-take-le at d (omega arith)) l)
-
--- partners fit into their four bytes
-partners-small : (es : List Event) → balanced es ≡ true → length es < 4294967296 → (k : ℕ) → k < length (partners es) → partnerOf es k < 4294967296
-partners-small es q n k h =
-    let l : length (partners es) ≡ length es = length-partners es in
-    let i : partnerOf es k < length es = partner-inside es q k (omega arith) in
-    omega arith
-
-pub linked-reads-back : LinkedReadsBack
-unfolding sectionIn choose flatLinked
-linked-reads-back before behind es b n p =
-    let front : length (before ++ u32Bytes (length es)) ≡ length before + 4 = length-append before (u32Bytes (length es)) in
-    let q : before ++ ((u32Bytes (length es) ++ flatWith es (partners es)) ++ behind) ≡ (before ++ u32Bytes (length es)) ++ (flatWith es (partners es) ++ behind) =
-    sym (append-assoc before (u32Bytes (length es)) (flatWith es (partners es) ++ behind)) in
-    let room : length before + 4 + 12 * length es ≤ length ((before ++ u32Bytes (length es)) ++ (flatWith es (partners es) ++ behind)) =
-    omega (
-      arith,
-      length-append (before ++ u32Bytes (length es)) (flatWith es (partners es) ++ behind),
-      length-append (flatWith es (partners es)) behind,
-      length-flatWith es (partners es) (length-partners es),
-      front,
-    ) in
-    record {
-      count = number-reads-back before (flatWith es (partners es) ++ behind) (length es) n;
-      events =
-          ap (λ (x : List ℕ). eventsBy 12 (length es) x (length before + 4)) q
-          ∙ stand-read es ((before ++ u32Bytes (length es)) ++ (flatWith es (partners es) ++ behind)) (length before + 4)
-          (stand-inside es (partners es) (before ++ u32Bytes (length es)) behind (length before + 4) front (length-partners es)) room p;
-      mates =
-          ap (λ (x : List ℕ). fieldsBy 12 (length es) x (length before + 4)) q
-          ∙ fields-inside es (partners es) (before ++ u32Bytes (length es)) behind (length before + 4) front (length-partners es) (partners-small es b n);
-    }
 
 -- the count, and then the events with their partners: a section, then what was behind it
 pub linked-section : {d d₁ d₂ : List ℕ} (es : List Event) → 4 + 12 * length es ≤ length d → Wrote d 0 (u32Bytes (length es)) d₁ →

@@ -1,17 +1,14 @@
 -- What is true of partners, in every balanced list of events, of any depth. Together these say what a partner is without the walk by which
--- crates/record/specs/Partners.antt computes it. proofs/Laws.antt, proofs/Carried.antt and proofs/Written.antt prove them.
+-- crates/record/specs/Partners.antt computes it. proofs/Laws.antt and proofs/Carried.antt prove them.
 -- Assumes nothing.
 use Prim.Native.Nat.{ℕ, _+_, _-_, _≤_, _<_}
 use mathlib.Core.Path.{_≡_}
 use mathlib.Core.Bool.{true}
-use mathlib.Core.List.{List, _++_}
+use mathlib.Core.List.{List}
 use lib.ListN.{length, getD, take, drop}
-use Rattle.record.specs.Bytes.{u32At}
-use Rattle.record.specs.Event.{eventsBy, eventsIn}
-use Rattle.record.specs.Form.{second}
+use Rattle.record.specs.Event.{eventsIn}
 use Rattle.record.specs.Good.{GoodIn}
-use Rattle.record.specs.Partners.{balanced, partners, sectionIn}
-use Rattle.record.specs.ReadsBack.{Storable}
+use Rattle.record.specs.Partners.{balanced, partners}
 use Rattle.record.specs.Sound.{sound}
 use Rattle.record.specs.Stack.{nth}
 use Rattle.record.specs.declared.event.Event.{Event}
@@ -59,15 +56,3 @@ abbrev pub GoodCarriesPartners : Type 0
 GoodCarriesPartners =
     (f : Form) (s : List ℕ) (d e : ℕ) → 12 ≤ f .width → GoodIn f s d e →
     fieldsBy (f .width) e s (8 + f .front + d) ≡ partners (eventsIn f s d e)
-
--- at a place there is a section of these events with their partners
-pub record LinkedThere (s : List ℕ) (at : ℕ) (es : List Event) : Type 0 where
-  pub count : u32At s at ≡ length es
-  pub events : eventsBy 12 (length es) s (at + 4) ≡ es
-  pub mates : fieldsBy 12 (length es) s (at + 4) ≡ partners es
-
--- what is written reads back: a section of the second form is its events and their partners
-abbrev pub LinkedReadsBack : Type 0
-LinkedReadsBack =
-    (before behind : List ℕ) (es : List Event) → balanced es ≡ true → length es < 4294967296 → Storable es →
-    LinkedThere (before ++ (sectionIn second es ++ behind)) (length before) es

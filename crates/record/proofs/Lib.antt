@@ -20,5 +20,4 @@ pub mod Order
 pub mod Exactly
 pub mod ExactlyWritten
 pub mod ReadsBack
-pub mod RecordReadsBack
 pub mod Rewritten

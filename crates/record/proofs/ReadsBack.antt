@@ -1,4 +1,4 @@
--- What is written reads back, from a number's four bytes up to a section. A list is read behind what stands in front of it as it is read by itself;
+-- What is written reads back: a number's four bytes, and an event's eight. A list is read behind what stands in front of it as it is read by itself;
 -- the bytes of a number and of an event are written out, so there a read computes.
 -- Assumes nothing.
 use mathlib.Core.Path.{_≡_, refl, ap, _∙_}
@@ -9,10 +9,10 @@ use native.Mathlib.Omega.{arith}
 use lib.ListN.{length, getD, take, drop}
 use lib.Seq.{sets-eq, getD-append-add, length-take-le}
 use Rattle.record.specs.Bytes.{u32At, u32Bytes, Wrote}
-use Rattle.record.specs.Event.{event, eventAt, eventsBy, storedAt, bytesOf, flat, sectionBytes}
+use Rattle.record.specs.Event.{event, eventAt, eventsBy, storedAt, bytesOf}
 use Rattle.record.specs.Stack.{nth, after}
 use Rattle.record.specs.Sound.{soundFrom}
-use Rattle.record.specs.ReadsBack.{NumberReadsBack, stored, EventReadsBack, PutNumberReadsBack, PutEventReadsBack, Storable, SectionReadsBack}
+use Rattle.record.specs.ReadsBack.{NumberReadsBack, stored, EventReadsBack, PutNumberReadsBack, PutEventReadsBack, Storable}
 use Rattle.record.specs.declared.event.Event.{Event}
 use Rattle.record.proofs.Soundness.{stands, sound-rest}
 
@@ -20,7 +20,7 @@ use Rattle.record.proofs.Soundness.{stands, sound-rest}
 pub byte-behind : (before s : List ℕ) (at k : ℕ) → at ≡ length before + k → getD (before ++ s) at 0 ≡ getD s k 0
 byte-behind before s at k e = ap (λ (m : ℕ). getD (before ++ s) m 0) e ∙ getD-append-add before s k 0
 
-number-behind : (before s : List ℕ) (at k : ℕ) → at ≡ length before + k → u32At (before ++ s) at ≡ u32At s k
+pub number-behind : (before s : List ℕ) (at k : ℕ) → at ≡ length before + k → u32At (before ++ s) at ≡ u32At s k
 number-behind before s at k e =
     rw (
       byte-behind before s at k e,
@@ -29,7 +29,7 @@ number-behind before s at k e =
       byte-behind before s (at + 3) (k + 3) (omega arith),
     )
 
-stored-behind : (before s : List ℕ) (at k : ℕ) → at ≡ length before + k → storedAt (before ++ s) at ≡ storedAt s k
+pub stored-behind : (before s : List ℕ) (at k : ℕ) → at ≡ length before + k → storedAt (before ++ s) at ≡ storedAt s k
 stored-behind before s at k e =
     rw (
       byte-behind before s at k e,
@@ -38,12 +38,6 @@ stored-behind before s at k e =
       byte-behind before s (at + 3) (k + 3) (omega arith),
       number-behind before s (at + 4) (k + 4) (omega arith),
     )
-
-events-behind : (n : ℕ) (before s : List ℕ) (at k : ℕ) → at ≡ length before + k → eventsBy 8 n (before ++ s) at ≡ eventsBy 8 n s k
-unfolding eventsBy
-events-behind zero before s at k e = refl
-events-behind (suc n) before s at k e =
-    rw (ap (λ v. v .what) (stored-behind before s at k e), events-behind n before s (at + 8) (k + 8) (omega arith))
 
 -- a number is made of its four bytes, each what the ones above it leave
 joined : (x a b c e above-a above-b above-c : ℕ) → x ≡ 256 * above-a + a → above-a ≡ 256 * above-b + b → above-b ≡ 256 * above-c + c → above-c ≡ e →
@@ -67,7 +61,7 @@ number-of-bytes x h =
 pub number-reads-back : NumberReadsBack
 number-reads-back before behind n h = number-behind before (u32Bytes n ++ behind) (length before) 0 (omega arith) ∙ number-of-bytes n h
 
-event-first : (e : Event) (behind : List ℕ) → e .place < 4294967296 → storedAt (bytesOf e ++ behind) 0 ≡ stored e
+pub event-first : (e : Event) (behind : List ℕ) → e .place < 4294967296 → storedAt (bytesOf e ++ behind) 0 ≡ stored e
 event-first e behind h = ap (λ (p : ℕ). stored (event (e .kind) (e .name) p)) (number-of-bytes (e .place) h)
 
 pub event-reads-back : EventReadsBack
@@ -87,39 +81,17 @@ put-event-reads-back d d′ at e w h b =
     let front : length (take at d) ≡ at = length-take-le at d (omega arith) in
     rw (written-stands d d′ (bytesOf e) at w h) (rw front at (event-reads-back (take at d) (drop (at + 8) d) e b))
 
--- the events of a list, one after the other
-flat-each : (es : List Event) (behind : List ℕ) → Storable es → (k : ℕ) → k < length es → storedAt (flat es ++ behind) (8 * k) ≡ stored (nth es k)
-unfolding flat
-flat-each [] behind b k h = absurd (omega arith)
-flat-each (e ∷ es) behind b zero h = event-first e (flat es ++ behind) (b 0 (omega arith))
-flat-each (e ∷ es) behind b (suc k) h =
-    stored-behind (bytesOf e) (flat es ++ behind) (8 * suc k) (8 * k) (omega arith) ∙ flat-each es behind (λ j g. b (suc j) (omega arith)) k (omega arith)
-
-flat-all : (es : List Event) (behind : List ℕ) → Storable es → eventsBy 8 (length es) (flat es ++ behind) 0 ≡ es
-unfolding flat eventsBy
-flat-all [] behind b = refl
-flat-all (e ∷ es) behind b =
-    let one : eventAt (bytesOf e ++ (flat es ++ behind)) 0 ≡ e = ap (λ v. v .what) (event-first e (flat es ++ behind) (b 0 (omega arith))) in
-    let more : eventsBy 8 (length es) (bytesOf e ++ (flat es ++ behind)) 8 ≡ es =
-    events-behind (length es) (bytesOf e) (flat es ++ behind) 8 0 (omega arith) ∙ flat-all es behind (λ j g. b (suc j) (omega arith)) in
-    ap (λ (x : Event). x ∷ eventsBy 8 (length es) (bytesOf e ++ (flat es ++ behind)) 8) one ∙ ap (λ (l : List Event). e ∷ l) more
-
-pub section-reads-back : SectionReadsBack
-unfolding sectionBytes
-section-reads-back before behind es n b =
-    let counted : u32At (before ++ (sectionBytes es ++ behind)) (length before) ≡ length es = number-reads-back before (flat es ++ behind) (length es) n in
-    record {
-      count = counted;
-      each = λ k h.
-          stored-behind before (u32Bytes (length es) ++ (flat es ++ behind)) (length before + 4 + 8 * k) (4 + 8 * k) (omega arith)
-          ∙ stored-behind (u32Bytes (length es)) (flat es ++ behind) (4 + 8 * k) (8 * k) (omega arith)
-          ∙ flat-each es behind b k h;
-      all =
-          ap (λ (m : ℕ). eventsBy 8 m (before ++ (sectionBytes es ++ behind)) (length before + 4)) counted
-          ∙ events-behind (length es) before (u32Bytes (length es) ++ (flat es ++ behind)) (length before + 4) 4 (omega arith)
-          ∙ events-behind (length es) (u32Bytes (length es)) (flat es ++ behind) 4 0 (omega arith)
-          ∙ flat-all es behind b;
-    }
+-- events that stand a width apart, each as it is stored, are read
+pub all-of-each : (w : ℕ) (es : List Event) (s : List ℕ) (at : ℕ) → ((k : ℕ) → k < length es → storedAt s (at + w * k) ≡ stored (nth es k)) →
+    eventsBy w (length es) s at ≡ es
+unfolding eventsBy
+all-of-each w [] s at f = refl
+all-of-each w (e ∷ es) s at f =
+    let y : at + w * 0 ≡ at = omega arith in
+    let one : eventAt s at ≡ e = ap (λ v. v .what) (rw y at (f 0 (omega arith))) in
+    let more : eventsBy w (length es) s (at + w) ≡ es =
+    all-of-each w es s (at + w) (λ k h. let x : at + w * suc k ≡ at + w + w * k = omega arith in rw x at (f (suc k) (omega arith))) in
+    ap (λ (x : Event). x ∷ eventsBy w (length es) s (at + w)) one ∙ ap (λ (l : List Event). e ∷ l) more
 
 -- places within a document are small
 pub sound-storable : (deep d last : ℕ) (held : List ℕ) (es : List Event) → soundFrom deep d last held es ≡ true → d < 4294967296 → Storable es

@@ -4,6 +4,7 @@ use Prim.Native.Nat.{ℕ, zero, suc, _+_, _*_}
 use mathlib.Core.List.{List, [], _∷_, _++_}
 use lib.ListN.{length, getD, take, drop}
 use Rattle.record.specs.Bytes.{u32At, u32Bytes}
+use Rattle.record.specs.Form.{old}
 use Rattle.record.specs.declared.event.Event.{Event}
 use Rattle.record.specs.declared.form.Form.{Form}
 
@@ -53,9 +54,13 @@ flat (e ∷ es) = bytesOf e ++ flat es
 unfoldable pub sectionBytes : List Event → List ℕ
 sectionBytes es = u32Bytes (length es) ++ flat es
 
--- the events of the section that stands at a place: as many as its count says
+-- the events of the section that stands at a place, in a form: as many as its count says
+abbrev pub sectionAtIn : Form → List ℕ → ℕ → List Event
+sectionAtIn f s at = eventsBy (f .width) (u32At s at) s (at + 4)
+
+-- in the old form
 abbrev pub sectionAt : List ℕ → ℕ → List Event
-sectionAt s at = eventsBy 8 (u32At s at) s (at + 4)
+sectionAt s at = sectionAtIn old s at
 
 -- "First the document: count D, D bytes. Then the events": a document before its section
 unfoldable pub recordBytes : List ℕ → List Event → List ℕ

@@ -1,5 +1,5 @@
--- The partners of events, and a section of any form. Form 2 has "events of 12 bytes: the old 8 and the event number of the partner, 32-bit little
--- endian"; "Every resolver must leave the partners true in what it writes."
+-- The partners of events, and a section and a record of any form. Form 2 has "events of 12 bytes: the old 8 and the event number of the partner, 32-bit
+-- little endian"; "Every resolver must leave the partners true in what it writes."
 -- Assumes nothing.
 use Prim.Native.Nat.{ℕ, _+_, _-_}
 use mathlib.Core.Bool.{Bool}
@@ -49,3 +49,12 @@ flatLinked es = flatWith es (partners es)
 -- a section in a form: how many, then each; where events carry partner numbers, with these
 unfoldable pub sectionIn : Form → List Event → List ℕ
 sectionIn f es = choose (ltb (f .width) 12) (sectionBytes es) (u32Bytes (length es) ++ flatLinked es)
+
+-- "a first section of count 1 with the option byte": what stands before the document's count, where a form has room for it
+unfoldable pub frontIn : Form → ℕ → List ℕ
+frontIn f options = choose (ltb (f .front) 5) [] (u32Bytes 1 ++ (options ∷ []))
+
+-- "a first section of count 1 with the option byte, then the document, then events of 12 bytes": a record in a form. In the old form the options stand
+-- beside it, and it is `recordBytes`
+unfoldable pub recordIn : Form → ℕ → List ℕ → List Event → List ℕ
+recordIn f options document es = frontIn f options ++ (u32Bytes (length document) ++ (document ++ sectionIn f es))
