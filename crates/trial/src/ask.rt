@@ -5,6 +5,7 @@ use crate::buffers::say_work;
 use crate::calls::call_by;
 use crate::say::say;
 use crate::section::say_output;
+use record::form::Handed;
 ghost use Prim.Native.Nat.{_≤_};
 ghost use lib.ListN.{length};
 
@@ -14,10 +15,16 @@ struct Number {
     next: usize,
 }
 
+// How the record is handed over, and the place behind what says so.
+struct Given {
+    handed: Handed,
+    next: usize,
+}
+
 // What is asked of a record, and the place where the record begins.
 struct Question {
     letter: u8,
-    options: u32,
+    handed: Handed,
     outs: usize,
     lent: usize,
     next: usize,
@@ -51,18 +58,39 @@ fn letter_at(s: &[u8], at: usize) -> u8 {
     b' '
 }
 
-// The call and the three numbers behind the label.
+// Form 2 where the call, which stands up to a place, ends with a 2; else the old form with the number behind the call.
+fn read_given(s: &[u8], end: usize) -> Given
+    requires { ⌜ end ≤ length (now s) ⌝ }
+    ensures { λ r. ⌜ r .next ≤ length (now (s .entry)) ⌝ }
+{
+    if end > 0 {
+        if s[end - 1] == b'2' {
+            return Given {
+                handed: Handed::Second,
+                next: end,
+            };
+        }
+    }
+    let options = read_number(s, end);
+    Given {
+        handed: Handed::Old(as_options(options.value)),
+        next: options.next,
+    }
+}
+
+// The call and the numbers behind the label.
 fn read_question(s: &[u8], at: usize) -> Question
     requires { ⌜ at ≤ length (now s) ⌝ }
     ensures { λ r. ⌜ r .next ≤ length (now (s .entry)) ⌝ }
 {
     let call = script::skip(s, at);
-    let options = read_number(s, script::find(s, call, b' '));
-    let outs = read_number(s, options.next);
+    let given = read_given(s, script::find(s, call, b' '));
+    let outs = read_number(s, given.next);
     let lent = read_number(s, outs.next);
+    let handed = given.handed;
     Question {
         letter: letter_at(s, call),
-        options: as_options(options.value),
+        handed,
         outs: outs.value,
         lent: lent.value,
         next: lent.next,
@@ -90,28 +118,34 @@ fn is_big(label: &[u8]) -> bool {
 fn lend(q: Question, s: &[u8], out: &mut [u8], work: &mut [u8], brief: bool) {
     let outs = q.outs;
     let lent = q.lent;
+    let handed = q.handed;
     if outs > out.len() {
         return;
     }
     if lent > work.len() {
         return;
     }
-    let written = call_by(
-        q.letter,
-        s,
-        q.options,
-        &mut out[0..outs],
-        &mut work[0..lent],
-    );
-    say_output(out, written, brief);
+    let written = call_by(q.letter, handed, s, &mut out[0..outs], &mut work[0..lent]);
+    say_output(out, handed, written, brief);
     say_work(work, lent);
 }
 
 // The same with buffers for it alone. There is room for the longest section, and for work memory that is longer than a call asks for.
 fn ask(q: Question, s: &[u8], brief: bool) {
-    let mut out = [FILL; 65536];
+    let mut out = [FILL; 98304];
     let mut work = [FILL; 131072];
     lend(q, s, &mut out, &mut work, brief);
+}
+
+// The record that is spelled from a place on, in the form that it is handed over in; how many bytes.
+fn spell(handed: Handed, s: &[u8], at: usize, bytes: &mut [u8]) -> usize
+    requires { ⌜ at ≤ length (now s) ⌝ }
+    ensures { λ r. ⌜ r ≤ length (now (bytes .exit)) ⌝ }
+{
+    match handed {
+        Handed::Old(_) => script::spell(s, at, bytes),
+        Handed::Second => script::spell_second(s, at, bytes),
+    }
 }
 
 // What follows the label, which ends at a place.
@@ -120,7 +154,8 @@ fn answer(s: &[u8], at: usize)
 {
     let mut bytes = io::large_buffer();
     let q = read_question(s, at);
-    let n = script::spell(s, q.next, &mut bytes);
+    let handed = q.handed;
+    let n = spell(handed, s, q.next, &mut bytes);
     ask(q, &bytes[0..n], is_big(s));
 }
 

@@ -1,4 +1,4 @@
-// Each call, with what it answers said. What it gives is how much of the output it says that it wrote.
+// Each call, on a record as it is handed over, with what it answers said. What it gives is how much of the output it says that it wrote.
 
 use crate::say::say_with;
 use crate::section::Written;
@@ -35,16 +35,16 @@ fn say_good(document: usize, events: usize) -> Written {
 }
 
 // Whether a record is good. The one call that has no output.
-fn call_read(s: &[u8], options: u32, work: &mut [u8]) -> Written {
-    match record::call::read(Handed::Old(options), s, work) {
+fn call_read(handed: Handed, s: &[u8], work: &mut [u8]) -> Written {
+    match record::call::read(handed, s, work) {
         Reading::Good { document, events } => say_good(document, events),
         Reading::Refused(refusal) => say_refusal(refusal),
     }
 }
 
 // The attention resolver, the one with three counts.
-fn call_attention(s: &[u8], options: u32, out: &mut [u8], work: &mut [u8]) -> Written {
-    match attention::call::resolve_attention(Handed::Old(options), s, out, work) {
+fn call_attention(handed: Handed, s: &[u8], out: &mut [u8], work: &mut [u8]) -> Written {
+    match attention::call::resolve_attention(handed, s, out, work) {
         attention::call::Answer::Resolved {
             events,
             groups,
@@ -55,28 +55,28 @@ fn call_attention(s: &[u8], options: u32, out: &mut [u8], work: &mut [u8]) -> Wr
 }
 
 // The heading resolver, which answers how many events there are and nothing more.
-fn call_headings(s: &[u8], options: u32, out: &mut [u8], work: &mut [u8]) -> Written {
-    match heading::resolve::resolve_headings(Handed::Old(options), s, out, work) {
+fn call_headings(handed: Handed, s: &[u8], out: &mut [u8], work: &mut [u8]) -> Written {
+    match heading::resolve::resolve_headings(handed, s, out, work) {
         heading::resolve::Answer::Resolved { events } => say_events(events),
         heading::resolve::Answer::Refused(refusal) => say_refusal(refusal),
     }
 }
 
 // The list resolver, which answers how many events there are and nothing more.
-fn call_lists(s: &[u8], options: u32, out: &mut [u8], work: &mut [u8]) -> Written {
-    match list::call::resolve_lists(Handed::Old(options), s, out, work) {
+fn call_lists(handed: Handed, s: &[u8], out: &mut [u8], work: &mut [u8]) -> Written {
+    match list::call::resolve_lists(handed, s, out, work) {
         list::call::Answer::Resolved { events } => say_events(events),
         list::call::Answer::Refused(refusal) => say_refusal(refusal),
     }
 }
 
 // The call that a letter stands for; of any other letter nothing is said.
-pub fn call_by(letter: u8, s: &[u8], options: u32, out: &mut [u8], work: &mut [u8]) -> Written {
+pub fn call_by(letter: u8, handed: Handed, s: &[u8], out: &mut [u8], work: &mut [u8]) -> Written {
     match letter {
-        b'r' => call_read(s, options, work),
-        b'a' => call_attention(s, options, out, work),
-        b'h' => call_headings(s, options, out, work),
-        b'l' => call_lists(s, options, out, work),
+        b'r' => call_read(handed, s, work),
+        b'a' => call_attention(handed, s, out, work),
+        b'h' => call_headings(handed, s, out, work),
+        b'l' => call_lists(handed, s, out, work),
         _ => Written::Nothing,
     }
 }

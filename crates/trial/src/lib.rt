@@ -11,10 +11,16 @@
 //
 //     whole: events 10 groups 1 tried 1; 10: +2@0 +3@0 -3@1 +4@1 +0@1 -0@2 -4@2 +3@2 -3@3 -2@3; work memory zero
 //
-// Of a label that begins with `big-` the section's events are left out, and its count is said. Both buffers are filled with 0xa5 before each
-// call and looked at whole after it: the output has to be as it was behind the section, and all of it where none is written; the work memory
-// has to be zero as far as it was lent, and as it was behind that. What is not as promised is said in capitals. That all is well is said too,
-// so that a line that is not run for some reason differs from one that went well.
+// The calls on form 2 are `read2`, `attention2`, `headings2` and `lists2`. Such a line has no options: its record carries them. Of each event that
+// is written the partner's number is said too:
+//
+//     whole-2 attention2 124 65536 %59 #3 "*a*" #6 +1@0 -1@1 +0@1 -0@2 +1@2 -1@3
+//     whole-2: events 10 groups 1 tried 1; 10: +2@0/9 +3@0/2 -3@1/1 +4@1/6 +0@1/5 -0@2/4 -4@2/3 +3@2/8 -3@3/7 -2@3/0; work memory zero
+//
+// Of a label that begins with `big-` the section's events are left out, and its count is said; of form 2 also whether each event's partner is the
+// true one. Both buffers are filled with 0xa5 before each call and looked at whole after it: the output has to be as it was behind the section, and
+// all of it where none is written; the work memory has to be zero as far as it was lent, and as it was behind that. What is not as promised is said
+// in capitals. That all is well is said too, so that a line that is not run for some reason differs from one that went well.
 
 mod say; // words and numbers
 mod section; // what a call wrote
@@ -37,9 +43,9 @@ fn lines(text: &[u8]) {
     }
 }
 
-// The script on standard input. Of one longer than 65,536 bytes the rest is not run, and its lines are then missing from what is said.
+// The script on standard input. Of one longer than 131,072 bytes the rest is not run, and its lines are then missing from what is said.
 pub fn run() {
-    let mut text = io::large_buffer();
+    let mut text = [0u8; 131072];
     let n = io::read_full(0, &mut text);
     lines(&text[..n]);
 }

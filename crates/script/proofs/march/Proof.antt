@@ -9,13 +9,16 @@ use Rattle.script.proofs.march.Tie as tie
 use Rattle.script.proofs.march.Reads as reads
 use Rattle.script.proofs.march.Lts as lts
 use Rattle.record.proofs.event.event_at.Reads as event-at-reads
-use Rattle.record.proofs.event.put_event.Reads as put-event-reads
+use Rattle.script.proofs.second.put.Reads as put-reads
 
 abbrev Inv-loop : tie.InvT-loop
-Inv-loop out₀ k step n at₀ left₀ out at left = (16 ≤ at) × (at ≤ length out) × (length out ≡ length out₀)
+Inv-loop out₀ k width step n at₀ left₀ out at left = (24 ≤ at) × (at ≤ length out) × (length out ≡ length out₀)
 
 abbrev μ-loop : tie.MeasureT-loop
-μ-loop out₀ k step n at₀ left₀ out at left = left
+μ-loop out₀ k width step n at₀ left₀ out at left = left
+
+mul-left : tie.Need-mul-left Inv-loop μ-loop
+mul-left c = search needs
 
 loop-holds : tie.Need-loop-holds Inv-loop μ-loop
 loop-holds c = search needs
@@ -29,32 +32,20 @@ same-length c = search needs
 returns : tie.Need-returns Inv-loop μ-loop
 returns c = search needs
 
+mul-event-at : tie.Need-mul-event-at Inv-loop μ-loop
+mul-event-at c = search needs
+
 sub-event-at : tie.Need-sub-event-at Inv-loop μ-loop
 sub-event-at c = search needs
 
 event-at-requires : tie.Need-event-at-requires Inv-loop μ-loop
 event-at-requires c κs = search needs
 
-sub-event-at-2 : tie.Need-sub-event-at-2 Inv-loop μ-loop
-sub-event-at-2 c = search needs
+add-put : tie.Need-add-put Inv-loop μ-loop
+add-put c = search needs
 
-event-at-requires-2 : tie.Need-event-at-requires-2 Inv-loop μ-loop
-event-at-requires-2 c κs = search needs
-
-add-put-event : tie.Need-add-put-event Inv-loop μ-loop
-add-put-event c = search needs
-
-put-event-requires : tie.Need-put-event-requires Inv-loop μ-loop
-put-event-requires c κs = search needs
-
-add-put-event-2 : tie.Need-add-put-event-2 Inv-loop μ-loop
-add-put-event-2 c = search needs
-
-add-put-event-3 : tie.Need-add-put-event-3 Inv-loop μ-loop
-add-put-event-3 c = search needs
-
-put-event-requires-2 : tie.Need-put-event-requires-2 Inv-loop μ-loop
-put-event-requires-2 c κs = search needs
+put-requires : tie.Need-put-requires Inv-loop μ-loop
+put-requires c κs = search needs
 
 add-at : tie.Need-add-at Inv-loop μ-loop
 add-at c = search needs
@@ -80,19 +71,16 @@ march-spec =
     (tie.spec
     Inv-loop
     μ-loop
+    mul-left
     loop-holds
     sub-if1
     same-length
     returns
+    mul-event-at
     sub-event-at
     event-at-requires
-    sub-event-at-2
-    event-at-requires-2
-    add-put-event
-    put-event-requires
-    add-put-event-2
-    add-put-event-3
-    put-event-requires-2
+    add-put
+    put-requires
     add-at
     sub-left
     loop-less

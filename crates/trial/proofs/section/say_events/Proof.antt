@@ -1,6 +1,6 @@
--- `trial::section::say_events` is safe and ends: the events that are left fit the output, and the measure is how many they are.
+-- `trial::section::say_events` is safe and ends. The measure is what is left of the section.
 -- Assumes nothing.
-use Prim.Native.Nat.{_+_, _*_, _≤_}
+use Prim.Native.Nat.{_+_, _≤_, _-_}
 use lib.ListN.{length}
 use borrow.Author.Needs.{needs}
 use Rattle.trial.proofs.section.say_events.Statement.{statement}
@@ -10,22 +10,22 @@ use Rattle.trial.proofs.section.say_events.Lts as lts
 use Rattle.trial.proofs.section.say_event.Reads as say-event-reads
 
 abbrev Inv-loop : tie.InvT-loop
-Inv-loop out n at₀ left₀ at left = at + 8 * left ≤ length out
+Inv-loop out end width at₀ at = at ≤ end + 4
 
 abbrev μ-loop : tie.MeasureT-loop
-μ-loop out n at₀ left₀ at left = left
+μ-loop out end width at₀ at = end + 12 - at
 
 loop-holds : tie.Need-loop-holds Inv-loop μ-loop
 loop-holds c = search needs
+
+add-loop : tie.Need-add-loop Inv-loop μ-loop
+add-loop c = search needs
 
 say-event-requires : tie.Need-say-event-requires Inv-loop μ-loop
 say-event-requires c κs = search needs
 
 add-at : tie.Need-add-at Inv-loop μ-loop
 add-at c = search needs
-
-sub-left : tie.Need-sub-left Inv-loop μ-loop
-sub-left c = search needs
 
 loop-less : tie.Need-loop-less Inv-loop μ-loop
 loop-less c = search needs
@@ -43,9 +43,9 @@ say-events-spec =
     Inv-loop
     μ-loop
     loop-holds
+    add-loop
     say-event-requires
     add-at
-    sub-left
     loop-less
     loop-again
     returns)

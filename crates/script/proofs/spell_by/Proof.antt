@@ -1,23 +1,23 @@
--- `script::spell` is safe, ends, and answers no more bytes than there is room for. The measure is what is left of the text.
+-- `script::spell_by` is safe, ends, and answers no more bytes than there is room for. The measure is what is left of the text.
 -- Assumes nothing.
 use mathlib.Core.Path.{_≡_}
 use Prim.Native.Nat.{_≤_, _-_}
 use lib.ListN.{length}
 use borrow.Author.Needs.{needs}
-use Rattle.script.proofs.spell.Statement.{statement}
-use Rattle.script.proofs.spell.Tie as tie
-use Rattle.script.proofs.spell.Reads as reads
-use Rattle.script.proofs.spell.Lts as lts
+use Rattle.script.proofs.spell_by.Statement.{statement}
+use Rattle.script.proofs.spell_by.Tie as tie
+use Rattle.script.proofs.spell_by.Reads as reads
+use Rattle.script.proofs.spell_by.Lts as lts
 use Rattle.script.proofs.copy.Reads as copy-reads
 use Rattle.script.proofs.find.Reads as find-reads
 use Rattle.script.proofs.skip.Reads as skip-reads
 use Rattle.script.proofs.word.Reads as word-reads
 
 abbrev Inv-loop : tie.InvT-loop
-Inv-loop s at out₀ k₀ i₀ out k i = (k ≤ length out) × (length out ≡ length out₀) × (i ≤ length s)
+Inv-loop s at width out₀ k₀ i₀ out k i = (k ≤ length out) × (length out ≡ length out₀) × (i ≤ length s)
 
 abbrev μ-loop : tie.MeasureT-loop
-μ-loop s at out₀ k₀ i₀ out k i = length s - i
+μ-loop s at width out₀ k₀ i₀ out k i = length s - i
 
 skip-requires : tie.Need-skip-requires Inv-loop μ-loop
 skip-requires c κs = search needs
@@ -85,8 +85,8 @@ same-length-3 c = search needs
 returns-3 : tie.Need-returns-3 Inv-loop μ-loop
 returns-3 c = search needs
 
-pub spell-spec : {M : Type 1} → statement M
-spell-spec =
+pub spell-by-spec : {M : Type 1} → statement M
+spell-by-spec =
     tie.close
     (tie.spec
     Inv-loop
