@@ -94,8 +94,7 @@ nothing-holdable works options document es q =
     let p₃ = missed _ _ _ (λ r. let z : _≡_ {A = ℕ} 0 1 = cc in omega arith) (p₂ .1) in
     let p₄ = missed _ _ _ (λ r. let z : _≡_ {A = ℕ} 0 1 = cc in omega arith) (p₃ .1) in
     let p₅ = missed _ _ _ (λ r. let z : _≡_ {A = ℕ} 0 1 = cc in omega arith) (p₄ .1) in
-    let r : length document ≤ firstReturn (length document) document 0 = ltb-false _ _ (p₅ .0) in
-    (
+    let r : length document ≤ firstReturn (length document) document 0 = ltb-false _ _ (p₅ .0) in (
       ltb-false _ _ (p₁ .0),
       ltb-false _ _ (p₂ .0),
       record {
