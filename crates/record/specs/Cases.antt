@@ -9,7 +9,8 @@ use Rattle.record.specs.Form.{old}
 use Rattle.record.specs.Event.{storedAt, enter, exit, flat, allStoredAt}
 use Rattle.record.specs.Stack.{fitsOpen, after}
 use Rattle.record.specs.Sound.{placed}
-use Rattle.record.specs.Check.{refuse, countAt, firstReturn, formed, paired, truly, judge, insideOf, endOf, eventCountOf, checkedIn}
+use Rattle.record.specs.Check.{refuse, countAt, firstReturn, formed, paired, truly, judge, insideOf, endOf, eventCountOf, checkedIn, fronted, admitted}
+use Rattle.record.specs.declared.form.Handed.the-variants.{Second}
 use Rattle.record.specs.declared.check.Reading.{Reading}
 use Rattle.record.specs.declared.check.Reading.the-variants.{Good}
 
@@ -52,3 +53,29 @@ cases =
 pub computed : map (λ (c : Case). checkedIn old (c .bytes)) cases ≡ map (λ (c : Case). c .found) cases
 unfolding cases flat checkedIn countAt eventCountOf endOf insideOf firstReturn allStoredAt judge paired truly formed placed fitsOpen after choose and
 computed = refl
+
+-- form 2: the first section, what it does to the places behind it, and partner numbers
+unfoldable pub fronts : List Case
+fronts =
+    -- under four bytes; a count of 1 and nothing more; another count, whatever follows; an option byte over 63
+    case [] (refuse 3 0)
+    ∷ case (2 ∷ 0 ∷ 0 ∷ []) (refuse 3 0)
+    ∷ case (u32Bytes 1) (refuse 3 0)
+    ∷ case (u32Bytes 0) (refuse 2 0)
+    ∷ case (u32Bytes 2) (refuse 2 0)
+    ∷ case (u32Bytes 257 ++ (0 ∷ u32Bytes 0 ++ u32Bytes 0)) (refuse 2 0)
+    ∷ case (u32Bytes 1 ++ (64 ∷ [])) (refuse 2 0)
+    -- no document's count, no events' count, a byte too many
+    ∷ case (u32Bytes 1 ++ (63 ∷ [])) (refuse 3 5)
+    ∷ case (u32Bytes 1 ++ (0 ∷ u32Bytes 0)) (refuse 3 9)
+    ∷ case (u32Bytes 1 ++ (0 ∷ u32Bytes 0 ++ u32Bytes 0 ++ (0 ∷ []))) (refuse 3 13)
+    -- a pair that is true; the enter's number untrue; the exit's; an enter left open, whatever its number
+    ∷ case (u32Bytes 1 ++ (0 ∷ u32Bytes 0 ++ u32Bytes 2 ++ flat (enter 0 0 ∷ []) ++ u32Bytes 1 ++ flat (exit 0 0 ∷ []) ++ u32Bytes 0)) (Good 0 2)
+    ∷ case (u32Bytes 1 ++ (0 ∷ u32Bytes 0 ++ u32Bytes 2 ++ flat (enter 0 0 ∷ []) ++ u32Bytes 0 ++ flat (exit 0 0 ∷ []) ++ u32Bytes 0)) (refuse 5 25)
+    ∷ case (u32Bytes 1 ++ (0 ∷ u32Bytes 0 ++ u32Bytes 2 ++ flat (enter 0 0 ∷ []) ++ u32Bytes 1 ++ flat (exit 0 0 ∷ []) ++ u32Bytes 1)) (refuse 5 25)
+    ∷ case (u32Bytes 1 ++ (0 ∷ u32Bytes 0 ++ u32Bytes 1 ++ flat (enter 0 0 ∷ []) ++ u32Bytes 0)) (refuse 5 25)
+    ∷ []
+
+pub fronts-computed : map (λ (c : Case). admitted Second (c .bytes) 65536) fronts ≡ map (λ (c : Case). c .found) fronts
+unfolding fronts flat admitted fronted checkedIn countAt eventCountOf endOf insideOf firstReturn allStoredAt judge paired truly formed placed fitsOpen after choose and
+fronts-computed = refl

@@ -1,6 +1,6 @@
 -- What a good record is: all that the check of its document and its events tells of one, said once. The inner functions of resolvers ask it of a
 -- record; proofs/Good.antt proves that a record is so where the check answers `Good`. What stands before the document's count in form 2 is not part
--- of it: `checkedSecond` asks that first.
+-- of it: `fronted` asks that first.
 -- Assumes nothing.
 use Prim.Native.Nat.{ℕ, _+_, _≤_, _<_}
 use mathlib.Core.Path.{_≡_}
