@@ -1,13 +1,11 @@
-// A record of the events that the arguments of `record` spell.
+// The events that the arguments of `record` spell.
 //
-// One event past the limit is enough for the record to be refused for it. So behind the place where the events begin there is room for 2,049 of
-// them, which are 16,392 bytes.
+// One event past the limit is enough for their record to be refused for it. So a section has room for 2,049 of them, which are 16,392 bytes behind
+// its count.
 
-use crate::input::Got;
 use crate::input::RECORD_ROOM;
-use crate::input::TEXT_ROOM;
 use crate::input::memory;
-use crate::split::frame;
+use record::bytes::put_u32;
 use record::event::put_event;
 use record::limits::MAX_EVENTS;
 use terminal::notation::Noted;
@@ -20,18 +18,18 @@ ghost use Prim.Native.Nat.{_+_, _≤_};
 ghost use lib.ListN.{length};
 
 // How many events there are so far, or that a word is none, which is then said.
-enum Taken {
+pub enum Taken {
     Events(usize),
     Nothing,
 }
 
-// Writes the event that a word spells, at a place of the record; whether it spells one.
-fn put_word(word: &[u8], rec: &mut [u8], to: usize) -> bool
-    requires { ⌜ to + 8 ≤ length (now rec) ⌝ }
+// Writes the event that a word spells, at a place of the section; whether it spells one.
+fn put_word(word: &[u8], section: &mut [u8], to: usize) -> bool
+    requires { ⌜ to + 8 ≤ length (now section) ⌝ }
 {
     match event_in(word) {
         Noted::Is(event) => {
-            put_event(rec, to, event.kind, event.name, event.place);
+            put_event(section, to, event.kind, event.name, event.place);
             return true;
         }
         Noted::Large => {
@@ -45,8 +43,8 @@ fn put_word(word: &[u8], rec: &mut [u8], to: usize) -> bool
 }
 
 // Writes the events that words spell behind so many that are there already.
-fn put_words(words: &[u8], rec: &mut [u8], from: usize, events: usize) -> Taken
-    requires { ⌜ from + 16392 ≤ length (now rec) ⌝ }
+fn put_words(words: &[u8], section: &mut [u8], events: usize) -> Taken
+    requires { ⌜ 16396 ≤ length (now section) ⌝ }
 {
     let mut events = events;
     let mut i = word_start(words, 0);
@@ -55,7 +53,7 @@ fn put_words(words: &[u8], rec: &mut [u8], from: usize, events: usize) -> Taken
             return Taken::Events(events);
         }
         let end = word_end(words, i);
-        if !put_word(&words[i..end], rec, from + 8 * events) {
+        if !put_word(&words[i..end], section, 4 + 8 * events) {
             return Taken::Nothing;
         }
         events += 1;
@@ -65,8 +63,8 @@ fn put_words(words: &[u8], rec: &mut [u8], from: usize, events: usize) -> Taken
 }
 
 // The same for the words of argument i. The longest words for as many events as a record takes fit here.
-fn put_argument(i: usize, rec: &mut [u8], from: usize, events: usize) -> Taken
-    requires { ⌜ from + 16392 ≤ length (now rec) ⌝ }
+fn put_argument(i: usize, section: &mut [u8], events: usize) -> Taken
+    requires { ⌜ 16396 ≤ length (now section) ⌝ }
 {
     let mut words = memory();
     let n = os::arg(i, &mut words);
@@ -74,18 +72,18 @@ fn put_argument(i: usize, rec: &mut [u8], from: usize, events: usize) -> Taken
         blame(b"too long", i);
         return Taken::Nothing;
     }
-    put_words(&words[..n], rec, from, events)
+    put_words(&words[..n], section, events)
 }
 
 // The same for all arguments from a number on.
-fn put_arguments(first: usize, rec: &mut [u8], from: usize) -> Taken
-    requires { ⌜ from + 16392 ≤ length (now rec) ⌝ }
+fn put_arguments(first: usize, section: &mut [u8]) -> Taken
+    requires { ⌜ 16396 ≤ length (now section) ⌝ }
 {
     let count = os::arg_count();
     let mut events = 0;
     let mut i = first;
     while i < count {
-        match put_argument(i, rec, from, events) {
+        match put_argument(i, section, events) {
             Taken::Events(n) => {
                 events = n;
             }
@@ -98,17 +96,18 @@ fn put_arguments(first: usize, rec: &mut [u8], from: usize) -> Taken
     Taken::Events(events)
 }
 
-// Writes the record of a text with the events that the arguments from a number on spell; its length.
-pub fn put_given(text: &[u8], first: usize, rec: &mut [u8]) -> Got {
-    let d = text.len();
-    if d > TEXT_ROOM {
-        return Got::Nothing;
+// Writes the section of the events that the arguments from a number on spell; how many they are.
+pub fn put_given(first: usize, section: &mut [u8]) -> Taken {
+    if section.len() < RECORD_ROOM {
+        return Taken::Nothing;
     }
-    if rec.len() < RECORD_ROOM {
-        return Got::Nothing;
-    }
-    match put_arguments(first, rec, 8 + d) {
-        Taken::Events(events) => Got::Bytes(frame(text, events, rec)),
-        Taken::Nothing => Got::Nothing,
+    match put_arguments(first, section) {
+        Taken::Events(events) => {
+            put_u32(section, 0, events);
+            return Taken::Events(events);
+        }
+        Taken::Nothing => {
+            return Taken::Nothing;
+        }
     }
 }

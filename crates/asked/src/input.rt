@@ -2,6 +2,7 @@
 
 use crate::args::Asked;
 use libc::STDIN_FILENO;
+use record::form::Handed;
 use terminal::say::fail;
 use terminal::words::same;
 
@@ -81,14 +82,22 @@ fn read_file(path: &[u8], buffer: &mut [u8]) -> Got {
     got
 }
 
-// A record has at most 8 + 16,384 + 8 × 2,048 = 32,776 bytes. Of a longer one a buffer of more has all that its refusal hangs on: both counts,
-// and a byte behind the last section.
+// A record has at most 8 + 16,384 + 8 × 2,048 = 32,776 bytes, and in form 2 at most 13 + 16,384 + 12 × 2,048 = 40,973. Of a longer one a buffer of
+// more has all that its refusal hangs on: its counts, and a byte behind the last section.
 pub const RECORD_ROOM: usize = 65536;
 
-// Memory for a record, for a section and for a call's work: the library asks 65,536 bytes of each of those two. That it has so many is what
-// the type of the answer says, so that no caller counts them.
+// Memory for a record, for the section of one, and for a call's work, of which the library asks 65,536 bytes. That it has so many is what the type
+// of the answer says, so that no caller counts them.
 pub fn memory() -> [u8; RECORD_ROOM] {
     [0u8; RECORD_ROOM]
+}
+
+// A resolver's section has at most 4 + 8 × 8,000 = 64,004 bytes, and in form 2 at most 4 + 12 × 8,000.
+pub const RESULT_ROOM: usize = 96004;
+
+// Memory for a resolver's section.
+pub fn result_memory() -> [u8; RESULT_ROOM] {
+    [0u8; RESULT_ROOM]
 }
 
 // The record in a file, or on standard input where the file's name is a dash.
@@ -111,4 +120,9 @@ pub fn record_asked(asked: Asked, buffer: &mut [u8]) -> Got {
         return Got::Nothing;
     }
     read_record(&path[..n], buffer)
+}
+
+// How the record that is asked about, or that is made, is handed over: in the old form, with the options beside it.
+pub fn handed_asked(asked: Asked) -> Handed {
+    Handed::Old(asked.options)
 }

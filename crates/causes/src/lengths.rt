@@ -1,5 +1,6 @@
 // Why a length does not fit: the cause of refusal 3, of a record.
 
+use crate::front::explain_front_length;
 use crate::refuse::because;
 use record::bytes::u32_at;
 use record::limits::MAX_DOCUMENT;
@@ -26,9 +27,9 @@ fn misfit_at(rec: &[u8], at: usize, limit: usize) -> Misfit {
     Misfit::RunsPast
 }
 
-// The document's count is refused.
-fn explain_document(rec: &[u8]) {
-    match misfit_at(rec, 0, MAX_DOCUMENT) {
+// The document's count, at a place, is refused.
+fn explain_document(rec: &[u8], at: usize) {
+    match misfit_at(rec, at, MAX_DOCUMENT) {
         Misfit::CutOff => because(b"the document's count is cut off"),
         Misfit::Over => because(b"the document's count is over 16,384"),
         Misfit::RunsPast => because(b"the document's count runs past the record's end"),
@@ -44,17 +45,25 @@ fn explain_events(rec: &[u8], at: usize) {
     }
 }
 
-// The cause, by the place: the document's count stands at 0, the events' count behind the document, and any other place is behind both sections.
-pub fn explain_length(rec: &[u8], place: usize) {
-    if place == 0 {
-        explain_document(rec);
+// The cause, by the place: the document's count stands behind so many bytes in front, the events' count behind the document, and any other place is
+// behind both sections, or is that of the section in front.
+pub fn explain_length(rec: &[u8], front: usize, place: usize) {
+    if place < front {
+        explain_front_length(rec);
+        return;
+    }
+    if place == front {
+        explain_document(rec, place);
         return;
     }
     if rec.len() < 4 {
         return;
     }
-    let d = u32_at(rec, 0);
-    if place == 4 + d {
+    if rec.len() - 4 < front {
+        return;
+    }
+    let d = u32_at(rec, front);
+    if place == 4 + front + d {
         explain_events(rec, place);
         return;
     }

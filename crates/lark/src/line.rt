@@ -2,8 +2,10 @@
 
 use asked::args::Asked;
 use asked::input::RECORD_ROOM;
-use asked::input::TEXT_ROOM;
+use asked::input::handed_asked;
 use asked::input::memory;
+use asked::made::Made;
+use asked::made::put_record;
 use atx::Headed;
 use atx::heading;
 use causes::refuse::refuse_line;
@@ -17,9 +19,10 @@ use lines::item::Start;
 use lines::item::list_item;
 use lines::spaces::Spaces;
 use lines::spaces::space_or_tab;
-use record::bytes::put_u32;
 use record::check::Refusal;
 use record::form::Handed;
+use record::form::form_of;
+use record::form::old;
 use record::limits::HEADING_TEXT;
 use record::limits::MAX_EVENTS;
 use terminal::events::event_of;
@@ -32,9 +35,6 @@ use terminal::say::say;
 use terminal::say::say_number;
 use terminal::say::say_range;
 use terminal::say::say_with;
-use terminal::words::copy_in;
-ghost use Prim.Native.Nat.{_≤_};
-ghost use lib.ListN.{length};
 
 // As many columns as the spaces and tabs of a line can have: 16,384 tabs of four.
 const ALL: usize = 65536;
@@ -46,31 +46,11 @@ enum Title {
     Refused(Refusal),
 }
 
-// The record whose document is the line and whose events are those of the section; its length. A section of more events than a record may
-// have is cut off behind as many bytes as fit: the count alone has it refused.
-fn put_heading(line: &[u8], section: &[u8], events: usize, rec: &mut [u8]) -> usize
-    ensures { λ r. ⌜ r ≤ length (now (rec .exit)) ⌝ }
-{
-    let d = line.len();
-    if d > TEXT_ROOM {
-        return 0;
-    }
-    if rec.len() < RECORD_ROOM {
-        return 0;
-    }
-    put_u32(rec, 0, d);
-    copy_in(line, rec, 4);
-    copy_in(section, rec, 4 + d);
-    if events > 5000 {
-        return RECORD_ROOM;
-    }
-    8 + d + 8 * events
-}
-
 // A refusal of a heading's record, which is for its events alone, by the place in the line of the first piece for which it has no room: its enter
-// is the last event that a record takes, where the heading's exit should be.
+// is the last event that a record takes, where the heading's exit should be. The section has the events as they were read, side by side.
 fn crowded(refusal: Refusal, section: &[u8]) -> Title {
-    let event = event_of(section, MAX_EVENTS - 1);
+    let read = old();
+    let event = event_of(section, read.width, MAX_EVENTS - 1);
     Title::Refused(Refusal {
         number: refusal.number,
         place: event.place,
@@ -78,27 +58,37 @@ fn crowded(refusal: Refusal, section: &[u8]) -> Title {
 }
 
 // The resolved events of a record, put into the section, where its events as they were read are.
-fn resolve_title(rec: &[u8], options: u32, section: &mut [u8]) -> Title {
+fn resolve_title(rec: &[u8], handed: Handed, section: &mut [u8]) -> Title {
     let mut work = memory();
-    match resolve_headings(Handed::Old(options), rec, section, &mut work) {
+    match resolve_headings(handed, rec, section, &mut work) {
         Answer::Resolved { events } => Title::Events(events),
         Answer::Refused(refusal) => crowded(refusal, section),
     }
 }
 
 // The resolved events of a line that is a heading, put into the section, where its events as it was read are.
-fn find_events(line: &[u8], options: u32, section: &mut [u8], events: usize) -> Title {
+fn find_events(line: &[u8], asked: Asked, section: &mut [u8], events: usize) -> Title {
+    let handed = handed_asked(asked);
     let mut rec = memory();
-    let n = put_heading(line, section, events, &mut rec);
-    resolve_title(&rec[0..n], options, section)
+    match put_record(line, section, events, handed, asked.options, &mut rec) {
+        Made::Bytes(n) => {
+            if n > RECORD_ROOM {
+                return Title::NotHeading;
+            }
+            return resolve_title(&rec[0..n], handed, section);
+        }
+        Made::Refused(refusal) => {
+            return crowded(refusal, section);
+        }
+    }
 }
 
-// The resolved events of a line that starts at a column, put into the section.
-fn find_title(line: &[u8], options: u32, column: usize, section: &mut [u8]) -> Title {
-    match heading(line, options, column, section) {
+// The resolved events of a line, put into the section.
+fn find_title(line: &[u8], asked: Asked, section: &mut [u8]) -> Title {
+    match heading(line, asked.options, asked.column, section) {
         Headed::NotHeading => Title::NotHeading,
         Headed::Refused(refusal) => Title::Refused(refusal),
-        Headed::Heading { events } => find_events(line, options, section, events),
+        Headed::Heading { events } => find_events(line, asked, section, events),
     }
 }
 
@@ -120,17 +110,17 @@ fn say_leading(spaces: Spaces) {
 }
 
 // Where a heading's text stands, and its events.
-fn say_heading(section: &[u8], events: usize) {
-    let k = first_enter(section, events, HEADING_TEXT);
+fn say_heading(section: &[u8], width: usize, events: usize) {
+    let k = first_enter(section, width, events, HEADING_TEXT);
     if k < events {
-        let event = event_of(section, k);
+        let event = event_of(section, width, k);
         say(b"heading: text ");
-        say_range(event.place, exit_of(section, events, k));
+        say_range(event.place, exit_of(section, width, events, k));
         say(b"\nheading: events ");
     } else {
         say(b"heading: no text\nheading: events ");
     }
-    say_events(section, events);
+    say_events(section, width, events);
 }
 
 // Whether an item is bulleted or ordered, and its mark.
@@ -240,7 +230,8 @@ fn read_others(line: &[u8], asked: Asked) -> bool {
 fn answer(line: &[u8], asked: Asked, section: &[u8], title: Title) -> u8 {
     say_leading(space_or_tab(line, asked.options, asked.column, 0, ALL));
     if let Title::Events(events) = title {
-        say_heading(section, events);
+        let form = form_of(handed_asked(asked));
+        say_heading(section, form.width, events);
     } else {
         say(b"heading: no\n");
     }
@@ -250,7 +241,7 @@ fn answer(line: &[u8], asked: Asked, section: &[u8], title: Title) -> u8 {
 // The answer on any line. The heading comes first: all that can be refused shows there, before a word is written.
 pub fn read_line(line: &[u8], asked: Asked) -> u8 {
     let mut section = memory();
-    let title = find_title(line, asked.options, asked.column, &mut section);
+    let title = find_title(line, asked, &mut section);
     if let Title::Refused(refusal) = title {
         return refuse_line(line, refusal);
     }

@@ -91,7 +91,7 @@ enum OnText {
 // What a command says of its text, and the status that it leaves with.
 fn answer(command: OnText, text: &[u8], asked: Asked) -> u8 {
     match command {
-        OnText::Show { styled } => show::show_text(text, asked.options, styled),
+        OnText::Show { styled } => show::show_text(text, asked, styled),
         OnText::Line => line::read_line(text, asked),
         OnText::Record => show::record_text(text, asked),
     }

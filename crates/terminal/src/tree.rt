@@ -153,18 +153,32 @@ fn open_behind(event: Event, open: Open) -> Open {
 }
 
 // What the k-th event says, with these groups open; those that are open behind it.
-fn step(text: &[u8], section: &[u8], events: usize, k: usize, open: Open, styled: bool) -> Open {
-    let event = event_of(section, k);
+fn step(
+    text: &[u8],
+    section: &[u8],
+    width: usize,
+    events: usize,
+    k: usize,
+    open: Open,
+    styled: bool,
+) -> Open {
+    let event = event_of(section, width, k);
     if event.kind == ENTER {
         if is_shown(event.name) {
-            say_node(text, event, exit_of(section, events, k), open, styled);
+            say_node(
+                text,
+                event,
+                exit_of(section, width, events, k),
+                open,
+                styled,
+            );
         }
     }
     open_behind(event, open)
 }
 
-// All of a section of so many events, with or without styles.
-pub fn say_tree(text: &[u8], section: &[u8], events: usize, styled: bool) {
+// All of a section of so many events, each of `width` bytes, with or without styles.
+pub fn say_tree(text: &[u8], section: &[u8], width: usize, events: usize, styled: bool) {
     let mut open = Open {
         all: 0,
         emphasis: 0,
@@ -173,7 +187,7 @@ pub fn say_tree(text: &[u8], section: &[u8], events: usize, styled: bool) {
     };
     let mut k = 0;
     while k < events {
-        open = step(text, section, events, k, open, styled);
+        open = step(text, section, width, events, k, open, styled);
         k += 1;
     }
 }

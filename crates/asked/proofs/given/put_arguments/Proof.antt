@@ -8,10 +8,10 @@ use Rattle.asked.proofs.given.put_arguments.Statement.{statement}
 use Rattle.asked.proofs.given.put_arguments.Tie as tie
 
 abbrev Inv-loop : tie.InvT-loop
-Inv-loop first rec₀ from count events₀ i₀ rec events i = (first ≤ i) × (length rec ≡ length rec₀)
+Inv-loop first section₀ count events₀ i₀ section events i = (first ≤ i) × (length section ≡ length section₀)
 
 abbrev μ-loop : tie.MeasureT-loop
-μ-loop first rec₀ from count events₀ i₀ rec events i = count - i
+μ-loop first section₀ count events₀ i₀ section events i = count - i
 
 arg-count-requires : tie.Need-arg-count-requires Inv-loop μ-loop
 arg-count-requires c κs = search needs

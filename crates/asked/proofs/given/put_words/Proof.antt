@@ -8,10 +8,10 @@ use Rattle.asked.proofs.given.put_words.Statement.{statement}
 use Rattle.asked.proofs.given.put_words.Tie as tie
 
 abbrev Inv-loop : tie.InvT-loop
-Inv-loop words rec₀ from events events₀ i₀ rec events' i = (i ≤ length words) × (length rec ≡ length rec₀)
+Inv-loop words section₀ events events₀ i₀ section events' i = (i ≤ length words) × (length section ≡ length section₀)
 
 abbrev μ-loop : tie.MeasureT-loop
-μ-loop words rec₀ from events events₀ i₀ rec events' i = length words - i
+μ-loop words section₀ events events₀ i₀ section events' i = length words - i
 
 word-start-requires : tie.Need-word-start-requires Inv-loop μ-loop
 word-start-requires c κs = search needs

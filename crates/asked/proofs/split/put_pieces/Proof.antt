@@ -8,10 +8,10 @@ use Rattle.asked.proofs.split.put_pieces.Statement.{statement}
 use Rattle.asked.proofs.split.put_pieces.Tie as tie
 
 abbrev Inv-loop : tie.InvT-loop
-Inv-loop text options rec₀ from i₀ to₀ events₀ rec i to events = (i ≤ length text) × (events ≤ 2050) × (length rec ≡ length rec₀)
+Inv-loop text options section₀ i₀ to₀ events₀ section i to events = (i ≤ length text) × (events ≤ 2050) × (length section ≡ length section₀)
 
 abbrev μ-loop : tie.MeasureT-loop
-μ-loop text options rec₀ from i₀ to₀ events₀ rec i to events = length text - i
+μ-loop text options section₀ i₀ to₀ events₀ section i to events = length text - i
 
 loop-holds : tie.Need-loop-holds Inv-loop μ-loop
 loop-holds c = search needs

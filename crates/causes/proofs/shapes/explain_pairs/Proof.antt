@@ -6,10 +6,10 @@ use Rattle.causes.proofs.shapes.explain_pairs.Statement.{statement}
 use Rattle.causes.proofs.shapes.explain_pairs.Tie as tie
 
 abbrev Inv-loop : tie.InvT-loop
-Inv-loop section k n i₀ i = i ≤ n + 1
+Inv-loop section width k n i₀ i = i ≤ n + 1
 
 abbrev μ-loop : tie.MeasureT-loop
-μ-loop section k n i₀ i = n - i
+μ-loop section width k n i₀ i = n - i
 
 loop-holds : tie.Need-loop-holds Inv-loop μ-loop
 loop-holds c = search needs

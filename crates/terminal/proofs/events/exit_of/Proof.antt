@@ -6,10 +6,10 @@ use Rattle.terminal.proofs.events.exit_of.Statement.{statement}
 use Rattle.terminal.proofs.events.exit_of.Tie as tie
 
 abbrev Inv-loop : tie.InvT-loop
-Inv-loop section events k open₀ i₀ «open» i = k ≤ i
+Inv-loop section width events k open₀ i₀ «open» i = k ≤ i
 
 abbrev μ-loop : tie.MeasureT-loop
-μ-loop section events k open₀ i₀ «open» i = events - i
+μ-loop section width events k open₀ i₀ «open» i = events - i
 
 loop-holds : tie.Need-loop-holds Inv-loop μ-loop
 loop-holds c = search needs

@@ -6,10 +6,10 @@ use Rattle.terminal.proofs.events.innermost_before.Statement.{statement
 use Rattle.terminal.proofs.events.innermost_before.Tie as tie
 
 abbrev Inv-loop : tie.InvT-loop
-Inv-loop section k left₀ i₀ left i = left + i ≤ k
+Inv-loop section width k left₀ i₀ left i = left + i ≤ k
 
 abbrev μ-loop : tie.MeasureT-loop
-μ-loop section k left₀ i₀ left i = i
+μ-loop section width k left₀ i₀ left i = i
 
 loop-holds : tie.Need-loop-holds Inv-loop μ-loop
 loop-holds c = search needs

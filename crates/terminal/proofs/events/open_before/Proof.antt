@@ -6,10 +6,10 @@ use Rattle.terminal.proofs.events.open_before.Statement.{statement}
 use Rattle.terminal.proofs.events.open_before.Tie as tie
 
 abbrev Inv-loop : tie.InvT-loop
-Inv-loop section k open₀ i₀ «open» i = i ≤ k
+Inv-loop section width k open₀ i₀ «open» i = i ≤ k
 
 abbrev μ-loop : tie.MeasureT-loop
-μ-loop section k open₀ i₀ «open» i = k - i
+μ-loop section width k open₀ i₀ «open» i = k - i
 
 loop-holds : tie.Need-loop-holds Inv-loop μ-loop
 loop-holds c = search needs

@@ -6,10 +6,10 @@ use Rattle.terminal.proofs.events.say_events.Statement.{statement}
 use Rattle.terminal.proofs.events.say_events.Tie as tie
 
 abbrev Inv-loop : tie.InvT-loop
-Inv-loop section events k₀ k = k ≤ events
+Inv-loop section width events k₀ k = k ≤ events
 
 abbrev μ-loop : tie.MeasureT-loop
-μ-loop section events k₀ k = events - k
+μ-loop section width events k₀ k = events - k
 
 loop-holds : tie.Need-loop-holds Inv-loop μ-loop
 loop-holds c = search needs

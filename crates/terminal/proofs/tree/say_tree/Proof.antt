@@ -6,10 +6,10 @@ use Rattle.terminal.proofs.tree.say_tree.Statement.{statement}
 use Rattle.terminal.proofs.tree.say_tree.Tie as tie
 
 abbrev Inv-loop : tie.InvT-loop
-Inv-loop text section events styled open₀ k₀ «open» k = k ≤ events
+Inv-loop text section width events styled open₀ k₀ «open» k = k ≤ events
 
 abbrev μ-loop : tie.MeasureT-loop
-μ-loop text section events styled open₀ k₀ «open» k = events - k
+μ-loop text section width events styled open₀ k₀ «open» k = events - k
 
 loop-holds : tie.Need-loop-holds Inv-loop μ-loop
 loop-holds c = search needs
