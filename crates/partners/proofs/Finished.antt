@@ -1,4 +1,4 @@
--- A section of the old form made one of a form: `widen`, then `link`. A resolver that writes the old form needs no other writer.
+-- A section of the old form made one of a form, by `widen`. A resolver that writes the old form needs no other writer.
 -- Assumes nothing.
 use mathlib.Core.Path.{_≡_, refl, sym, ap, _∙_}
 use mathlib.Core.Bool.{true}
@@ -7,27 +7,23 @@ use mathlib.Core.List.{List, [], _++_}
 use Prim.Native.Nat.{ℕ, zero, suc, _+_, _*_, _≤_, _<_}
 use native.Mathlib.Nat.{mul-le-mul-right}
 use native.Mathlib.Omega.{arith}
-use lib.ListN.{length, replicate, length-replicate, length-append}
+use lib.ListN.{length, length-append}
 use lib.Seq.{sets}
 use Rattle.record.specs.Bytes.{u32Bytes, Wrote}
 use Rattle.record.specs.Event.{eventsBy, flat, sectionBytes}
 use Rattle.record.specs.Form.{old}
 use Rattle.record.specs.Outcome.{onto}
-use Rattle.record.specs.Partners.{balanced, partners, flatWith, flatLinked, sectionIn}
+use Rattle.record.specs.Partners.{flatLinked, sectionIn}
 use Rattle.record.specs.ReadsBack.{Storable}
 use Rattle.record.specs.Sound.{sound}
 use Rattle.record.specs.declared.event.Event.{Event}
 use Rattle.record.specs.declared.form.Form.{Form}
-use Rattle.record.proofs.Parts.{length-events}
 use Rattle.record.proofs.ReadsBack.{sound-storable}
 use Rattle.record.proofs.Sections.{length-flat}
-use Rattle.record.proofs.Splice.{wrote-length, sets-append, sets-front}
-use Rattle.partners.specs.Fields.{Links}
+use Rattle.record.proofs.Splice.{sets-append, sets-front}
 use Rattle.partners.specs.Finished.{Finished, SectionIsRead, SectionIsFinished}
 use Rattle.partners.proofs.Sets.{sets-over}
-use Rattle.partners.proofs.Walk.{length-partners}
-use Rattle.partners.proofs.Laws.{sound-balanced}
-use Rattle.partners.proofs.Written.{length-flatWith, length-flatLinked, section-narrow, section-wide, stand-read, stand-wrote, linked-flat, linked-section}
+use Rattle.partners.proofs.Written.{length-flatLinked, section-narrow, section-wide, linked-section}
 use Rattle.partners.proofs.SectionReadsBack.{section-onto}
 
 -- the places of sound events are small
@@ -39,46 +35,6 @@ pub room-wide : (w n end : ℕ) → 12 ≤ w → 4 + w * n ≤ end → 4 + 12 * 
 room-wide w n end h r =
     let m : 12 * n ≤ w * n = mul-le-mul-right n h in
     omega arith
-
--- where `widen` has moved n sound events apart, `link` finds them balanced, and leaves them with their partners
-module _ (d n : ℕ) {d₀ d₁ : List ℕ} (small : d ≤ 16384) (fits : 4 + 12 * n ≤ length d₀) (s : sound 8000 d (eventsBy 8 n d₀ 4) ≡ true)
-    (w : Wrote d₀ 4 (flatWith (eventsBy 8 n d₀ 4) (replicate n 0)) d₁) where
-  equal-lengths : length {A = ℕ} (replicate n 0) ≡ length (eventsBy 8 n d₀ 4)
-  equal-lengths = length-replicate n 0 ∙ sym (length-events 8 n d₀ 4)
-
-  pub still-balanced : balanced (eventsBy 12 n d₁ 4) ≡ true
-  still-balanced =
-      let e : length (eventsBy 8 n d₀ 4) ≡ n = length-events 8 n d₀ 4 in
-      let l : length d₁ ≡ length d₀ = wrote-length w in
-      ap (λ (m : ℕ). balanced (eventsBy 12 m d₁ 4)) (sym e)
-      ∙ ap balanced
-      (stand-read (eventsBy 8 n d₀ 4) d₁ 4
-      (stand-wrote (eventsBy 8 n d₀ 4) (replicate n 0) w equal-lengths (omega arith))
-      (omega arith)
-      (places-small 8000 d (eventsBy 8 n d₀ 4) s small))
-      ∙ sound-balanced 8000 d (eventsBy 8 n d₀ 4) s
-
-  pub moved-and-linked : {d₂ : List ℕ} → Links d₁ 4 n d₂ → Wrote d₀ 4 (flatLinked (eventsBy 8 n d₀ 4)) d₂
-  unfolding flatLinked
-  moved-and-linked {d₂} k =
-      let e : length (eventsBy 8 n d₀ 4) ≡ n = length-events 8 n d₀ 4 in
-      let l : length d₁ ≡ length d₀ = wrote-length w in
-      let k′ : Links d₁ 4 (length (eventsBy 8 n d₀ 4)) d₂ = rw (sym e) at k in
-      let v : Wrote d₁ 4 (flatLinked (eventsBy 8 n d₀ 4)) d₂ =
-      linked-flat
-      (stand-wrote (eventsBy 8 n d₀ 4) (replicate n 0) w equal-lengths (omega arith))
-      (omega arith)
-      (places-small 8000 d (eventsBy 8 n d₀ 4) s small)
-      k′ in
-      let same : length (flatWith (eventsBy 8 n d₀ 4) (replicate n 0)) ≡ length (flatWith (eventsBy 8 n d₀ 4) (partners (eventsBy 8 n d₀ 4))) =
-      length-flatWith (eventsBy 8 n d₀ 4) (replicate n 0) equal-lengths
-      ∙ sym (length-flatWith (eventsBy 8 n d₀ 4) (partners (eventsBy 8 n d₀ 4)) (length-partners (eventsBy 8 n d₀ 4))) in
-      record {
-        same =
-            v .same
-            ∙ ap (λ (x : List ℕ). sets x 4 (flatLinked (eventsBy 8 n d₀ 4))) (w .same)
-            ∙ sets-over d₀ 4 (flatWith (eventsBy 8 n d₀ 4) (replicate n 0)) (flatLinked (eventsBy 8 n d₀ 4)) (omega arith);
-      }
 
 -- the two ends of `finish`
 pub unchanged : (f : Form) (n : ℕ) (d : List ℕ) → f .width < 12 → Finished f n d d

@@ -1,9 +1,7 @@
 pub mod Sets
-pub mod Puts
 pub mod Walk
 pub mod Closing
 pub mod Laws
-pub mod Linking
 pub mod Written
 pub mod SectionReadsBack
 pub mod Laid
@@ -13,6 +11,7 @@ pub mod Records
 pub mod Rewritten
 pub mod EitherForm
 pub mod Carried
+pub mod Backward
 pub mod Widening
 pub mod Finished
 pub mod Settled

@@ -6,14 +6,15 @@ use Prim.Native.Nat.{ℕ, suc, _+_, _≤_, _<_}
 use native.Mathlib.Omega.{arith}
 use lib.ListN.{length, getD, set}
 use lib.Seq.{sets, getD-set-other, set-comm, set-set}
+use Rattle.record.specs.Bytes.{u32At}
 
 pub get-below : (d : List ℕ) (i : ℕ) (xs : List ℕ) (j : ℕ) → j < i → getD (sets d i xs) j 0 ≡ getD d j 0
 get-below d i [] j h = refl
 get-below d i (x ∷ xs) j h = get-below (set d i x) (suc i) xs j (omega arith) ∙ getD-set-other d i j x 0 (λ e. omega arith)
 
-pub get-above : (d : List ℕ) (i : ℕ) (xs : List ℕ) (j : ℕ) → i + length xs ≤ j → getD (sets d i xs) j 0 ≡ getD d j 0
-get-above d i [] j h = refl
-get-above d i (x ∷ xs) j h = get-above (set d i x) (suc i) xs j (omega arith) ∙ getD-set-other d i j x 0 (λ e. omega arith)
+-- a number is read from its four bytes alone
+pub word-same : (d₁ d₂ : List ℕ) (i : ℕ) → ((j : ℕ) → j < i + 4 → getD d₁ j 0 ≡ getD d₂ j 0) → u32At d₁ i ≡ u32At d₂ i
+word-same d₁ d₂ i f = rw (f i (omega arith), f (i + 1) (omega arith), f (i + 2) (omega arith), f (i + 3) (omega arith))
 
 -- a store below
 pub set-sets : (d : List ℕ) (i : ℕ) (xs : List ℕ) (j v : ℕ) → j < i → set (sets d i xs) j v ≡ sets (set d j v) i xs

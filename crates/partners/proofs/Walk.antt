@@ -1,15 +1,15 @@
--- The walk that links partners, over plain lists. Before event i, `held` are the open enters, innermost first; `fs` are the fields of the events
--- before i: an open enter's field is the number of the enter below it, and every other's is its partner. `top` is the innermost open enter.
+-- The walk that finds partners, over plain lists, from the first event on. Before event i, `held` are the open enters, innermost first, each with what is
+-- to close it; and every other event before i is in a pair.
 -- Assumes nothing.
 use mathlib.Core.Path.{_≡_, refl, sym, ap, _∙_}
 use mathlib.Core.Bool.{true}
 use mathlib.Core.Logic.{_⊎_, inl, inr}
-use mathlib.Core.List.{List, [], _∷_, _++_}
+use mathlib.Core.List.{List, [], _∷_}
 use Prim.Native.Nat.{ℕ, zero, suc, _+_, _-_, _≤_, _<_}
 use native.Mathlib.Numerals.{add-one}
 use native.Mathlib.Omega.{arith}
-use lib.ListN.{length, getD, set, drop, length-append, length-set, List·getD-append}
-use lib.Seq.{drop-cons, drop-length, getD-set-same, getD-set-other, getD-append-seam, ext-getD}
+use lib.ListN.{length, getD, drop}
+use lib.Seq.{drop-cons, drop-length}
 use borrow.Author.Tests.{eq-eqb, ne-eqb, eqb-true, ltb-true}
 use Rattle.record.specs.Choice.{choose, and}
 use Rattle.record.specs.Event.{event}
@@ -18,11 +18,11 @@ use Rattle.record.specs.Stack.{innermostOf, outer, after, nth}
 use Rattle.record.specs.declared.event.Event.{Event}
 use Rattle.record.proofs.Bools.{and-left, and-right}
 
--- the enters `held`, innermost first, of which m are inside the first: each is chained to the next by its field, and its partner is what closes it
-pub data Chain (es : List Event) (ps fs : List ℕ) (left : List Event) (i : ℕ) : ℕ → ℕ → ℕ → List ℕ → Type 0 where
-  closed : {m top bound : ℕ} → Chain es ps fs left i m top bound []
-  opened : {m top bound h : ℕ} {hs : List ℕ} → top ≡ h → h < bound → nth es h .kind ≡ 0 → getD ps h 0 ≡ closing m left i →
-      Chain es ps fs left i (m + 1) (getD fs h 0) h hs → Chain es ps fs left i m top bound (h ∷ hs)
+-- the enters `held`, innermost first, of which m are inside the first: each one's partner is what closes it
+pub data Chain (es : List Event) (ps : List ℕ) (left : List Event) (i : ℕ) : ℕ → ℕ → List ℕ → Type 0 where
+  closed : {m bound : ℕ} → Chain es ps left i m bound []
+  opened : {m bound h : ℕ} {hs : List ℕ} → h < bound → nth es h .kind ≡ 0 → getD ps h 0 ≡ closing m left i →
+      Chain es ps left i (m + 1) h hs → Chain es ps left i m bound (h ∷ hs)
 
 pub data Held (k : ℕ) : List ℕ → Type 0 where
   here : {hs : List ℕ} → Held k (k ∷ hs)
@@ -42,24 +42,20 @@ pub data Paired (es : List Event) (ps : List ℕ) (k : ℕ) : Type 0 where
   as-enter : {q : ℕ} → Pair es ps k q → Paired es ps k
   as-exit : {q : ℕ} → Pair es ps q k → Paired es ps k
 
-pub record Walk (es : List Event) (ps fs : List ℕ) (i top : ℕ) (held : List ℕ) : Type 0 where
-  pub count : length fs ≡ i
+pub record Walk (es : List Event) (ps : List ℕ) (i : ℕ) (held : List ℕ) : Type 0 where
   pub within : i ≤ length es
   pub rest : drop i ps ≡ partnersFrom (drop i es) i held
   pub fits : balancedFrom (length held) (drop i es) ≡ true
-  pub chain : Chain es ps fs (drop i es) i 0 top i held
-  pub fields : (k : ℕ) → k < i → Held k held ⊎ (getD fs k 0 ≡ getD ps k 0)
+  pub chain : Chain es ps (drop i es) i 0 i held
   pub pairs : (k : ℕ) → k < i → Held k held ⊎ Paired es ps k
 
-pub start : (es : List Event) (top : ℕ) → balancedFrom 0 es ≡ true → Walk es (partners es) [] 0 top []
-start es top b =
+pub start : (es : List Event) → balancedFrom 0 es ≡ true → Walk es (partners es) 0 []
+start es b =
     record {
-      count = refl;
       within = omega arith;
       rest = refl;
       fits = b;
       chain = closed;
-      fields = λ k h. absurd (omega arith);
       pairs = λ k h. absurd (omega arith);
     }
 
@@ -108,17 +104,13 @@ drop-both (x ∷ ps) (suc i) p qs q =
     let n : suc i + 1 ≡ suc (i + 1) = omega arith in
     (r .0, ap (λ (m : ℕ). drop m (x ∷ ps)) n ∙ r .1)
 
--- a chain, where the fields below its bound are as they were, and the event in between makes the depths m to m′
-lift : {es : List Event} {ps fs fs′ : List ℕ} {left left′ : List Event} {i i′ m m′ top bound : ℕ} {hs : List ℕ} →
-    ((k : ℕ) → k < bound → getD fs′ k 0 ≡ getD fs k 0) →
+-- a chain, where the event in between makes the depths m to m′
+lift : {es : List Event} {ps : List ℕ} {left left′ : List Event} {i i′ m m′ bound : ℕ} {hs : List ℕ} →
     ((a b : ℕ) → m ≤ a → a + m′ ≡ b + m → closing a left i ≡ closing b left′ i′) →
-    Chain es ps fs left i m top bound hs → Chain es ps fs′ left′ i′ m′ top bound hs
-lift agree shift closed = closed
-lift {es} {ps} {fs} {fs′} {left} {left′} {i} {i′} {m} {m′} {top} {bound} agree shift (opened {h = h} {hs = hs} t l z w r) =
-    let inner : Chain es ps fs′ left′ i′ (m′ + 1) (getD fs h 0) h hs =
-    lift (λ k g. agree k (omega arith)) (λ a b g e. shift a b (omega arith) (omega arith)) r in
-    let inner′ : Chain es ps fs′ left′ i′ (m′ + 1) (getD fs′ h 0) h hs = rw (agree h l) inner in
-    opened t l z (w ∙ shift m m′ (omega arith) (omega arith)) inner′
+    Chain es ps left i m bound hs → Chain es ps left′ i′ m′ bound hs
+lift shift closed = closed
+lift {es} {ps} {left} {left′} {i} {i′} {m} {m′} {bound} shift (opened {h = h} {hs = hs} l z w r) =
+    opened l z (w ∙ shift m m′ (omega arith) (omega arith)) (lift (λ a b g e. shift a b (omega arith) (omega arith)) r)
 
 split-lt : (k i : ℕ) → k < i + 1 → (k < i) ⊎ (k ≡ i)
 split-lt zero zero h = inr refl
@@ -143,23 +135,19 @@ same (suc a) (suc b) = go (same a b)
 pub drop-next : (es : List Event) (i : ℕ) → i < length es → drop i es ≡ nth es i ∷ drop (i + 1) es
 drop-next es i more = drop-cons es i (event 0 0 0) more ∙ ap (λ (m : ℕ). nth es i ∷ drop m es) (sym (add-one i))
 
--- one enter: its field gets the enter below it
-module _ {es : List Event} {ps fs : List ℕ} {i top : ℕ} {held : List ℕ} (w : Walk es ps fs i top held) (more : i < length es) (z : nth es i .kind ≡ 0) where
+-- one enter: it is open
+module _ {es : List Event} {ps : List ℕ} {i : ℕ} {held : List ℕ} (w : Walk es ps i held) (more : i < length es) (z : nth es i .kind ≡ 0) where
   enter-rest : drop i ps ≡ closing 0 (drop (i + 1) es) (i + 1) ∷ partnersFrom (drop (i + 1) es) (i + 1) (i ∷ held)
   enter-rest = w .rest ∙ ap (λ (l : List Event). partnersFrom l i held) (drop-next es i more) ∙ rest-enter (nth es i) (drop (i + 1) es) i held z
 
-  enter-chain : Chain es ps (fs ++ (top ∷ [])) (drop (i + 1) es) (i + 1) 0 i (i + 1) (i ∷ held)
+  enter-chain : Chain es ps (drop (i + 1) es) (i + 1) 0 (i + 1) (i ∷ held)
   enter-chain =
-      let last : getD (fs ++ (top ∷ [])) i 0 ≡ top = ap (λ (m : ℕ). getD (fs ++ (top ∷ [])) m 0) (sym (w .count)) ∙ getD-append-seam fs top [] 0 in
       let b : i < i + 1 = omega arith in
-      let c : length fs ≡ i = w .count in
-      let inner : Chain es ps (fs ++ (top ∷ [])) (drop (i + 1) es) (i + 1) 1 top i held =
+      let inner : Chain es ps (drop (i + 1) es) (i + 1) 1 i held =
       lift
-      (λ k g. List·getD-append fs (top ∷ []) 0 k (omega arith))
       (λ a b g e. ap (λ (l : List Event). closing a l i) (drop-next es i more) ∙ closing-enter (nth es i) (drop (i + 1) es) a b i z (omega arith))
       (w .chain) in
-      let inner′ : Chain es ps (fs ++ (top ∷ [])) (drop (i + 1) es) (i + 1) 1 (getD (fs ++ (top ∷ [])) i 0) i held = rw last inner in
-      opened refl b z (drop-both ps i _ _ enter-rest .0) inner′
+      opened b z (drop-both ps i _ _ enter-rest .0) inner
 
   enter-held : {A : ℕ → Type 0} (k : ℕ) → ((j : ℕ) → j < i → Held j held ⊎ A j) → k < i + 1 → Held k (i ∷ held) ⊎ ((k < i) × A k)
   enter-held {A} k f h = go (split-lt k i h)
@@ -174,49 +162,38 @@ module _ {es : List Event} {ps fs : List ℕ} {i top : ℕ} {held : List ℕ} (w
           let g : Held i (i ∷ held) = here in
           inl (rw e g)
 
-  pub entered : Walk es ps (fs ++ (top ∷ [])) (i + 1) i (i ∷ held)
+  pub entered : Walk es ps (i + 1) (i ∷ held)
   entered =
-      let c : length fs ≡ i = w .count in
       record {
-        count = omega (arith, length-append fs (top ∷ []));
         within = omega arith;
         rest = drop-both ps i _ _ enter-rest .1;
         fits = fits-enter (length held) (nth es i) (drop (i + 1) es) z (rw (drop-next es i more) at (w .fits));
         chain = enter-chain;
-        fields = λ k h. go k (enter-held {A = λ (j : ℕ). getD fs j 0 ≡ getD ps j 0} k (w .fields) h);
         pairs = λ k h. on k (enter-held {A = λ (j : ℕ). Paired es ps j} k (w .pairs) h);
       }
     where
-      go : (k : ℕ) → Held k (i ∷ held) ⊎ ((k < i) × (getD fs k 0 ≡ getD ps k 0)) → Held k (i ∷ held) ⊎ (getD (fs ++ (top ∷ [])) k 0 ≡ getD ps k 0)
-      go k (inl h) = inl h
-      go k (inr a) =
-          let c : length fs ≡ i = w .count in
-          let l : k < length fs = omega (arith, a .0) in
-          inr (List·getD-append fs (top ∷ []) 0 k l ∙ a .1)
-
       on : (k : ℕ) → Held k (i ∷ held) ⊎ ((k < i) × Paired es ps k) → Held k (i ∷ held) ⊎ Paired es ps k
       on k (inl h) = inl h
       on k (inr a) = inr (a .1)
 
 -- what the innermost of a chain tells
-record Top (es : List Event) (ps fs : List ℕ) (left : List Event) (i m top bound h : ℕ) (hs : List ℕ) : Type 0 where
-  at-top : top ≡ h
+record Top (es : List Event) (ps : List ℕ) (left : List Event) (i m bound h : ℕ) (hs : List ℕ) : Type 0 where
   below : h < bound
   enters : nth es h .kind ≡ 0
   closes : getD ps h 0 ≡ closing m left i
-  inner : Chain es ps fs left i (m + 1) (getD fs h 0) h hs
+  inner : Chain es ps left i (m + 1) h hs
 
-top-of : {es : List Event} {ps fs : List ℕ} {left : List Event} {i m top bound h : ℕ} {hs : List ℕ} → Chain es ps fs left i m top bound (h ∷ hs) →
-    Top es ps fs left i m top bound h hs
-top-of (opened t l z q r) = record { at-top = t; below = l; enters = z; closes = q; inner = r }
+top-of : {es : List Event} {ps : List ℕ} {left : List Event} {i m bound h : ℕ} {hs : List ℕ} → Chain es ps left i m bound (h ∷ hs) →
+    Top es ps left i m bound h hs
+top-of (opened l z q r) = record { below = l; enters = z; closes = q; inner = r }
 
 held-below : {k h : ℕ} {hs : List ℕ} → (k ≡ h → ⊥) → Held k (h ∷ hs) → Held k hs
 held-below n here = absurd (n refl)
 held-below n (there g) = g
 
--- one exit: its field gets the innermost open enter, and that one's field gets the exit
-module _ {es : List Event} {ps fs : List ℕ} {i top h : ℕ} {hs : List ℕ} (w : Walk es ps fs i top (h ∷ hs)) (more : i < length es) (z : nth es i .kind ≡ 0 → ⊥) where
-  exit-top : Top es ps fs (drop i es) i 0 top i h hs
+-- one exit: it is the partner of the innermost open enter
+module _ {es : List Event} {ps : List ℕ} {i h : ℕ} {hs : List ℕ} (w : Walk es ps i (h ∷ hs)) (more : i < length es) (z : nth es i .kind ≡ 0 → ⊥) where
+  exit-top : Top es ps (drop i es) i 0 i h hs
   exit-top = top-of (w .chain)
 
   exit-rest : drop i ps ≡ h ∷ partnersFrom (drop (i + 1) es) (i + 1) hs
@@ -233,28 +210,20 @@ module _ {es : List Event} {ps fs : List ℕ} {i top h : ℕ} {hs : List ℕ} (w
         exits = z;
       }
 
-  -- the fields afterwards
-  exit-field : (k : ℕ) → k < i → (k ≡ h → ⊥) → getD (set fs h i ++ (h ∷ [])) k 0 ≡ getD fs k 0
-  exit-field k l n =
-      let c : length fs ≡ i = w .count in
-      let d : length (set fs h i) ≡ length fs = length-set fs h i in
-      List·getD-append (set fs h i) (h ∷ []) 0 k (omega arith) ∙ getD-set-other fs h k i 0 n
-
-  exit-chain : Chain es ps (set fs h i ++ (h ∷ [])) (drop (i + 1) es) (i + 1) 0 (getD fs h 0) (i + 1) hs
+  exit-chain : Chain es ps (drop (i + 1) es) (i + 1) 0 (i + 1) hs
   exit-chain =
       let b : h < i = exit-top .below in
-      let r : Chain es ps (set fs h i ++ (h ∷ [])) (drop (i + 1) es) (i + 1) 0 (getD fs h 0) h hs =
+      let r : Chain es ps (drop (i + 1) es) (i + 1) 0 h hs =
       lift
-      (λ k g. exit-field k (omega arith) (λ e. omega arith))
       (λ a b g e. ap (λ (l : List Event). closing a l i) (drop-next es i more) ∙ closing-inner (nth es i) (drop (i + 1) es) a b i z (omega arith))
       (exit-top .inner) in
       wider r (omega arith)
     where
-      wider : {fs : List ℕ} {left : List Event} {i m top b b′ : ℕ} {hs : List ℕ} → Chain es ps fs left i m top b hs → b ≤ b′ → Chain es ps fs left i m top b′ hs
+      wider : {left : List Event} {i m b b′ : ℕ} {hs : List ℕ} → Chain es ps left i m b hs → b ≤ b′ → Chain es ps left i m b′ hs
       wider closed l = closed
-      wider {b′ = b′} (opened {h = h} t l z q r) g =
+      wider {b′ = b′} (opened {h = h} l z q r) g =
           let l′ : h < b′ = omega arith in
-          opened t l′ z q r
+          opened l′ z q r
 
   -- an event below i: the enter that is closed now, or still held, or done before
   exit-held : {A : ℕ → Type 0} (k : ℕ) → ((j : ℕ) → j < i → Held j (h ∷ hs) ⊎ A j) → k < i → (k ≡ h) ⊎ (Held k hs ⊎ ((k ≡ h → ⊥) × A k))
@@ -267,31 +236,6 @@ module _ {es : List Event} {ps fs : List ℕ} {i top h : ℕ} {hs : List ℕ} (w
       go : (k ≡ h) ⊎ (k ≡ h → ⊥) → (k ≡ h) ⊎ (Held k hs ⊎ ((k ≡ h → ⊥) × A k))
       go (inl e) = inl e
       go (inr n) = inr (on n (f k l))
-
-  exit-fields : (k : ℕ) → k < i + 1 → Held k hs ⊎ (getD (set fs h i ++ (h ∷ [])) k 0 ≡ getD ps k 0)
-  exit-fields k l = go (split-lt k i l)
-    where
-      c : length (set fs h i) ≡ i
-      c = length-set fs h i ∙ w .count
-
-      first : getD (set fs h i ++ (h ∷ [])) h 0 ≡ getD ps h 0
-      first =
-          let b : h < i = exit-top .below in
-          let d : length fs ≡ i = w .count in
-          let d′ : length (set fs h i) ≡ i = c in
-          List·getD-append (set fs h i) (h ∷ []) 0 h (omega arith) ∙ getD-set-same fs h i 0 (omega arith) ∙ sym (exit-pair .forth)
-
-      last : getD (set fs h i ++ (h ∷ [])) i 0 ≡ getD ps i 0
-      last = ap (λ (m : ℕ). getD (set fs h i ++ (h ∷ [])) m 0) (sym c) ∙ getD-append-seam (set fs h i) h [] 0 ∙ sym (exit-pair .back)
-
-      on : k < i → (k ≡ h) ⊎ (Held k hs ⊎ ((k ≡ h → ⊥) × (getD fs k 0 ≡ getD ps k 0))) → Held k hs ⊎ (getD (set fs h i ++ (h ∷ [])) k 0 ≡ getD ps k 0)
-      on g (inl e) = inr (rw e first)
-      on g (inr (inl x)) = inl x
-      on g (inr (inr a)) = inr (exit-field k g (a .0) ∙ a .1)
-
-      go : (k < i) ⊎ (k ≡ i) → Held k hs ⊎ (getD (set fs h i ++ (h ∷ [])) k 0 ≡ getD ps k 0)
-      go (inl g) = on g (exit-held {A = λ (j : ℕ). getD fs j 0 ≡ getD ps j 0} k (w .fields) g)
-      go (inr e) = inr (rw e last)
 
   exit-pairs : (k : ℕ) → k < i + 1 → Held k hs ⊎ Paired es ps k
   exit-pairs k l = go (split-lt k i l)
@@ -317,24 +261,19 @@ module _ {es : List Event} {ps fs : List ℕ} {i top h : ℕ} {hs : List ℕ} (w
       let k : suc (length hs) - 1 ≡ length hs = omega arith in
       rw k at (r .1)
 
-  exited : (top < i) × Walk es ps (set fs top i ++ (top ∷ [])) (i + 1) (getD fs top 0) hs
+  exited : Walk es ps (i + 1) hs
   exited =
-      rw (exit-top .at-top) (
-        exit-top .below,
-        record {
-          count = omega (arith, length-append (set fs h i) (h ∷ []), length-set fs h i, w .count);
-          within = omega arith;
-          rest = drop-both ps i _ _ exit-rest .1;
-          fits = exit-fits;
-          chain = exit-chain;
-          fields = exit-fields;
-          pairs = exit-pairs;
-        },
-      )
+      record {
+        within = omega arith;
+        rest = drop-both ps i _ _ exit-rest .1;
+        fits = exit-fits;
+        chain = exit-chain;
+        pairs = exit-pairs;
+      }
 
 -- at an exit some enter is open
-pub left-one : {es : List Event} {ps fs : List ℕ} {i top : ℕ} {held : List ℕ} → Walk es ps fs i top held → i < length es → (nth es i .kind ≡ 0 → ⊥) →
-    (top < i) × Walk es ps (set fs top i ++ (top ∷ [])) (i + 1) (getD fs top 0) (outer held)
+pub left-one : {es : List Event} {ps : List ℕ} {i : ℕ} {held : List ℕ} → Walk es ps i held → i < length es → (nth es i .kind ≡ 0 → ⊥) →
+    Walk es ps (i + 1) (outer held)
 left-one {es} {i = i} {held = []} w more z =
     let r = fits-exit 0 (nth es i) (drop (i + 1) es) z (rw (drop-next es i more) at (w .fits)) in
     absurd (omega (arith, r .0))
@@ -345,7 +284,7 @@ unfolding balancedFrom
 open-end n q = let z : suc n ≡ 0 = eqb-true (suc n) 0 q in omega arith
 
 -- in the end none is open
-all-closed : {es : List Event} {ps fs : List ℕ} {i top : ℕ} {held : List ℕ} → Walk es ps fs i top held → length es ≤ i → held ≡ []
+all-closed : {es : List Event} {ps : List ℕ} {i : ℕ} {held : List ℕ} → Walk es ps i held → length es ≤ i → held ≡ []
 all-closed {held = []} w h = refl
 all-closed {es} {i = i} {held = k ∷ hs} w h =
     let n : i ≡ length es = omega (arith, w .within) in
@@ -364,28 +303,18 @@ not-held : {A : Type 0} (k : ℕ) (held : List ℕ) → held ≡ [] → Held k h
 not-held k [] e (inr a) = a
 not-held k (h ∷ hs) e s = let z : _≡_ {A = ℕ} 0 1 = cc in absurd (omega arith)
 
--- and the fields are the partners
-pub walked : {es : List Event} {fs : List ℕ} {i top : ℕ} {held : List ℕ} → Walk es (partners es) fs i top held → length es ≤ i → fs ≡ partners es
-walked {es} {fs} {i} {top} {held} w h =
-    let c : length fs ≡ i = w .count in
-    let b : i ≤ length es = w .within in
-    let l : length (partners es) ≡ length es = length-partners es in
-    ext-getD 0 fs (partners es) (omega arith) (λ k g. not-held k held (all-closed w h) (w .fields k (omega arith)))
-
 -- the walk can be gone
-record Gone (es : List Event) (i : ℕ) : Type 0 where
-  fs : List ℕ
-  top : ℕ
-  held : List ℕ
-  walk : Walk es (partners es) fs i top held
+pub record Gone (es : List Event) (i : ℕ) : Type 0 where
+  pub held : List ℕ
+  pub walk : Walk es (partners es) i held
 
-gone : (es : List Event) → balancedFrom 0 es ≡ true → (i : ℕ) → i ≤ length es → Gone es i
-gone es b zero h = record { fs = []; top = 0; held = []; walk = start es 0 b }
+pub gone : (es : List Event) → balancedFrom 0 es ≡ true → (i : ℕ) → i ≤ length es → Gone es i
+gone es b zero h = record { held = []; walk = start es b }
 gone es b (suc i) h = go (gone es b i (omega arith)) (same (nth es i .kind) 0)
   where
     go : Gone es i → (nth es i .kind ≡ 0) ⊎ (nth es i .kind ≡ 0 → ⊥) → Gone es (suc i)
-    go g (inl z) = rw (← add-one i) (record { fs = _; top = _; held = _; walk = entered (g .walk) (omega arith) z })
-    go g (inr z) = rw (← add-one i) (record { fs = _; top = _; held = _; walk = left-one (g .walk) (omega arith) z .1 })
+    go g (inl z) = rw (← add-one i) (record { held = _; walk = entered (g .walk) (omega arith) z })
+    go g (inr z) = rw (← add-one i) (record { held = _; walk = left-one (g .walk) (omega arith) z })
 
 -- every event of a balanced list is in a pair
 pub all-paired : (es : List Event) → balancedFrom 0 es ≡ true → (k : ℕ) → k < length es → Paired es (partners es) k

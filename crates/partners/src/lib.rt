@@ -1,54 +1,50 @@
 // Partners: which event closes which. An event of form 2 carries the number of its partner behind its eight bytes.
 //
 // A resolver writes its section in the old form, whatever the form of the record. `finish` then makes it one of the record's form: where events
-// carry partner numbers, it moves them apart and goes once over them. It keeps no stack: while an enter is open, its partner field holds the number
-// of the enter below it. So a result may be of any depth.
+// carry partner numbers, `widen` goes once over them, from the last to the first, moves them apart and puts the numbers in. It keeps no stack: as long
+// as an exit's enter is still to come, its partner field holds the number of the exit around it. So a result may be of any depth.
 
 use record::bytes::put_u32;
 use record::bytes::u32_at;
-use record::event::put_event;
+use record::bytes::wide;
 use record::form::Form;
-use record::limits::ENTER;
 ghost use mathlib.Core.Path.{_≡_};
 ghost use mathlib.Core.Bool.{true};
+ghost use mathlib.Core.List.{_++_};
 ghost use Prim.Native.Nat.{_+_, _*_, _≤_, _<_};
-ghost use lib.ListN.{length, replicate};
-ghost use Rattle.record.specs.Bytes.{Wrote};
+ghost use lib.ListN.{length};
+ghost use Rattle.record.specs.Bytes.{u32Bytes, Wrote};
 ghost use Rattle.record.specs.Event.{eventsBy};
 ghost use Rattle.record.specs.Sound.{sound};
-ghost use Rattle.record.specs.Partners.{balanced, flatWith};
-ghost use Rattle.partners.specs.Fields.{Links};
+ghost use Rattle.record.specs.Partners.{balanced, flatLinked};
+ghost use Rattle.partners.specs.Fields.{Head};
 ghost use Rattle.partners.specs.Finished.{Finished};
 
-// Puts the partner numbers into the n events of twelve bytes that stand from a place on, whatever their partner fields held.
-pub fn link(out: &mut [u8], at: usize, n: usize)
-    requires { ⌜ (at + 12 * n ≤ length (now out)) × (n < 4294967296) × (balanced (eventsBy 12 n (now out) at) ≡ true) ⌝ }
-    ensures { λ _. ⌜ Links (now (out .entry)) at n (now (out .exit)) ⌝ }
+// The kind and the name of the event at a place, as one number: of an enter, a multiple of 256.
+fn head_at(s: &[u8], at: usize) -> usize
+    requires { ⌜ at + 2 ≤ length (now s) ⌝ }
+    ensures { λ r. ⌜ Head (now (s .entry)) at r ⌝ }
 {
-    let mut top = 0;
-    let mut i = 0;
-    let mut here = at;
-    while i < n {
-        if out[here] == ENTER {
-            put_u32(out, here + 8, top);
-            top = i;
-        } else {
-            let there = at + 12 * top + 8;
-            let below = u32_at(out, there);
-            put_u32(out, there, i);
-            put_u32(out, here + 8, top);
-            top = below;
-        }
-        here += 12;
-        i += 1;
-    }
+    wide(s[at]) + 256 * wide(s[at + 1])
 }
 
-// Moves n events that stand eight bytes apart from a place on to twelve bytes apart, from the last to the first, with zero partner fields.
-pub fn widen(out: &mut [u8], at: usize, n: usize)
-    requires { ⌜ at + 12 * n ≤ length (now out) ⌝ }
-    ensures { λ _. ⌜ Wrote (now (out .entry)) at (flatWith (eventsBy 8 n (now (out .entry)) at) (replicate n 0)) (now (out .exit)) ⌝ }
+// An event of twelve bytes, at a place: kind and name as one number, then its place and its partner. Three stores: by `put_event` there would be more.
+fn put_linked(out: &mut [u8], at: usize, head: usize, place: usize, mate: usize)
+    requires { ⌜ at + 12 ≤ length (now out) ⌝ }
+    ensures { λ _. ⌜ Wrote (now (out .entry)) at (u32Bytes head ++ (u32Bytes place ++ u32Bytes mate)) (now (out .exit)) ⌝ }
 {
+    put_u32(out, at, head);
+    put_u32(out, at + 4, place);
+    put_u32(out, at + 8, mate);
+}
+
+// Moves n events that stand eight bytes apart from a place on to twelve bytes apart, each with its partner. `top` is the innermost exit whose enter is
+// still to come; an enter right before its exit goes with it, and `top` is not asked.
+pub fn widen(out: &mut [u8], at: usize, n: usize)
+    requires { ⌜ (at + 12 * n ≤ length (now out)) × (n < 4294967296) × (balanced (eventsBy 8 n (now out) at) ≡ true) ⌝ }
+    ensures { λ _. ⌜ Wrote (now (out .entry)) at (flatLinked (eventsBy 8 n (now (out .entry)) at)) (now (out .exit)) ⌝ }
+{
+    let mut top = 0;
     let mut left = n;
     let mut from = at + 8 * n;
     let mut to = at + 12 * n;
@@ -56,11 +52,28 @@ pub fn widen(out: &mut [u8], at: usize, n: usize)
         left -= 1;
         from -= 8;
         to -= 12;
-        let kind = out[from];
-        let name = out[from + 1];
+        let head = head_at(out, from);
         let place = u32_at(out, from + 4);
-        put_event(out, to, kind, name, place);
-        put_u32(out, to + 8, 0);
+        if head % 256 == 0 {
+            put_linked(out, to, head, place, top);
+            let field = at + 12 * top + 8;
+            let around = u32_at(out, field);
+            put_u32(out, field, left);
+            top = around;
+        } else {
+            let enter = head_at(out, from - 8);
+            if enter % 256 == 0 {
+                let begin = u32_at(out, from - 4);
+                put_linked(out, to, head, place, left - 1);
+                put_linked(out, to - 12, enter, begin, left);
+                left -= 1;
+                from -= 8;
+                to -= 12;
+            } else {
+                put_linked(out, to, head, place, top);
+                top = left;
+            }
+        }
     }
 }
 
@@ -74,5 +87,4 @@ pub fn finish(out: &mut [u8], form: Form, d: usize, n: usize)
         return;
     }
     widen(out, 4, n);
-    link(out, 4, n);
 }
