@@ -4,36 +4,37 @@ use Prim.Native.Nat.{ℕ, zero, suc, _+_, _*_, _<_, _≤_}
 use native.Mathlib.Omega.{arith}
 use mathlib.Core.Path.{_≡_, refl, sym, ap, _∙_}
 use mathlib.Core.Bool.{Bool, true, false}
-use mathlib.Core.Logic.{inl}
+use mathlib.Core.Logic.{_⊎_, inl}
 use mathlib.Core.List.{List, [], _∷_, _++_}
-use lib.ListN.{length, getD, take, drop, length-append}
-use lib.Seq.{take-at}
+use lib.ListN.{length, getD, take}
 use Rattle.record.specs.Form.{old}
-use Rattle.record.specs.Good.{GoodRecord}
+use Rattle.record.specs.Handed.{formOf, optionsOf}
 use Rattle.record.specs.Choice.{choose}
-use Rattle.record.specs.Bytes.{u32At, u32Bytes}
-use Rattle.record.specs.Event.{sectionBytes, sectionAt, recordBytes, documentIn, eventsIn}
+use Rattle.record.specs.Event.{sectionBytes, sectionAt, sectionAtIn, documentIn, eventsIn}
 use Rattle.record.specs.Check.{admitted}
-use Rattle.record.specs.Rows.{Row, documentCountIn, eventCountIn}
+use Rattle.record.specs.Rows.{documentCountIn, eventCountIn}
 use Rattle.record.specs.Sound.{sound}
 use Rattle.record.specs.ReadsBack.{Holdable, AreBytes}
-use Rattle.partners.specs.Records.{SectionThere, beside, RecordThere}
-use Rattle.partners.proofs.Written.{section-narrow}
+use Rattle.partners.specs.Laws.{partnerOf}
+use Rattle.partners.specs.Records.{SectionThere, With, RecordThere}
+use Rattle.partners.proofs.Laid.{two-widths}
+use Rattle.partners.proofs.Written.{section-narrow, length-section-in}
 use Rattle.partners.proofs.SectionReadsBack.{section-onto}
-use Rattle.partners.proofs.Records.{old-record, record-reads-back}
+use Rattle.partners.proofs.Records.{record-reads-back}
+use Rattle.partners.proofs.Rewritten.{good-is-rewritten}
 use Rattle.record.specs.Written.{WrittenRow, by-check, row-7}
 use Rattle.record.specs.Outcome.{Resolution, gives, onto}
-use Rattle.record.specs.Partners.{sectionIn}
+use Rattle.record.specs.Partners.{sectionIn, recordIn}
 use Rattle.record.specs.declared.check.Reading.the-variants.{Good}
 use Rattle.record.specs.declared.event.Event.{Event}
-use Rattle.record.specs.declared.form.Handed.the-variants.{Old}
+use Rattle.record.specs.declared.form.Form.{Form}
+use Rattle.record.specs.declared.form.Handed.{Handed}
+use Rattle.record.specs.declared.form.Handed.the-variants.{Old, Second}
 use Rattle.record.proofs.Exactly.{exactly}
 use Rattle.record.proofs.Good.{admission}
 use Rattle.record.proofs.Whole.{enough-work}
-use Rattle.record.proofs.Parts.{length-document}
-use Rattle.record.proofs.Sections.{length-section}
 use Rattle.record.proofs.ReadsBack.{sound-storable}
-use Rattle.record.proofs.Rewritten.{document-rewritten, good-holdable}
+use Rattle.record.proofs.Rewritten.{good-holdable}
 use Rattle.record.proofs.Depth.{sound-shallow, sound-deeper}
 use Rattle.scan.specs.Line.{endOf, lineOf}
 use Rattle.scan.specs.Rows.{row-3, row-4}
@@ -42,108 +43,105 @@ use Rattle.atx.specs.Heading.{isHeading, headingEvents, headedOf}
 use Rattle.atx.specs.declared.Headed.{Headed}
 use Rattle.atx.specs.declared.Headed.the-variants.{Heading, NotHeading, Refused}
 use Rattle.atx.proofs.Covering.{heading-lawful}
-use Rattle.ledgerlark.specs.Answers.{larkReading, larkHeaded, HeadedAs}
+use Rattle.ledgerlark.specs.Answers.{larkReading, larkReading2, larkHeaded, HeadedAs}
 use Rattle.ledgerlark.specs.declared.resolve.LarkResolved.{LarkResolved}
 use Rattle.ledgerlark.specs.declared.line.LarkHeaded.{LarkHeaded}
 use Rattle.claims.specs.Records.{docOf, Accepts}
 use Rattle.claims.specs.Lines.{headedFound}
-use Rattle.claims.specs.ReadsBack.{ReadAgain, ResolvedReadsBack, AttentionReadsBack, HeadingsReadBack, ListsReadBack, HeadingReadsBack}
-use Rattle.claims.proofs.Records.{at-most, seam, attention-claim, headings-claim, lists-claim}
+use Rattle.claims.specs.ReadsBack.{ReaderAccepts, ReadAgainInEither, ResolvedReadsBack, AttentionReadsBack, HeadingsReadBack, ListsReadBack, HeadingReadsBack}
+use Rattle.claims.proofs.Records.{at-most, seam, no-row-sound, attention-claim, headings-claim, lists-claim}
 use Rattle.claims.proofs.Lines.{heading-claim}
 use Rattle.claims.proofs.Accepted.{accepted-attention, accepted-headings, accepted-lists}
 
--- a section that stands at the front of an output
-section-there : (es : List Event) (out out′ : List ℕ) → length es < 4294967296 → (deep d : ℕ) → sound deep d es ≡ true → d < 4294967296 →
-    out′ ≡ onto (sectionBytes es) out → SectionThere old out′ 0 es
-section-there es out out′ n deep d q h w =
-    section-onto old (inl refl) es out out′ n (sound-storable deep d 0 [] es q h) (w ∙ ap (λ (l : List ℕ). onto l out) (sym (section-narrow old es (omega arith))))
+-- a sound section that stands at the front of an output
+section-there : (f : Form) → (f .width ≡ 8) ⊎ (f .width ≡ 12) → (es : List Event) (out out′ : List ℕ) → length es < 4294967296 → (deep d : ℕ) → sound deep d es ≡ true →
+    d < 4294967296 → out′ ≡ onto (sectionIn f es) out → SectionThere f out′ 0 es
+section-there f w es out out′ n deep d q h e = section-onto f w es out out′ n (sound-storable deep d 0 [] es q h) e
+
+reader-accepts : (h : Handed) (s : List ℕ) (d e : ℕ) → ((works : ℕ) → 65536 ≤ works → admitted h s works ≡ Good d e) → ReaderAccepts h s d e
+reader-accepts (Old options) s d e good = λ work r work′ hw a. a .answer ∙ ap larkReading (good (length work) hw)
+reader-accepts Second s d e good = λ work r work′ hw a. a .answer ∙ ap (larkReading2 (optionsOf Second s)) (good (length work) hw)
 
 -- what a record may hold is read again
-again : (document : List ℕ) (es : List Event) → Holdable document es → ReadAgain document es
-again document es h =
-    let t : (options : ℕ) → options ≤ 63 → RecordThere (Old options) options (recordBytes document es) document es =
-    λ options ho. rw (old-record options document es) at (record-reads-back (Old options) options document es beside ho h) in
-    let good : (options : ℕ) → options ≤ 63 → (works : ℕ) → 65536 ≤ works → admitted (Old options) (recordBytes document es) works ≡ Good (length document) (length es) =
-    λ options ho works hw. sym (enough-work (Old options) (recordBytes document es) works hw) ∙ t options ho .good in
-    let g = admission (Old 0) (recordBytes document es) 65536 (length document) (length es) (good 0 (omega arith) 65536 (omega arith)) .good in
-    let d : documentCountIn old (recordBytes document es) ≡ length document = g .document-count in
-    let e : eventCountIn old (recordBytes document es) ≡ length es = rw (sym d) at (g .event-count) in
+pub admitted-again : (document : List ℕ) (es : List Event) → Holdable document es → (h : Handed) (options : ℕ) → With h options → options ≤ 63 → (works : ℕ) →
+    65536 ≤ works → admitted h (recordIn (formOf h) options document es) works ≡ Good (length document) (length es)
+admitted-again document es holds h options o ho works hw =
+    sym (enough-work h (recordIn (formOf h) options document es) works hw) ∙ record-reads-back h options document es o ho holds .good
+
+again : (document : List ℕ) (es : List Event) → Holdable document es → ReadAgainInEither document es
+again document es holds h options o ho =
+    let s : List ℕ = recordIn (formOf h) options document es in
+    let t : RecordThere h options s document es = record-reads-back h options document es o ho holds in
+    let good : (works : ℕ) → 65536 ≤ works → admitted h s works ≡ Good (length document) (length es) = admitted-again document es holds h options o ho in
+    let g = admission h s 65536 (length document) (length es) (good 65536 (omega arith)) .good in
+    let d : documentCountIn (formOf h) s ≡ length document = g .document-count in
+    let e : eventCountIn (formOf h) s ≡ length es = rw (sym d) at (g .event-count) in
     record {
-      accepted = λ options work r work′ ho hw a. a .answer ∙ ap larkReading (good options ho (length work) hw);
-      its-document = ap (λ (n : ℕ). documentIn old (recordBytes document es) n) d ∙ t 0 (omega arith) .its-document;
+      accepted = reader-accepts h s (length document) (length es) good;
+      its-options = t .its-options;
+      its-document = ap (λ (n : ℕ). documentIn (formOf h) s n) d ∙ t .its-document;
       its-events =
-          ap (λ (n : ℕ). eventsIn old (recordBytes document es) n (eventCountIn old (recordBytes document es))) d
-          ∙ ap (λ (n : ℕ). eventsIn old (recordBytes document es) (length document) n) e
-          ∙ t 0 (omega arith) .its-events;
+          ap (λ (n : ℕ). eventsIn (formOf h) s n (eventCountIn (formOf h) s)) d
+          ∙ ap (λ (n : ℕ). eventsIn (formOf h) s (length document) n) e
+          ∙ t .its-events;
     }
 
--- a record that no row refuses
-unrefused-good : (s : List ℕ) (options works : ℕ) → ((n p : ℕ) → Row (Old options) s works n p → ⊥) → GoodRecord s (documentCountIn old s) (eventCountIn old s)
-unrefused-good s options works none = admission (Old options) s works (documentCountIn old s) (eventCountIn old s) (exactly (Old options) s works .accepted none) .good
-
 -- the front of the record and the section of the output, as they stand
-in-memory : (s : List ℕ) (d : ℕ) (es : List Event) (out out′ : List ℕ) (n : ℕ) → AreBytes s → u32At s 0 ≡ d → 4 + d ≤ length s → n ≡ length es →
-    out′ ≡ onto (sectionBytes es) out → take (4 + d) s ++ take (4 + 8 * n) out′ ≡ recordBytes (documentIn old s d) es
-unfolding recordBytes
-in-memory s d es out out′ n b c h e w =
-    let long : length (documentIn old s d) ≡ d = length-document old s d h in
-    let front : take (4 + d) s ≡ u32Bytes d ++ documentIn old s d =
-    ap (λ (l : List ℕ). take (4 + d) l) (document-rewritten old s d b h c)
-    ∙ take-at (u32Bytes d ++ documentIn old s d) (drop (4 + d) s) (4 + d) (omega (arith, length-append (u32Bytes d) (documentIn old s d))) in
-    let size : 4 + 8 * n ≡ length (sectionBytes es) = omega (arith, length-section es) in
-    let behind : take (4 + 8 * n) out′ ≡ sectionBytes es = ap (λ (m : ℕ). take m out′) size ∙ seam (sectionBytes es) out out′ w .0 in
-    ap (λ (l : List ℕ). l ++ take (4 + 8 * n) out′) front
-    ∙ ap (λ (l : List ℕ). (u32Bytes d ++ documentIn old s d) ++ l) behind
-    ∙ ap (λ (m : ℕ). u32Bytes m ++ (documentIn old s d ++ sectionBytes es)) (sym long)
-
--- what is written of a record in the old form is a section of eight bytes to an event
-old-written : {made : Resolution} {groups tried : ℕ} {out : List ℕ} {r : LarkResolved} {out′ : List ℕ} (a : Accepts old made groups tried out r out′) →
-    out′ ≡ onto (sectionBytes (a .events)) out
-unfolding sectionIn choose
-old-written a = a .written
+in-memory : (h : Handed) (s : List ℕ) (works d e : ℕ) (es : List Event) (out out′ : List ℕ) (n : ℕ) → AreBytes s → admitted h s works ≡ Good d e →
+    65536 ≤ works → n ≡ length es → out′ ≡ onto (sectionIn (formOf h) es) out →
+    take (4 + formOf h .front + d) s ++ take (4 + formOf h .width * n) out′ ≡ recordIn (formOf h) (optionsOf h s) (documentIn (formOf h) s d) es
+in-memory h s works d e es out out′ n b good hw k w =
+    let size : 4 + formOf h .width * n ≡ length (sectionIn (formOf h) es) = ap (λ (m : ℕ). 4 + formOf h .width * m) k ∙ sym (length-section-in (formOf h) es (two-widths h)) in
+    ap (λ (m : ℕ). take (4 + formOf h .front + d) s ++ take m out′) size
+    ∙ ap (λ (l : List ℕ). take (4 + formOf h .front + d) s ++ l) (seam (sectionIn (formOf h) es) out out′ w .0)
+    ∙ good-is-rewritten h s d e b (enough-work h s works hw ∙ good) .other-events es
 
 -- the three resolvers, once: a sound section is written over a record that no row refuses
-resolved-back : {made : Resolution} {groups tried options works outs : ℕ} {Offends : ℕ → Type 0} (s out : List ℕ) (r : LarkResolved) (out′ : List ℕ) (deep : ℕ)
-    (a : Accepts old made groups tried out r out′) → ((n p : ℕ) → WrittenRow (Old options) s works Offends made outs n p → ⊥) →
-    sound deep (documentCountIn old s) (a .events) ≡ true → ResolvedReadsBack made s r out′
-resolved-back {options = options} {works = works} s out r out′ deep a none q =
-    let g : GoodRecord s (documentCountIn old s) (eventCountIn old s) = unrefused-good s options works (λ n p x. none n p (by-check x)) in
-    let small : documentCountIn old s ≤ 16384 = g .small in
-    let whole : length s ≡ 8 + documentCountIn old s + 8 * eventCountIn old s = g .whole in
-    let few : length (a .events) ≤ 8000 = at-most (length (a .events)) 8000 (λ h. none 7 0 (row-7 (a .events) (a .made-so) h refl refl)) in
-    let long : length (docOf (Old options) s) ≡ documentCountIn old s = length-document old s (documentCountIn old s) (omega arith) in
-    let t = section-there (a .events) out out′ (omega arith) deep (documentCountIn old s) q (omega arith) (old-written a) in
-    let same : sectionAt out′ 0 ≡ a .events = t .all in
+resolved-back : {made : Resolution} {groups tried works outs : ℕ} {Offends : ℕ → Type 0} (h : Handed) (s out : List ℕ) (r : LarkResolved) (out′ : List ℕ) (deep : ℕ)
+    (a : Accepts (formOf h) made groups tried out r out′) → ((n p : ℕ) → WrittenRow h s works Offends made outs n p → ⊥) →
+    sound deep (documentCountIn (formOf h) s) (a .events) ≡ true → ResolvedReadsBack h made s r out′
+resolved-back {works = works} h s out r out′ deep a none q =
+    let good : admitted h s works ≡ Good (documentCountIn (formOf h) s) (eventCountIn (formOf h) s) = exactly h s works .accepted (λ n p x. none n p (by-check x)) in
+    let found = admission h s works (documentCountIn (formOf h) s) (eventCountIn (formOf h) s) good in
+    let g = found .good in
+    let small : documentCountIn (formOf h) s ≤ 16384 = g .small in
+    let long : length (docOf h s) ≡ documentCountIn (formOf h) s = no-row-sound h s works (λ n p x. none n p (by-check x)) .0 in
+    let few : length (a .events) ≤ 8000 = at-most (length (a .events)) 8000 (λ l. none 7 0 (row-7 (a .events) (a .made-so) l refl refl)) in
+    let t = section-there (formOf h) (two-widths h) (a .events) out out′ (omega arith) deep (documentCountIn (formOf h) s) q (omega arith) (a .written) in
+    let same : sectionAtIn (formOf h) out′ 0 ≡ a .events = t .all in
     let count : r .events ≡ length (a .events) = ap (λ (x : LarkResolved). x .events) (a .answer) in
-    let holds = good-holdable old s (documentCountIn old s) (eventCountIn old s) g in
+    let holds = good-holdable (formOf h) s (documentCountIn (formOf h) s) (eventCountIn (formOf h) s) g in
     record {
       events = a .made-so ∙ ap gives (sym same);
       count = t .count ∙ sym count;
-      in-memory = λ b. rw same (in-memory s (documentCountIn old s) (a .events) out out′ (r .events) b (g .document-count) (omega arith) count (old-written a));
+      mates = λ wide k l. t .mates wide k (rw count at l) ∙ ap (λ (es : List Event). partnerOf es k) (sym same);
+      in-memory = λ b.
+          in-memory h s works (documentCountIn (formOf h) s) (eventCountIn (formOf h) s) (a .events) out out′ (r .events) b good (found .memory) count (a .written)
+          ∙ ap (λ (es : List Event). recordIn (formOf h) (optionsOf h s) (docOf h s) es) (sym same);
       again = λ few depth.
-          again (docOf (Old options) s) (sectionAt out′ 0)
+          again (docOf h s) (sectionAtIn (formOf h) out′ 0)
           (record {
             small = holds .small;
             no-return = holds .no-return;
             few = rw (same, ← count) few;
-            sound-events = rw (same, long) (sound-shallow 64 deep (documentCountIn old s) (a .events) q (rw same at depth));
+            sound-events = rw (same, long) (sound-shallow 64 deep (documentCountIn (formOf h) s) (a .events) q (rw same at depth));
           });
     }
 
 pub attention-reads-back : AttentionReadsBack
-attention-reads-back profile s options out work r out′ work′ p z =
-    let n = accepted-attention profile (Old options) s out work r out′ work′ p z in
-    resolved-back {options = options} s out r out′ (length (n .accepted .events)) (n .accepted) (attention-claim profile (Old options) s .exactly out work r out′ work′ p .none-holds z) (n .nests)
+attention-reads-back profile h s out work r out′ work′ p z =
+    let n = accepted-attention profile h s out work r out′ work′ p z in
+    resolved-back h s out r out′ (length (n .accepted .events)) (n .accepted) (attention-claim profile h s .exactly out work r out′ work′ p .none-holds z) (n .nests)
 
 pub headings-read-back : HeadingsReadBack
-headings-read-back s options out work r out′ work′ p z =
-    let n = accepted-headings (Old options) s out work r out′ work′ p z in
-    resolved-back {options = options} s out r out′ 65 (n .accepted) (headings-claim (Old options) s .exactly out work r out′ work′ p .none-holds z) (n .nests)
+headings-read-back h s out work r out′ work′ p z =
+    let n = accepted-headings h s out work r out′ work′ p z in
+    resolved-back h s out r out′ 65 (n .accepted) (headings-claim h s .exactly out work r out′ work′ p .none-holds z) (n .nests)
 
 pub lists-read-back : ListsReadBack
-lists-read-back s options out work r out′ work′ p z =
-    let n = accepted-lists (Old options) s out work r out′ work′ p z in
-    resolved-back {options = options} s out r out′ 128 (n .accepted) (lists-claim (Old options) s .exactly out work r out′ work′ p .none-holds z) (n .nests)
+lists-read-back h s out work r out′ work′ p z =
+    let n = accepted-lists h s out work r out′ work′ p z in
+    resolved-back h s out r out′ 128 (n .accepted) (lists-claim h s .exactly out work r out′ work′ p .none-holds z) (n .nests)
 
 -- the heading reader: what is found has number 0, and is a heading
 found-zero : (a : Headed) → larkHeaded a .found ≡ 1 → larkHeaded a .number ≡ 0
@@ -200,26 +198,36 @@ module _ (s : List ℕ) (options column : ℕ) (out : List ℕ) (r : LarkHeaded)
       found-heading (isHeading (lineOf s) options column) (length (headingEvents (lineOf s)))
       (sym (ap (λ (x : LarkHeaded). x .found) (heading-claim s options column .finds out r out′ p unrefused .0)) ∙ z)
 
+  few-found : length (headingEvents (lineOf s)) ≤ 8000
+  few-found =
+      at-most (length (headingEvents (lineOf s))) 8000 (λ h. unrefused 7 0 (heading-row-7 heading-found h refl refl))
+
+  line-small : length s ≤ 16384
+  line-small = at-most (length s) 16384 (λ h. unrefused 3 16384 (reading (row-3 h refl refl)))
+
+  count-found : r .events ≡ length (headingEvents (lineOf s))
+  unfolding choose
+  count-found = ap (λ (x : LarkHeaded). x .events) (rw heading-found at (heading-claim s options column .finds out r out′ p unrefused .0))
+
+  section-found : SectionThere old out′ 0 (headingEvents (lineOf s))
+  unfolding choose
+  section-found =
+      let short : length (lineOf s) ≤ length s = line-short s in
+      let written : out′ ≡ onto (sectionBytes (headingEvents (lineOf s))) out = rw heading-found at (heading-claim s options column .finds out r out′ p unrefused .1) in
+      section-there old (inl refl) (headingEvents (lineOf s)) out out′ (omega (arith, few-found)) 2 (length (lineOf s)) (heading-lawful (lineOf s) .balanced)
+      (omega (arith, line-small))
+      (written ∙ ap (λ (l : List ℕ). onto l out) (sym (section-narrow old (headingEvents (lineOf s)) (omega arith))))
+
+  pub heading-holds : r .events ≤ 2048 → Holdable (lineOf s) (sectionAt out′ 0)
+  heading-holds n =
+      rw (section-found .all)
+      (line-holds s (headingEvents (lineOf s)) line-small (λ k h e. unrefused 4 k (reading (row-4 h e refl))) (rw count-found at n)
+      (sound-deeper 2 64 (length (lineOf s)) 0 [] (headingEvents (lineOf s)) (omega arith) (heading-lawful (lineOf s) .balanced)))
+
 pub heading-reads-back : HeadingReadsBack
-unfolding choose
 heading-reads-back s options column out r out′ p z =
-    let none = unrefused s options column out r out′ p z in
-    let found = heading-claim s options column .finds out r out′ p none in
-    let is = heading-found s options column out r out′ p z in
-    let short : length s ≤ 16384 = at-most (length s) 16384 (λ h. none 3 16384 (reading (row-3 h refl refl))) in
-    let few : length (headingEvents (lineOf s)) ≤ 8000 =
-    at-most (length (headingEvents (lineOf s))) 8000 (λ h. none 7 0 (heading-row-7 is h refl refl)) in
-    let line : length (lineOf s) ≤ length s = line-short s in
-    let answer : r ≡ headedFound (Heading (length (headingEvents (lineOf s)))) = rw is at (found .0) in
-    let written : out′ ≡ onto (sectionBytes (headingEvents (lineOf s))) out = rw is at (found .1) in
-    let t = section-there (headingEvents (lineOf s)) out out′ (omega arith) 2 (length (lineOf s)) (heading-lawful (lineOf s) .balanced) (omega arith) written in
-    let count : r .events ≡ length (headingEvents (lineOf s)) = ap (λ (x : LarkHeaded). x .events) answer in
     record {
-      events = t .all;
-      count = t .count ∙ sym count;
-      again = λ n.
-          rw (t .all)
-          (again (lineOf s) (headingEvents (lineOf s))
-          (line-holds s (headingEvents (lineOf s)) short (λ k h e. none 4 k (reading (row-4 h e refl))) (rw count at n)
-          (sound-deeper 2 64 (length (lineOf s)) 0 [] (headingEvents (lineOf s)) (omega arith) (heading-lawful (lineOf s) .balanced))));
+      events = section-found s options column out r out′ p z .all;
+      count = section-found s options column out r out′ p z .count ∙ sym (count-found s options column out r out′ p z);
+      again = λ n. again (lineOf s) (sectionAt out′ 0) (heading-holds s options column out r out′ p z n);
     }

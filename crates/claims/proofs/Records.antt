@@ -43,11 +43,10 @@ use Rattle.list.specs.Lists.{lists}
 use Rattle.list.specs.Promise as listsCall
 use Rattle.list.specs.Offence.{Offends as ItemOffends}
 use Rattle.list.proofs.Exactly.{exactly-resolved as lists-exactly-resolved}
-use Rattle.ledgerlark.specs.Answers.{larkReading, larkAttention, larkHeadings, larkLists, ReadAs}
-use Rattle.ledgerlark.specs.declared.resolve.LarkReading.{LarkReading}
+use Rattle.ledgerlark.specs.Answers.{larkReading, larkReading2, larkAttention, larkHeadings, larkLists, ReadBy}
 use Rattle.ledgerlark.specs.declared.resolve.LarkResolved.{LarkResolved}
 use Rattle.claims.specs.Told.{Told}
-use Rattle.claims.specs.Records.{docOf, allEvents, readRefusal, refusal, resolved, ReadingClaim, Isolated, Numbered, Accepts, Claim, AttentionClaim, HeadingsClaim, ListsClaim}
+use Rattle.claims.specs.Records.{docOf, allEvents, readRefusal, read2Refusal, refusal, resolved, ReadClaim, ReadingClaim, Reading2Claim, Isolated, Numbered, Accepts, Claim, AttentionClaim, HeadingsClaim, ListsClaim}
 
 -- a row of the table has a number from 1 up
 pub written-number : {h : Handed} {s : List ℕ} {works : ℕ} {Offends : ℕ → Type 0} {made : Resolution} {outs n p : ℕ} →
@@ -107,22 +106,33 @@ no-row-sound h s works none =
     let whole = good .whole in
     (length-document (formOf h) s (documentCountIn (formOf h) s) (omega arith), good .sound-events)
 
-pub read-claim : (s : List ℕ) (options : ℕ) → ReadingClaim s options
-read-claim s options =
+-- which holds of each, by its promise alone
+reads-claim : {A : Type 0} (number place : A → ℕ) (refusal : ℕ → ℕ → A) (reads : Reading → A) → ReadsAs number place refusal reads → (h : Handed) (s : List ℕ) →
+    ReadClaim h s number place refusal (reads (Good (documentCountIn (formOf h) s) (eventCountIn (formOf h) s))) (ReadBy h s reads)
+reads-claim {A} number place refusal reads R h s =
     record {
       unique = λ work r₁ r₂ w₁ w₂ p q. (p .answer ∙ sym (q .answer), p .wiped ∙ sym (q .wiped));
       isolated = λ work₁ work₂ r₁ r₂ w₁ w₂ e p q. (
-        p .answer ∙ ap (λ (n : ℕ). larkReading (admitted (Old options) s n)) e ∙ sym (q .answer),
+        p .answer ∙ ap (λ (n : ℕ). reads (admitted h s n)) e ∙ sym (q .answer),
         p .wiped ∙ ap (λ (n : ℕ). replicate n 0) e ∙ sym (q .wiped),
       );
       exactly = λ work r work′ a. told-so (length work) r (a .answer);
-      accepts = λ work r work′ a z. a .answer ∙ ap larkReading (exactly (Old options) s (length work) .accepted (told-so (length work) r (a .answer) .none-holds z));
+      accepts = λ work r work′ a z. a .answer ∙ ap reads (exactly h s (length work) .accepted (told-so (length work) r (a .answer) .none-holds z));
       wiped = λ work r work′ a. a .wiped;
     }
   where
-    told-so : (works : ℕ) (r : LarkReading) → r ≡ larkReading (admitted (Old options) s works) →
-        Told (λ (x : LarkReading). x .number) (λ (x : LarkReading). x .place) readRefusal (Row (Old options) s works) r
-    told-so = read-exactly _ _ readRefusal larkReading (record { of-refused = λ n p. refl; of-good = λ d e. refl; its-number = λ n p. refl; its-place = λ n p. refl }) (Old options) s
+    told-so : (works : ℕ) (r : A) → r ≡ reads (admitted h s works) → Told number place refusal (Row h s works) r
+    told-so = read-exactly number place refusal reads R h s
+
+pub read-claim : (s : List ℕ) (options : ℕ) → ReadingClaim s options
+read-claim s options =
+    reads-claim _ _ readRefusal larkReading (record { of-refused = λ n p. refl; of-good = λ d e. refl; its-number = λ n p. refl; its-place = λ n p. refl })
+    (Old options) s
+
+pub read2-claim : (s : List ℕ) → Reading2Claim s
+read2-claim s =
+    reads-claim _ _ read2Refusal (larkReading2 (optionsOf Second s))
+    (record { of-refused = λ n p. refl; of-good = λ d e. refl; its-number = λ n p. refl; its-place = λ n p. refl }) Second s
 
 -- every call that writes, once: what it comes to, and how its answer reads that
 

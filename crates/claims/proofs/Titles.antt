@@ -7,21 +7,23 @@ use mathlib.Core.Path.{_≡_, refl, sym, ap, _∙_, subst}
 use mathlib.Core.Bool.{Bool, true, false}
 use mathlib.Core.Logic.{_⊎_, ⊎-elim}
 use mathlib.Core.List.{List, [], _∷_, _++_, append-nil}
-use lib.ListN.{length, take, drop, replicate, length-replicate}
+use lib.ListN.{length, take, drop}
 use lib.Seq.{length-take-le}
 use lib.Dec.{eqb}
 use borrow.Author.Tests.{eqb-true, eqb-false}
 use Rattle.record.specs.Choice.{choose}
 use Rattle.record.specs.Bytes.{u32At}
-use Rattle.record.specs.Check.{admitted}
-use Rattle.record.specs.Form.{old}
-use Rattle.record.specs.Event.{enter, exit, sectionAt, recordBytes}
+use Rattle.record.specs.Event.{enter, exit, sectionAt, sectionAtIn}
+use Rattle.record.specs.Handed.{formOf}
+use Rattle.record.specs.Partners.{recordIn}
 use Rattle.record.specs.Rows.{Row, documentCountIn}
 use Rattle.record.specs.Written.{WrittenRow, by-check, row-6, row-7, row-8}
 use Rattle.record.specs.Outcome.{Resolution, gives}
 use Rattle.record.specs.declared.event.Event.{Event}
-use Rattle.record.specs.declared.form.Handed.the-variants.{Old}
+use Rattle.record.specs.declared.form.Handed.{Handed}
+use Rattle.record.proofs.Exactly.{exactly}
 use Rattle.record.proofs.Parts.{length-events}
+use Rattle.partners.specs.Records.{With}
 use Rattle.scan.specs.Line.{lineOf}
 use Rattle.atx.specs.Heading.{isHeading, split, eventsFrom, headingEvents}
 use Rattle.atx.specs.Content.{content, contentFrom, contentTo}
@@ -37,14 +39,13 @@ use Rattle.heading.proofs.Offence.{gives-unbroken}
 use Rattle.heading.proofs.Kept.{gives-is, resolved-small}
 use Rattle.heading.proofs.TextAsSaid.{said-so}
 use Rattle.heading.proofs.ResultAsSaid.{result-as-said}
-use Rattle.ledgerlark.specs.Answers.{larkReading, ReadAs, HeadedAs}
-use Rattle.ledgerlark.specs.declared.resolve.LarkReading.{LarkReading}
+use Rattle.ledgerlark.specs.Answers.{HeadedAs}
 use Rattle.ledgerlark.specs.declared.line.LarkHeaded.{LarkHeaded}
 use Rattle.claims.specs.Records.{allEvents, resolved}
 use Rattle.claims.specs.ReadsBack.{ReadAgain}
 use Rattle.claims.specs.Titles.{ContentThere, inner, TextRoundContent, heading, ReadsTheStandard, CallsReadTheStandard}
-use Rattle.claims.proofs.Records.{no-row-sound, read-claim, headings-claim}
-use Rattle.claims.proofs.ReadsBack.{heading-reads-back, headings-read-back, heading-found}
+use Rattle.claims.proofs.Records.{no-row-sound, headings-claim}
+use Rattle.claims.proofs.ReadsBack.{admitted-again, heading-reads-back, headings-read-back, heading-found, heading-holds}
 
 -- the events of pieces, one behind the other
 events-append : (ps qs : List Piece) (at : ℕ) → eventsFrom at (ps ++ qs) ≡ eventsFrom at ps ++ eventsFrom (at + total ps) qs
@@ -193,65 +194,62 @@ content-there options column l h = go (eqb (length (content l)) 0) refl
 same-result : (m : Resolution) (es rs : List Event) → m ≡ gives es → m ≡ gives rs → es ≡ rs
 same-result m es rs p q = cc
 
--- the record of a line that the heading reader finds to be a heading, and of the section that it writes
+-- the record of a line that the heading reader finds to be a heading, and of the events that it writes, in a form
 module _ (s : List ℕ) (options column : ℕ) (out : List ℕ) (r : LarkHeaded) (out′ : List ℕ) (p : HeadedAs s options column out r out′) (z : r .found ≡ 1)
-    (few : r .events ≤ 2048) where
+    (few : r .events ≤ 2048) (h : Handed) (options₂ : ℕ) (o : With h options₂) (ho : options₂ ≤ 63) where
   abbrev whole : List ℕ
-  whole = recordBytes (lineOf s) (sectionAt out′ 0)
+  whole = recordIn (formOf h) options₂ (lineOf s) (sectionAt out′ 0)
 
   abbrev made : List Event
   made = heading (lineOf s)
 
-  again : ReadAgain (lineOf s) (sectionAt out′ 0)
-  again = heading-reads-back s options column out r out′ p z .again few
+  again : ReadAgain h options₂ (lineOf s) (sectionAt out′ 0)
+  again = heading-reads-back s options column out r out′ p z .again few h options₂ o ho
 
-  resolves : headings (allEvents (Old 0) whole) ≡ gives made
+  resolves : headings (allEvents h whole) ≡ gives made
   resolves =
       ap headings (again .its-events ∙ heading-reads-back s options column out r out′ p z .events)
       ∙ reads-the-standard options column (lineOf s) (heading-found s options column out r out′ p z)
 
   -- the check finds nothing to refuse
-  checked : (options₂ works n place : ℕ) → options₂ ≤ 63 → 65536 ≤ works → Row (Old options₂) whole works n place → ⊥
-  checked options₂ works n place ho hw x =
-      let work : List ℕ = replicate works 0 in
-      let k : length work ≡ works = length-replicate works 0 in
-      let answer : LarkReading = larkReading (admitted (Old options₂) whole (length work)) in
-      let q : ReadAs whole options₂ work answer work = record { answer = refl; wiped = ap (λ (m : ℕ). replicate m 0) (sym k) } in
-      let e = again .accepted options₂ work answer work ho (omega (arith, k)) q in
-      read-claim whole options₂ .exactly work answer work q .none-holds (ap (λ (y : LarkReading). y .number) e) n place (subst (λ (m : ℕ). Row (Old options₂) whole m n place) (sym k) x)
+  checked : (works n place : ℕ) → 65536 ≤ works → Row h whole works n place → ⊥
+  checked works n place hw x =
+      exactly h whole works .good (length (lineOf s)) (length (sectionAt out′ 0))
+      (admitted-again (lineOf s) (sectionAt out′ 0) (heading-holds s options column out r out′ p z few) h options₂ o ho works hw) .2 n place x
 
   short : length made ≤ 8000
   short =
-      let es : List Event = allEvents (Old 0) whole in
+      let es : List Event = allEvents h whole in
       let n : length es ≤ 2048 =
       omega (arith, ap length (again .its-events), length-events 8 (u32At out′ 0) out′ 4, heading-reads-back s options column out r out′ p z .count, few)
       in
       omega (arith, ap length (gives-is es made resolves .0), resolved-small 0 es (omega arith))
 
-  no-row : (options₂ works outs : ℕ) → options₂ ≤ 63 → 65536 ≤ works → 4 + 8 * length made ≤ outs → (n place : ℕ) →
-      WrittenRow (Old options₂) whole works (Broken (allEvents (Old 0) whole)) (headings (allEvents (Old 0) whole)) outs n place → ⊥
-  no-row options₂ works outs ho hw fits n place (by-check x) = checked options₂ works n place ho hw x
-  no-row options₂ works outs ho hw fits n place (row-6 k o a b) =
-      gives-unbroken (allEvents (Old 0) whole) made 64 (documentCountIn old whole) (no-row-sound (Old options₂) whole works (λ m q x. checked options₂ works m q ho hw x) .1) resolves k o
-  no-row options₂ works outs ho hw fits n place (row-7 es m h a b) =
-      let e = ap length (same-result (headings (allEvents (Old 0) whole)) es made m resolves) in
+  no-row : (works outs : ℕ) → 65536 ≤ works → 4 + formOf h .width * length made ≤ outs → (n place : ℕ) →
+      WrittenRow h whole works (Broken (allEvents h whole)) (headings (allEvents h whole)) outs n place → ⊥
+  no-row works outs hw fits n place (by-check x) = checked works n place hw x
+  no-row works outs hw fits n place (row-6 k b c d) =
+      gives-unbroken (allEvents h whole) made 64 (documentCountIn (formOf h) whole) (no-row-sound h whole works (λ m q x. checked works m q hw x) .1) resolves k b
+  no-row works outs hw fits n place (row-7 es m l c d) =
+      let e = ap length (same-result (headings (allEvents h whole)) es made m resolves) in
       omega (arith, short)
-  no-row options₂ works outs ho hw fits n place (row-8 es m h a b) =
-      let e = ap length (same-result (headings (allEvents (Old 0) whole)) es made m resolves) in
+  no-row works outs hw fits n place (row-8 es m l c d) =
+      let e : 4 + formOf h .width * length es ≡ 4 + formOf h .width * length made =
+      ap (λ (x : List Event). 4 + formOf h .width * length x) (same-result (headings (allEvents h whole)) es made m resolves)
+      in
       omega arith
 
 pub calls-read-the-standard : CallsReadTheStandard
-calls-read-the-standard s options column out r out′ p z few options₂ out₂ work r₂ out₂′ work′ ho hw fits q =
-    let rec : List ℕ = whole s options column out r out′ p z few in
-    let events : List Event = made s options column out r out′ p z few in
-    let resolves-so = resolves s options column out r out′ p z few in
+calls-read-the-standard s options column out r out′ p z few h options₂ out₂ work r₂ out₂′ work′ o ho hw fits q =
+    let rec : List ℕ = whole s options column out r out′ p z few h options₂ o ho in
+    let events : List Event = made s options column out r out′ p z few h options₂ o ho in
+    let resolves-so = resolves s options column out r out′ p z few h options₂ o ho in
     let number : r₂ .number ≡ 0 =
-    headings-claim (Old options₂) rec .exactly out₂ work r₂ out₂′ work′ q .accepted
-    (no-row s options column out r out′ p z few options₂ (length work) (length out₂) ho hw fits)
+    headings-claim h rec .exactly out₂ work r₂ out₂′ work′ q .accepted (no-row s options column out r out′ p z few h options₂ o ho (length work) (length out₂) hw fits)
     in
-    let a = headings-claim (Old options₂) rec .accepts out₂ work r₂ out₂′ work′ q number in
-    let same : a .events ≡ events = same-result (headings (allEvents (Old 0) rec)) (a .events) events (a .made-so) resolves-so in
-    let b = headings-read-back rec options₂ out₂ work r₂ out₂′ work′ q number in (
+    let a = headings-claim h rec .accepts out₂ work r₂ out₂′ work′ q number in
+    let same : a .events ≡ events = same-result (headings (allEvents h rec)) (a .events) events (a .made-so) resolves-so in
+    let b = headings-read-back h rec out₂ work r₂ out₂′ work′ q number in (
       a .answer ∙ ap (λ (x : List Event). resolved (length x) 0 0) same,
-      same-result (headings (allEvents (Old 0) rec)) (sectionAt out₂′ 0) events (b .events) resolves-so,
+      same-result (headings (allEvents h rec)) (sectionAtIn (formOf h) out₂′ 0) events (b .events) resolves-so,
     )

@@ -1,4 +1,5 @@
--- The claims of the calls on a record, as C sees them: `lark_read`, `lark_resolve_attention`, `lark_resolve_headings`, `lark_resolve_lists`.
+-- The claims of the calls on a record, as C sees them: `lark_read`, `lark_resolve_attention`, `lark_resolve_headings`, `lark_resolve_lists`, and those of
+-- form 2, which end in 2.
 -- For each: any two results that its promise allows are equal; what a buffer held before is in nothing that it answers or writes; each
 -- number is given exactly when the table says; no refusal writes; and what number 0 comes with, in the answer and in the output. These are the
 -- statements; proofs/Records.antt proves each for every record, in either form.
@@ -8,7 +9,7 @@ use mathlib.Core.Path.{_≡_}
 use mathlib.Core.List.{List}
 use lib.ListN.{length, take, drop, replicate}
 use Rattle.record.specs.Event.{documentIn, eventsIn}
-use Rattle.record.specs.Form.{old}
+use Rattle.record.specs.Form.{old, second}
 use Rattle.record.specs.Handed.{formOf, optionsOf}
 use Rattle.record.specs.Partners.{sectionIn}
 use Rattle.record.specs.Rows.{Row, documentCountIn, eventCountIn}
@@ -17,7 +18,7 @@ use Rattle.record.specs.Outcome.{Resolution, gives, onto, bytesWritten}
 use Rattle.record.specs.declared.event.Event.{Event}
 use Rattle.record.specs.declared.form.Form.{Form}
 use Rattle.record.specs.declared.form.Handed.{Handed}
-use Rattle.record.specs.declared.form.Handed.the-variants.{Old}
+use Rattle.record.specs.declared.form.Handed.the-variants.{Old, Second}
 use Rattle.runs.specs.Rule.{Profile}
 use Rattle.runs.specs.Pieces.{outcome}
 use Rattle.attention.specs.Attention.{attention}
@@ -29,8 +30,9 @@ use Rattle.heading.specs.Shape.{Broken as HeadingOffends}
 use Rattle.list.specs.Lists.{lists}
 use Rattle.list.specs.Promise as listsCall
 use Rattle.list.specs.Offence.{Offends as ItemOffends}
-use Rattle.ledgerlark.specs.Answers.{ReadAs, AttentionAs, HeadingsAs, ListsAs}
+use Rattle.ledgerlark.specs.Answers.{ReadAs, Read2As, AttentionAs, HeadingsAs, ListsAs}
 use Rattle.ledgerlark.specs.declared.resolve.LarkReading.{LarkReading}
+use Rattle.ledgerlark.specs.declared.resolve.LarkReading2.{LarkReading2}
 use Rattle.ledgerlark.specs.declared.resolve.LarkResolved.{LarkResolved}
 use Rattle.claims.specs.Told.{Told}
 
@@ -45,6 +47,9 @@ allEvents h s = eventsIn (formOf h) s (documentCountIn (formOf h) s) (eventCount
 
 abbrev pub readRefusal : ℕ → ℕ → LarkReading
 readRefusal n p = record { number = n; place = p; document = 0; events = 0 }
+
+abbrev pub read2Refusal : ℕ → ℕ → LarkReading2
+read2Refusal n p = record { number = n; place = p; options = 0; document = 0; events = 0 }
 
 abbrev pub refusal : ℕ → ℕ → LarkResolved
 refusal n p = record { number = n; place = p; events = 0; groups = 0; tried = 0 }
@@ -66,6 +71,12 @@ abbrev pub ReadingClaim : List ℕ → ℕ → Type 0
 ReadingClaim s options =
     ReadClaim (Old options) s (λ (x : LarkReading). x .number) (λ (x : LarkReading). x .place) readRefusal
     (record { number = 0; place = 0; document = documentCountIn old s; events = eventCountIn old s }) (ReadAs s options)
+
+-- lark_read2: the options beside the counts, as they stand in the record
+abbrev pub Reading2Claim : List ℕ → Type 0
+Reading2Claim s =
+    ReadClaim Second s (λ (x : LarkReading2). x .number) (λ (x : LarkReading2). x .place) read2Refusal
+    (record { number = 0; place = 0; options = optionsOf Second s; document = documentCountIn second s; events = eventCountIn second s }) (Read2As s)
 
 -- every call that writes, once
 
@@ -111,20 +122,20 @@ pub record Claim (h : Handed) (s : List ℕ) (Offends : ℕ → Type 0) (made : 
   pub fits : (out work : List ℕ) → length (bytes (length out) (length work)) ≤ length out
   pub wiped : (out work : List ℕ) (r : LarkResolved) (out′ work′ : List ℕ) → As out work r out′ work′ → work′ ≡ replicate (length work) 0
 
--- lark_resolve_attention, over any profile: what offends is a run; the groups and the candidates tried are the plain rule's
+-- lark_resolve_attention and lark_resolve_attention2, over any profile: what offends is a run; the groups and the candidates tried are the plain rule's
 abbrev pub AttentionClaim : Profile → Handed → List ℕ → Type 0
 AttentionClaim profile h s =
     Claim h s (RunOffends (docOf h s) (optionsOf h s) (allEvents h s)) (attention profile (optionsOf h s) (docOf h s) (allEvents h s))
     (length (outcome profile (optionsOf h s) (docOf h s) (allEvents h s) .groups)) (outcome profile (optionsOf h s) (docOf h s) (allEvents h s) .tried)
     (AttentionAs profile h s) (λ outs works. bytesWritten (formOf h) (attentionCall.outcomeOf profile h s outs works))
 
--- lark_resolve_headings: what offends is a heading
+-- lark_resolve_headings and lark_resolve_headings2: what offends is a heading
 abbrev pub HeadingsClaim : Handed → List ℕ → Type 0
 HeadingsClaim h s =
     Claim h s (HeadingOffends (allEvents h s)) (headings (allEvents h s)) 0 0 (HeadingsAs h s)
     (λ outs works. bytesWritten (formOf h) (headingsCall.outcomeOf h s outs works))
 
--- lark_resolve_lists: what offends is an item
+-- lark_resolve_lists and lark_resolve_lists2: what offends is an item
 abbrev pub ListsClaim : Handed → List ℕ → Type 0
 ListsClaim h s =
     Claim h s (ItemOffends (docOf h s) (allEvents h s)) (lists (docOf h s) (allEvents h s)) 0 0 (ListsAs h s)

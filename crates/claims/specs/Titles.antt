@@ -9,10 +9,13 @@ use mathlib.Core.List.{List, [], _∷_, _++_}
 use lib.ListN.{length, take, drop}
 use lib.Dec.{eqb}
 use Rattle.record.specs.Choice.{choose}
-use Rattle.record.specs.Event.{enter, exit, sectionAt, recordBytes}
+use Rattle.record.specs.Event.{enter, exit, sectionAt, sectionAtIn}
+use Rattle.record.specs.Handed.{formOf}
 use Rattle.record.specs.Outcome.{gives}
+use Rattle.record.specs.Partners.{recordIn}
 use Rattle.record.specs.declared.event.Event.{Event}
-use Rattle.record.specs.declared.form.Handed.the-variants.{Old}
+use Rattle.record.specs.declared.form.Handed.{Handed}
+use Rattle.partners.specs.Records.{With}
 use Rattle.scan.specs.Line.{lineOf}
 use Rattle.atx.specs.Heading.{isHeading, split, eventsFrom, headingEvents}
 use Rattle.atx.specs.Content.{content, contentFrom, contentTo}
@@ -48,11 +51,12 @@ heading l = enter 11 0 ∷ (inner 0 l ++ (exit 11 (length l) ∷ []))
 abbrev pub ReadsTheStandard : Type 0
 ReadsTheStandard = (options column : ℕ) (l : List ℕ) → isHeading l options column ≡ true → headings (headingEvents l) ≡ gives (heading l)
 
--- the two calls: `lark_heading` finds a heading, of no more events than a record may have, and `lark_resolve_headings` is given the line with the section
--- that was written as a record. With room for the heading it accepts, and the heading is what is read from its output
+-- the two calls: `lark_heading` finds a heading, of no more events than a record may have, and the resolver of either form is given the line and the events
+-- that were written as a record of its form. With room for the heading it accepts, and the heading is what is read from its output
 abbrev pub CallsReadTheStandard : Type 0
 CallsReadTheStandard =
     (s : List ℕ) (options column : ℕ) (out : List ℕ) (r : LarkHeaded) (out′ : List ℕ) → HeadedAs s options column out r out′ → r .found ≡ 1 → r .events ≤ 2048 →
-    (options₂ : ℕ) (out₂ work : List ℕ) (r₂ : LarkResolved) (out₂′ work′ : List ℕ) → options₂ ≤ 63 → 65536 ≤ length work →
-    4 + 8 * length (heading (lineOf s)) ≤ length out₂ → HeadingsAs (Old options₂) (recordBytes (lineOf s) (sectionAt out′ 0)) out₂ work r₂ out₂′ work′ →
-    (r₂ ≡ resolved (length (heading (lineOf s))) 0 0) × (sectionAt out₂′ 0 ≡ heading (lineOf s))
+    (h : Handed) (options₂ : ℕ) (out₂ work : List ℕ) (r₂ : LarkResolved) (out₂′ work′ : List ℕ) → With h options₂ → options₂ ≤ 63 → 65536 ≤ length work →
+    4 + formOf h .width * length (heading (lineOf s)) ≤ length out₂ →
+    HeadingsAs h (recordIn (formOf h) options₂ (lineOf s) (sectionAt out′ 0)) out₂ work r₂ out₂′ work′ →
+    (r₂ ≡ resolved (length (heading (lineOf s))) 0 0) × (sectionAtIn (formOf h) out₂′ 0 ≡ heading (lineOf s))

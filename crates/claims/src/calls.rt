@@ -1,14 +1,15 @@
-// The eight exported calls: none asks for anything, and each promises what the claims speak of.
+// The twelve exported calls: none asks for anything, and each promises what the claims speak of.
 
 use ledgerlark::line::LarkGoing;
 use ledgerlark::line::LarkHeaded;
 use ledgerlark::line::LarkItem;
 use ledgerlark::line::LarkSpaces;
 use ledgerlark::resolve::LarkReading;
+use ledgerlark::resolve::LarkReading2;
 use ledgerlark::resolve::LarkResolved;
 use record::form::Handed;
 ghost use Rattle.runs.specs.Rule.{crate};
-ghost use Rattle.ledgerlark.specs.Answers.{ReadAs, AttentionAs, HeadingsAs, ListsAs, SpacesAs, ItemAs, GoingAs, HeadedAs};
+ghost use Rattle.ledgerlark.specs.Answers.{ReadAs, Read2As, AttentionAs, HeadingsAs, ListsAs, SpacesAs, ItemAs, GoingAs, HeadedAs};
 
 // What is claimed of `ReadAs` holds of `lark_read`; and so on below.
 pub fn read(s: &[u8], options: u32, work: &mut [u8]) -> LarkReading
@@ -33,6 +34,30 @@ pub fn resolve_lists(s: &[u8], options: u32, out: &mut [u8], work: &mut [u8]) ->
     ensures { λ r. ⌜ ListsAs (Handed.Old options) (now (s .entry)) (now (out .entry)) (now (work .entry)) r (now (out .exit)) (now (work .exit)) ⌝ }
 {
     ledgerlark::resolve::lark_resolve_lists(s, options, out, work)
+}
+
+pub fn read2(s: &[u8], work: &mut [u8]) -> LarkReading2
+    ensures { λ r. ⌜ Read2As (now (s .entry)) (now (work .entry)) r (now (work .exit)) ⌝ }
+{
+    ledgerlark::resolve::lark_read2(s, work)
+}
+
+pub fn resolve_attention2(s: &[u8], out: &mut [u8], work: &mut [u8]) -> LarkResolved
+    ensures { λ r. ⌜ AttentionAs crate Handed.Second (now (s .entry)) (now (out .entry)) (now (work .entry)) r (now (out .exit)) (now (work .exit)) ⌝ }
+{
+    ledgerlark::resolve::lark_resolve_attention2(s, out, work)
+}
+
+pub fn resolve_headings2(s: &[u8], out: &mut [u8], work: &mut [u8]) -> LarkResolved
+    ensures { λ r. ⌜ HeadingsAs Handed.Second (now (s .entry)) (now (out .entry)) (now (work .entry)) r (now (out .exit)) (now (work .exit)) ⌝ }
+{
+    ledgerlark::resolve::lark_resolve_headings2(s, out, work)
+}
+
+pub fn resolve_lists2(s: &[u8], out: &mut [u8], work: &mut [u8]) -> LarkResolved
+    ensures { λ r. ⌜ ListsAs Handed.Second (now (s .entry)) (now (out .entry)) (now (work .entry)) r (now (out .exit)) (now (work .exit)) ⌝ }
+{
+    ledgerlark::resolve::lark_resolve_lists2(s, out, work)
 }
 
 pub fn space_or_tab(line: &[u8], options: u32, column: usize, min: usize, max: usize) -> LarkSpaces

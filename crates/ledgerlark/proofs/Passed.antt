@@ -7,20 +7,24 @@ use mathlib.Core.List.{List}
 use Rattle.record.specs.Outcome.{Outcome}
 use Rattle.record.specs.Promise.{Read, Writes}
 use Rattle.record.specs.declared.form.Form.{Form}
-use Rattle.record.specs.declared.form.Handed.the-variants.{Old}
+use Rattle.record.specs.declared.form.Handed.{Handed}
 use Rattle.record.specs.declared.check.Reading.{Reading}
 use Rattle.atx.specs.Promise.{HeadedBy}
 use Rattle.lines.specs.Going.{goingOf}
 use Rattle.lines.specs.declared.container.Kind.{Kind}
 use Rattle.atx.specs.declared.Headed.{Headed}
-use Rattle.ledgerlark.specs.Answers.{larkReading, larkHeaded, kindOf, ReadAs, HeadedAs}
-use Rattle.ledgerlark.specs.declared.resolve.LarkReading.{LarkReading}
+use Rattle.ledgerlark.specs.Answers.{larkReading2, larkHeaded, kindOf, ReadBy, HeadedAs}
+use Rattle.ledgerlark.specs.declared.resolve.LarkReading2.{LarkReading2}
 use Rattle.ledgerlark.specs.declared.resolve.LarkResolved.{LarkResolved}
 use Rattle.ledgerlark.specs.declared.line.LarkHeaded.{LarkHeaded}
 
-pub read-on : (s : List ℕ) (options : ℕ) (work : List ℕ) (a : Reading) (r : LarkReading) (work′ : List ℕ) →
-    Read (Old options) s work a work′ → r ≡ larkReading a → ReadAs s options work r work′
-read-on s options work a r work′ p e = record { answer = e ∙ ap larkReading (p .answer); wiped = p .wiped }
+pub read-on : {A : Type 0} (h : Handed) (s : List ℕ) (numbers : Reading → A) (work : List ℕ) (a : Reading) (r : A) (work′ : List ℕ) →
+    Read h s work a work′ → r ≡ numbers a → ReadBy h s numbers work r work′
+read-on h s numbers work a r work′ p e = record { answer = e ∙ ap numbers (p .answer); wiped = p .wiped }
+
+-- the options that are filled in are those that were read
+pub with-options : (options n : ℕ) (a : Reading) (r : LarkReading2) → options ≡ n → r ≡ larkReading2 options a → r ≡ larkReading2 n a
+with-options options n a r o e = e ∙ ap (λ (m : ℕ). larkReading2 m a) o
 
 pub written-on : {A : Type 0} (f : Form) (comes : ℕ → ℕ → Outcome) (answers : Outcome → A) (numbers : A → LarkResolved) (out work : List ℕ) (a : A) (r : LarkResolved)
     (out′ work′ : List ℕ) → Writes f comes answers out work a out′ work′ → r ≡ numbers a →

@@ -8,13 +8,14 @@ use lib.ListN.{length, replicate}
 use lib.Dec.{eqb}
 use Rattle.record.specs.Choice.{choose}
 use Rattle.record.specs.Check.{admitted}
-use Rattle.record.specs.Handed.{formOf}
+use Rattle.record.specs.Handed.{formOf, optionsOf}
 use Rattle.record.specs.Outcome.{Outcome, onto}
 use Rattle.record.specs.Promise as read
 use Rattle.record.specs.Promise.{Writes}
 use Rattle.record.specs.declared.form.Handed.{Handed}
-use Rattle.record.specs.declared.form.Handed.the-variants.{Old}
+use Rattle.record.specs.declared.form.Handed.the-variants.{Old, Second}
 use Rattle.record.specs.declared.check.Reading.{Reading}
+use Rattle.record.specs.declared.check.Reading.the-variants.{Good, Refused}
 use Rattle.runs.specs.Rule.{Profile}
 use Rattle.attention.specs.Promise as attention
 use Rattle.attention.specs.declared.call.Answer.{Answer as AttentionAnswer}
@@ -38,6 +39,7 @@ use Rattle.lines.specs.declared.container.Container.{Container}
 use Rattle.lines.specs.declared.going.Going.{Going}
 use Rattle.atx.specs.declared.Headed.{Headed}
 use Rattle.ledgerlark.specs.declared.resolve.LarkReading.{LarkReading}
+use Rattle.ledgerlark.specs.declared.resolve.LarkReading2.{LarkReading2}
 use Rattle.ledgerlark.specs.declared.resolve.LarkResolved.{LarkResolved}
 use Rattle.ledgerlark.specs.declared.line.LarkSpaces.{LarkSpaces}
 use Rattle.ledgerlark.specs.declared.line.LarkItem.{LarkItem}
@@ -49,6 +51,11 @@ use Rattle.ledgerlark.specs.declared.line.LarkHeaded.{LarkHeaded}
 abbrev pub larkReading : Reading → LarkReading
 larkReading r =
     record { number = read.numbersOf r .number; place = read.numbersOf r .place; document = read.numbersOf r .document; events = read.numbersOf r .events }
+
+-- form 2 has the options beside the counts, "read from the record"; a refusal has none
+abbrev pub larkReading2 : ℕ → Reading → LarkReading2
+larkReading2 options (Good d e) = record { number = 0; place = 0; options = options; document = d; events = e }
+larkReading2 options (Refused x) = record { number = x .number; place = x .place; options = 0; document = 0; events = 0 }
 
 abbrev pub larkAttention : AttentionAnswer → LarkResolved
 larkAttention r =
@@ -119,9 +126,16 @@ containerOf size blank mark = record { kind = kindOf mark; size = size; blank = 
 
 -- the promises: the answer, the output and the work memory
 
-pub record ReadAs (s : List ℕ) (options : ℕ) (work : List ℕ) (r : LarkReading) (work′ : List ℕ) : Type 0 where
-  pub answer : r ≡ larkReading (admitted (Old options) s (length work))
+-- a call that reads, over any form: `numbers` fills its struct
+pub record ReadBy {A : Type 0} (h : Handed) (s : List ℕ) (numbers : Reading → A) (work : List ℕ) (r : A) (work′ : List ℕ) : Type 0 where
+  pub answer : r ≡ numbers (admitted h s (length work))
   pub wiped : work′ ≡ replicate (length work) 0
+
+abbrev pub ReadAs : List ℕ → ℕ → List ℕ → LarkReading → List ℕ → Type 0
+ReadAs s options = ReadBy (Old options) s larkReading
+
+abbrev pub Read2As : List ℕ → List ℕ → LarkReading2 → List ℕ → Type 0
+Read2As s = ReadBy Second s (larkReading2 (optionsOf Second s))
 
 -- the calls that write, over any form: however the record is handed over. Attention is over any profile too; the contract of a call says which
 abbrev pub AttentionAs : Profile → Handed → List ℕ → List ℕ → List ℕ → LarkResolved → List ℕ → List ℕ → Type 0

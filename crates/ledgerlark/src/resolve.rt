@@ -2,14 +2,25 @@
 
 use record::check::Reading;
 use record::form::Handed;
+use record::form::options_of;
 ghost use mathlib.Core.Path.{_≡_};
 ghost use Rattle.runs.specs.Rule.{crate};
-ghost use Rattle.ledgerlark.specs.Answers.{larkReading, larkAttention, larkHeadings, larkLists, ReadAs, AttentionAs, HeadingsAs, ListsAs};
+ghost use Rattle.ledgerlark.specs.Answers.{larkReading, larkReading2, larkAttention, larkHeadings, larkLists, ReadAs, Read2As, AttentionAs, HeadingsAs, ListsAs};
 
 #[repr(C)]
 pub struct LarkReading {
     pub number: usize,
     pub place: usize,
+    pub document: usize,
+    pub events: usize,
+}
+
+// Of a record in form 2: its options too, which it carries.
+#[repr(C)]
+pub struct LarkReading2 {
+    pub number: usize,
+    pub place: usize,
+    pub options: usize,
     pub document: usize,
     pub events: usize,
 }
@@ -40,6 +51,32 @@ fn reading_of(found: Reading) -> LarkReading
             return LarkReading {
                 number: refusal.number,
                 place: refusal.place,
+                document: 0,
+                events: 0,
+            };
+        }
+    }
+}
+
+// The numbers of an answer of `read` about a record with these options.
+fn reading2_of(options: usize, found: Reading) -> LarkReading2
+    ensures { λ r. ⌜ r ≡ larkReading2 options found ⌝ }
+{
+    match found {
+        Reading::Good { document, events } => {
+            return LarkReading2 {
+                number: 0,
+                place: 0,
+                options,
+                document,
+                events,
+            };
+        }
+        Reading::Refused(refusal) => {
+            return LarkReading2 {
+                number: refusal.number,
+                place: refusal.place,
+                options: 0,
                 document: 0,
                 events: 0,
             };
@@ -174,4 +211,36 @@ pub extern "C" fn lark_resolve_lists(
     ensures { λ r. ⌜ ListsAs (Handed.Old options) (now (s .entry)) (now (out .entry)) (now (work .entry)) r (now (out .exit)) (now (work .exit)) ⌝ }
 {
     lists_of(list::call::resolve_lists(Handed::Old(options), s, out, work))
+}
+
+// The calls on a record in form 2: each is the call above on the record as it is handed over there, which has its options in it. What they write
+// carries partner numbers.
+
+#[no_mangle]
+pub extern "C" fn lark_read2(s: &[u8], work: &mut [u8]) -> LarkReading2
+    ensures { λ r. ⌜ Read2As (now (s .entry)) (now (work .entry)) r (now (work .exit)) ⌝ }
+{
+    let options = options_of(Handed::Second, s) as usize;
+    reading2_of(options, record::call::read(Handed::Second, s, work))
+}
+
+#[no_mangle]
+pub extern "C" fn lark_resolve_attention2(s: &[u8], out: &mut [u8], work: &mut [u8]) -> LarkResolved
+    ensures { λ r. ⌜ AttentionAs crate Handed.Second (now (s .entry)) (now (out .entry)) (now (work .entry)) r (now (out .exit)) (now (work .exit)) ⌝ }
+{
+    attention_of(attention::call::resolve_attention(Handed::Second, s, out, work))
+}
+
+#[no_mangle]
+pub extern "C" fn lark_resolve_headings2(s: &[u8], out: &mut [u8], work: &mut [u8]) -> LarkResolved
+    ensures { λ r. ⌜ HeadingsAs Handed.Second (now (s .entry)) (now (out .entry)) (now (work .entry)) r (now (out .exit)) (now (work .exit)) ⌝ }
+{
+    headings_of(heading::resolve::resolve_headings(Handed::Second, s, out, work))
+}
+
+#[no_mangle]
+pub extern "C" fn lark_resolve_lists2(s: &[u8], out: &mut [u8], work: &mut [u8]) -> LarkResolved
+    ensures { λ r. ⌜ ListsAs Handed.Second (now (s .entry)) (now (out .entry)) (now (work .entry)) r (now (out .exit)) (now (work .exit)) ⌝ }
+{
+    lists_of(list::call::resolve_lists(Handed::Second, s, out, work))
 }

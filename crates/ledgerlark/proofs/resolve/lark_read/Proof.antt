@@ -1,5 +1,6 @@
 -- `ledgerlark::resolve::lark_read` meets its contract: the promise of the call below, in numbers.
 -- Assumes nothing.
+use Rattle.ledgerlark.specs.Answers.{larkReading}
 use Rattle.ledgerlark.proofs.Passed.{read-on}
 use borrow.Author.Needs.{needs}
 use Rattle.ledgerlark.proofs.resolve.lark_read.Statement.{statement}
@@ -19,7 +20,7 @@ same-length : tie.Need-same-length
 same-length c = search needs
 
 returns : tie.Need-returns
-returns c = read-on _ _ _ _ _ _ (c .before .before .before .read .ensures) (c .reading-of .ensures)
+returns c = read-on _ _ larkReading _ _ _ _ (c .before .before .before .read .ensures) (c .reading-of .ensures)
 
 pub lark-read-spec : {M : Type 1} → statement M
 lark-read-spec = tie.close (tie.spec read-requires reading-of-requires same-length returns)
