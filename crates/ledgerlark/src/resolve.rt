@@ -63,24 +63,20 @@ fn reading2_of(options: usize, found: Reading) -> LarkReading2
     ensures { λ r. ⌜ r ≡ larkReading2 options found ⌝ }
 {
     match found {
-        Reading::Good { document, events } => {
-            return LarkReading2 {
-                number: 0,
-                place: 0,
-                options,
-                document,
-                events,
-            };
-        }
-        Reading::Refused(refusal) => {
-            return LarkReading2 {
-                number: refusal.number,
-                place: refusal.place,
-                options: 0,
-                document: 0,
-                events: 0,
-            };
-        }
+        Reading::Good { document, events } => LarkReading2 {
+            number: 0,
+            place: 0,
+            options,
+            document,
+            events,
+        },
+        Reading::Refused(refusal) => LarkReading2 {
+            number: refusal.number,
+            place: refusal.place,
+            options: 0,
+            document: 0,
+            events: 0,
+        },
     }
 }
 

@@ -19,4 +19,4 @@ returns-2 : tie.Need-returns-2
 returns-2 c = rw (c .before .found2 .given .1)
 
 pub reading2-of-spec : {M : Type 1} → statement M
-reading2-of-spec = tie.close (tie.spec enum-known-found returns enum-known-found-2 returns-2)
+reading2-of-spec = tie.close (tie.spec enum-known-found enum-known-found-2 returns returns-2)
