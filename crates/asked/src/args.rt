@@ -41,11 +41,12 @@ const COLUMN: u8 = b'C';
 // The options without -o: all but the single tilde.
 const USUAL: u32 = 59;
 
-// What is asked for. Of a line, `column` is where it starts, and `continuing` says that an item's size and flag are given. The operand is given by
+// What is asked for, by what the command takes. Of a line, `column` is where it starts, and `continuing` says that an item's size and flag are given. The operand is given by
 // its number among the arguments, or is 0 where there is none, and so is the first of the events; `dashed` says that the operand looks like an
 // option. `awaits` is the letter of the option whose number is the next word, or 0, and `ended` says that -- was there. Where something is wrong,
 // `culprit` is the number of that argument.
 pub struct Asked {
+    pub takes: u8,
     pub options: u32,
     pub as_text: bool,
     pub column: usize,
@@ -199,8 +200,8 @@ fn take_of_line(asked: Asked, option: u8) -> Asked {
 }
 
 // Argument i as an operand, where it is none of the command's options. A file's name does not look like one.
-fn take_other(asked: Asked, i: usize, takes: u8, dashed: bool) -> Asked {
-    if takes < FILE {
+fn take_other(asked: Asked, i: usize, dashed: bool) -> Asked {
+    if asked.takes < FILE {
         return take_operand(asked, i, dashed);
     }
     if dashed {
@@ -210,7 +211,7 @@ fn take_other(asked: Asked, i: usize, takes: u8, dashed: bool) -> Asked {
 }
 
 // Argument i, by its letter as an option and by whether it looks like one.
-fn take_option(asked: Asked, i: usize, takes: u8, option: u8, dashed: bool) -> Asked {
+fn take_option(asked: Asked, i: usize, option: u8, dashed: bool) -> Asked {
     let mut asked = asked;
     if option == b'o' {
         asked.awaits = option;
@@ -221,28 +222,28 @@ fn take_option(asked: Asked, i: usize, takes: u8, option: u8, dashed: bool) -> A
         return asked;
     }
     if option == b't' {
-        if takes == FILE_OF_EVENTS {
+        if asked.takes == FILE_OF_EVENTS {
             asked.as_text = true;
             return asked;
         }
     }
-    if is_of_line(option, takes) {
+    if is_of_line(option, asked.takes) {
         return take_of_line(asked, option);
     }
-    take_other(asked, i, takes, dashed)
+    take_other(asked, i, dashed)
 }
 
 // Argument i where no number is awaited and -- was not there.
-fn take_word(asked: Asked, i: usize, takes: u8) -> Asked {
+fn take_word(asked: Asked, i: usize) -> Asked {
     let mut word = [0u8; 16];
     let n = os::arg(i, &mut word);
     let option = letter(&word[..n]);
-    take_option(asked, i, takes, option, is_dashed(word[0], word[1]))
+    take_option(asked, i, option, is_dashed(word[0], word[1]))
 }
 
 // Whether the next argument is an event.
-fn wants_event(asked: Asked, takes: u8) -> bool {
-    if takes != TEXT_AND_EVENTS {
+fn wants_event(asked: Asked) -> bool {
+    if asked.takes != TEXT_AND_EVENTS {
         return false;
     }
     asked.operand != 0
@@ -291,26 +292,27 @@ fn take_event(asked: Asked, i: usize) -> Asked {
 }
 
 // Argument i. What is wrong first is what is said.
-fn take(asked: Asked, i: usize, takes: u8) -> Asked {
+fn take(asked: Asked, i: usize) -> Asked {
     if asked.wrong != 0 {
         return asked;
     }
     if asked.awaits != 0 {
         return take_number(asked, i);
     }
-    if wants_event(asked, takes) {
+    if wants_event(asked) {
         return take_event(asked, i);
     }
     if asked.ended {
         return take_operand(asked, i, false);
     }
-    take_word(asked, i, takes)
+    take_word(asked, i)
 }
 
-// The arguments from a number on.
+// The arguments from a number on, of a command that takes this.
 pub fn arguments(from: usize, takes: u8) -> Asked {
     let count = os::arg_count();
     let mut asked = Asked {
+        takes,
         options: USUAL,
         as_text: false,
         column: 0,
@@ -328,7 +330,7 @@ pub fn arguments(from: usize, takes: u8) -> Asked {
     };
     let mut i = from;
     while i < count {
-        asked = take(asked, i, takes);
+        asked = take(asked, i);
         i += 1;
     }
     asked
