@@ -30,7 +30,7 @@ fn complain_words(number: usize) {
     complain(b": ");
     match number {
         1 => complain(b"the work memory is under 65,536 bytes"),
-        2 => complain(b"the options are over 63, or the column over 16,384"),
+        2 => complain(b"the options are over 63, the column over 16,384, or the first count not 1"),
         3 => complain(b"a length does not fit"),
         4 => complain(b"a carriage return"),
         5 => complain(b"an event is not sound"),
