@@ -35,19 +35,31 @@ const TOO_LARGE: u8 = 4;
 
 const TOO_LONG: u8 = 5;
 
-// What stands for --column where an option is given by its letter. The letter alone is none.
+const NO_FORM: u8 = 6;
+
+// What stands for --column and for --form where an option is given by its letter. The letter alone is none.
 const COLUMN: u8 = b'C';
+
+const FORM: u8 = b'F';
 
 // The options without -o: all but the single tilde.
 const USUAL: u32 = 59;
 
-// What is asked for, by what the command takes. Of a line, `column` is where it starts, and `continuing` says that an item's size and flag are given. The operand is given by
-// its number among the arguments, or is 0 where there is none, and so is the first of the events; `dashed` says that the operand looks like an
-// option. `awaits` is the letter of the option whose number is the next word, or 0, and `ended` says that -- was there. Where something is wrong,
-// `culprit` is the number of that argument.
+// The forms of a record, by their numbers.
+const OLD_FORM: u32 = 1;
+
+pub const SECOND_FORM: u32 = 2;
+
+// What is asked for, by what the command takes. `has_options` says that -o was there, and `form` is the number of the record's form. Of a line,
+// `column` is where it starts, and `continuing` says that an item's size and flag are given. The operand is given by its number among the
+// arguments, or is 0 where there is none, and so is the first of the events; `dashed` says that the operand looks like an option. `awaits` is the
+// letter of the option whose number is the next word, or 0, and `ended` says that -- was there. Where something is wrong, `culprit` is the number
+// of that argument.
 pub struct Asked {
     pub takes: u8,
     pub options: u32,
+    pub has_options: bool,
+    pub form: u32,
     pub as_text: bool,
     pub column: usize,
     pub interrupting: bool,
@@ -77,6 +89,11 @@ fn put_number(asked: Asked, value: u32) -> Asked {
         asked.column = value as usize;
         return asked;
     }
+    if awaits == FORM {
+        asked.form = value;
+        return asked;
+    }
+    asked.has_options = true;
     asked.options = value;
     asked
 }
@@ -89,8 +106,22 @@ fn is_too_large(awaits: u8, value: u32) -> bool {
     value > 999999
 }
 
+// Whether an option is --form and the number behind it that of no form.
+fn is_no_form(awaits: u8, value: u32) -> bool {
+    if awaits != FORM {
+        return false;
+    }
+    if value == OLD_FORM {
+        return false;
+    }
+    value != SECOND_FORM
+}
+
 // Argument i, which has this value, as the number behind an option.
 fn take_value(asked: Asked, i: usize, value: u32) -> Asked {
+    if is_no_form(asked.awaits, value) {
+        return put_wrong(asked, NO_FORM, i);
+    }
     if is_too_large(asked.awaits, value) {
         return put_wrong(asked, TOO_LARGE, i);
     }
@@ -146,6 +177,9 @@ fn letter(word: &[u8]) -> u8 {
     if same(word, b"--column") {
         return COLUMN;
     }
+    if same(word, b"--form") {
+        return FORM;
+    }
     if word.len() != 2 {
         return 0;
     }
@@ -153,6 +187,9 @@ fn letter(word: &[u8]) -> u8 {
         return 0;
     }
     if word[1] == COLUMN {
+        return 0;
+    }
+    if word[1] == FORM {
         return 0;
     }
     word[1]
@@ -210,10 +247,18 @@ fn take_other(asked: Asked, i: usize, dashed: bool) -> Asked {
     take_operand(asked, i, dashed)
 }
 
+// Whether an option is one that every command has, since all go by way of a record. Each awaits its number.
+fn is_of_all(option: u8) -> bool {
+    if option == FORM {
+        return true;
+    }
+    option == b'o'
+}
+
 // Argument i, by its letter as an option and by whether it looks like one.
 fn take_option(asked: Asked, i: usize, option: u8, dashed: bool) -> Asked {
     let mut asked = asked;
-    if option == b'o' {
+    if is_of_all(option) {
         asked.awaits = option;
         return asked;
     }
@@ -314,6 +359,8 @@ pub fn arguments(from: usize, takes: u8) -> Asked {
     let mut asked = Asked {
         takes,
         options: USUAL,
+        has_options: false,
+        form: OLD_FORM,
         as_text: false,
         column: 0,
         interrupting: false,
@@ -343,6 +390,7 @@ fn say_wrong(what: u8, culprit: usize) -> u8 {
         UNKNOWN => blame(b"no such option", culprit),
         TOO_LARGE => blame(b"too large", culprit),
         TOO_LONG => blame(b"too long", culprit),
+        NO_FORM => blame(b"no such form", culprit),
         _ => blame(b"one argument too many", culprit),
     }
 }
@@ -355,6 +403,9 @@ fn ask_number(option: u8) -> u8 {
     if option == COLUMN {
         return wrong(b"--column wants a number");
     }
+    if option == FORM {
+        return wrong(b"--form wants a number");
+    }
     wrong(b"-o wants a number")
 }
 
@@ -364,6 +415,17 @@ fn lacks_size(asked: Asked) -> bool {
         return false;
     }
     asked.blank
+}
+
+// Whether -o stands beside a record that is read and has its options in it. One that is made gets them.
+fn gives_other_options(asked: Asked) -> bool {
+    if asked.form != SECOND_FORM {
+        return false;
+    }
+    if asked.takes < FILE {
+        return false;
+    }
+    asked.has_options
 }
 
 // Whether the arguments are good; says what is wrong where they are not.
@@ -378,6 +440,10 @@ pub fn are_good(asked: Asked) -> bool {
     }
     if lacks_size(asked) {
         wrong(b"-b wants -c beside it");
+        return false;
+    }
+    if gives_other_options(asked) {
+        wrong(b"-o does not go with --form 2 here: the record has its options in it");
         return false;
     }
     true

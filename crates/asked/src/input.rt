@@ -1,6 +1,7 @@
 // Texts and records, from arguments, files and standard input.
 
 use crate::args::Asked;
+use crate::args::SECOND_FORM;
 use libc::STDIN_FILENO;
 use record::form::Handed;
 use terminal::say::fail;
@@ -122,7 +123,10 @@ pub fn record_asked(asked: Asked, buffer: &mut [u8]) -> Got {
     read_record(&path[..n], buffer)
 }
 
-// How the record that is asked about, or that is made, is handed over: in the old form, with the options beside it.
+// How the record that is asked about, or that is made, is handed over: in the old form, with the options beside it, or in form 2, with them in it.
 pub fn handed_asked(asked: Asked) -> Handed {
+    if asked.form == SECOND_FORM {
+        return Handed::Second;
+    }
     Handed::Old(asked.options)
 }

@@ -62,19 +62,20 @@ pub fn say_help(fd: i32) -> bool {
         fd,
         b"lark: what Ledgerlark makes of a text, a line or a record
 
-  lark show [-o N] [TEXT]            the groups that a text's attention runs form, as a tree
-  lark line [-o N] [--column COLUMN] [-i] [-c SIZE [-b]] [TEXT]
-                                     what the line readers find in a line; --column COLUMN: which starts at that column,
-                                     0 without it; -i: where it would interrupt a paragraph; -c SIZE: as a further line
-                                     of an item of that size, -b: whose flag is set
-  lark record [-o N] [TEXT]          the record that show makes of a text
-  lark record [-o N] TEXT EVENT..    the record of a text and of these events
-  lark attention [-o N] [-t] [FILE]  a record's events with the attention runs resolved; -t: as text
-  lark headings [-o N] [-t] [FILE]   the same with the headings resolved
-  lark lists [-o N] [-t] [FILE]      the same with the lists resolved
-  lark read [-o N] [FILE]            whether a record is good, and its two counts
-  lark help                          these words; --help or -h does the same, also behind a command
-  lark version                       the version; --version does the same, also behind a command
+  lark show [-o N] [--form 2] [TEXT]            the groups that a text's attention runs form, as a tree
+  lark line [-o N] [--form 2] [--column COLUMN] [-i] [-c SIZE [-b]] [TEXT]
+                                                what the line readers find in a line; --column COLUMN: which starts at
+                                                that column, 0 without it; -i: where it would interrupt a paragraph;
+                                                -c SIZE: as a further line of an item of that size, -b: whose flag is
+                                                set
+  lark record [-o N] [--form 2] [TEXT]          the record that show makes of a text
+  lark record [-o N] [--form 2] TEXT EVENT..    the record of a text and of these events
+  lark attention [-o N | --form 2] [-t] [FILE]  a record's events with the attention runs resolved; -t: as text
+  lark headings [-o N | --form 2] [-t] [FILE]   the same with the headings resolved
+  lark lists [-o N | --form 2] [-t] [FILE]      the same with the lists resolved
+  lark read [-o N | --form 2] [FILE]            whether a record is good, and its two counts
+  lark help                                     these words; --help or -h does the same, also behind a command
+  lark version                                  the version; --version does the same, also behind a command
 
 Without TEXT or FILE, or with - for FILE, standard input is read; of a TEXT that comes from there one line feed at the
 end is dropped. A TEXT may begin with a dash; -- ends the options, and behind it even --help is a TEXT. show and record
@@ -88,6 +89,11 @@ and --version is an EVENT. The words for 0 to 24, in capitals or small letters:
   GfmStrikethrough GfmStrikethroughSequence GfmStrikethroughText HeadingAtx HeadingAtxSequence HeadingAtxText
   SpaceOrTab ListItem ListItemPrefix ListItemMarker ListItemValue ListOrdered ListUnordered LineEnding
   BlankLineEnding BlockQuotePrefix OtherContainer
+
+Without --form a record is of form 1, as with --form 1: its options stand beside it. In form 2 they are in it, and with
+each event the number of its partner, the exit of an enter or the enter of an exit, printed behind a slash: +2@0/9 is
+left by event 9, counted from 0. An EVENT is given without that number, and record puts it in. -o gives a record that is
+made of a TEXT its options; one that is read has its own, and read says them. show answers alike in both forms.
 
 A tab goes to the next column that is a multiple of 4; a SIZE means columns too. What is taken of a line is said in
 bytes. Where line says left, a tab is cut: its byte is not taken, and so many of its columns are left.

@@ -13,6 +13,7 @@ use record::check::Reading;
 use record::check::Refusal;
 use record::form::Handed;
 use record::form::form_of;
+use record::form::options_of;
 use terminal::events::place_in;
 use terminal::events::say_events;
 use terminal::say::WRONG;
@@ -81,6 +82,14 @@ fn say_made(out: &[u8], width: usize, events: usize, as_text: bool) -> u8 {
     done(say_section(out, width, events))
 }
 
+// The options of a record that carries them.
+fn say_carried(handed: Handed, rec: &[u8]) {
+    if let Handed::Second = handed {
+        say_with(b"options ", options_of(handed, rec) as usize);
+        say(b" ");
+    }
+}
+
 // The two counts of a good record.
 fn say_counts(document: usize, events: usize) -> u8 {
     say_with(b"document ", document);
@@ -88,12 +97,17 @@ fn say_counts(document: usize, events: usize) -> u8 {
     done(end_line())
 }
 
-// Whether a record is good, and its two counts.
+// Whether a record is good, the options that it carries, and its two counts.
 fn run_read(handed: Handed, rec: &[u8]) -> u8 {
     let mut work = memory();
     match record::call::read(handed, rec, &mut work) {
-        Reading::Good { document, events } => say_counts(document, events),
-        Reading::Refused(refusal) => refuse_record(rec, handed, refusal),
+        Reading::Good { document, events } => {
+            say_carried(handed, rec);
+            return say_counts(document, events);
+        }
+        Reading::Refused(refusal) => {
+            return refuse_record(rec, handed, refusal);
+        }
     }
 }
 

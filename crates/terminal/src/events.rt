@@ -1,5 +1,5 @@
 // A section of events, as the resolvers and the heading reader write it: read event by event, and said in document 01's notation. An event takes
-// `width` bytes, as the section's form says; behind the first eight it may carry its partner's number.
+// `width` bytes, as the section's form says; behind the first eight it may carry its partner's number, which is then said behind a slash.
 
 use crate::say::end_line;
 use crate::say::say;
@@ -86,17 +86,27 @@ fn write_kind(fd: i32, kind: u8) {
     }
 }
 
-// An event in the notation, on a descriptor.
-fn write_event(fd: i32, event: Event) {
+// The partner's number that the k-th event carries, where it carries one.
+fn write_partner(fd: i32, section: &[u8], width: usize, k: usize) {
+    if carries_partner(width) {
+        write(fd, b"/");
+        write_number(fd, partner_of(section, width, k));
+    }
+}
+
+// The k-th event in the notation, on a descriptor.
+fn write_event(fd: i32, section: &[u8], width: usize, k: usize) {
+    let event = event_of(section, width, k);
     write_kind(fd, event.kind);
     write_number(fd, event.name as usize);
     write(fd, b"@");
     write_number(fd, event.place);
+    write_partner(fd, section, width, k);
 }
 
 // The k-th event, on standard error.
 pub fn complain_event(section: &[u8], width: usize, k: usize) {
-    write_event(STDERR_FILENO, event_of(section, width, k));
+    write_event(STDERR_FILENO, section, width, k);
 }
 
 // The k-th event, behind a space where it is not the first.
@@ -104,7 +114,7 @@ fn say_event(section: &[u8], width: usize, k: usize) {
     if k > 0 {
         say(b" ");
     }
-    write_event(STDOUT_FILENO, event_of(section, width, k));
+    write_event(STDOUT_FILENO, section, width, k);
 }
 
 // So many events, on a line; whether it was written.

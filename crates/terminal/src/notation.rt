@@ -1,4 +1,4 @@
-// Document 01's notation of an event, as -t prints it: + for enter or - for exit, the name in digits or in a word, @ and the place.
+// Document 01's notation of an event, as -t prints it in the old form: + for enter or - for exit, the name in digits or in a word, @ and the place.
 
 use crate::names::named;
 use crate::number::Number;
