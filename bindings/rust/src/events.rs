@@ -1,9 +1,6 @@
-//! Events: one by one, in a section, in a record.
+//! Events, one by one.
 
-#[cfg(feature = "alloc")]
-use alloc::{vec, vec::Vec};
 use core::fmt;
-use core::iter::FusedIterator;
 
 /// Whether an event enters or exits.
 #[derive(Clone, Copy, Debug, PartialEq, Eq, Hash)]
@@ -162,126 +159,7 @@ impl fmt::Display for Event {
     }
 }
 
-/// The events of a section, in order. Bytes behind the section are not looked at.
-///
-/// Any bytes will do: the events end where the count says, or before that at the first eight bytes that are cut short or are no event.
-///
-/// ```
-/// use ledgerlark::{Event, Events, Name};
-///
-/// let section = [1, 0, 0, 0, 0, 2, 0, 0, 7, 0, 0, 0];
-/// assert!(Events::new(&section).eq([Event::enter(Name::EMPHASIS, 7)]));
-/// assert_eq!(Events::new(&section[..11]).next(), None);
-/// ```
-#[derive(Clone, Debug)]
-#[must_use = "an iterator reads nothing until it is asked"]
-pub struct Events<'a> {
-    /// How many are left by the count.
-    left: usize,
-    /// The bytes not yet read.
-    rest: &'a [u8],
-}
-
-impl<'a> Events<'a> {
-    /// The events of the section that `bytes` begin with.
-    pub fn new(bytes: &'a [u8]) -> Events<'a> {
-        match bytes.split_first_chunk() {
-            Some((count, rest)) => Events {
-                left: u32::from_le_bytes(*count) as usize,
-                rest,
-            },
-            None => Events { left: 0, rest: &[] },
-        }
-    }
-}
-
-impl Iterator for Events<'_> {
-    type Item = Event;
-
-    fn next(&mut self) -> Option<Event> {
-        // Left at 0 for good where no event stands, so that nothing behind it is taken for one.
-        let left = core::mem::take(&mut self.left).checked_sub(1)?;
-        let (bytes, rest) = self.rest.split_first_chunk()?;
-        let event = Event::from_bytes(*bytes)?;
-        (self.left, self.rest) = (left, rest);
-        Some(event)
-    }
-
-    fn size_hint(&self) -> (usize, Option<usize>) {
-        (0, Some(self.left.min(self.rest.len() / Event::LENGTH)))
-    }
-}
-
-impl FusedIterator for Events<'_> {}
-
-/// How long a section of so many events is: its count and 8 bytes for each. Where that is no `usize`, the largest there is.
-#[must_use]
-pub const fn section_length(events: usize) -> usize {
-    Event::LENGTH.saturating_mul(events).saturating_add(4)
-}
-
-/// How long a record of so many bytes of document and so many events is. Where that is no `usize`, the largest there is.
-#[must_use]
-pub const fn record_length(document: usize, events: usize) -> usize {
-    section_length(events).saturating_add(document).saturating_add(4)
-}
-
-/// A record: the document's count and bytes, then the events' count and bytes. Needs the feature `alloc`.
-///
-/// Nothing is judged here. A document, a list of events or a place too large for a record makes one that the library refuses.
-///
-/// ```
-/// use ledgerlark::{record, Event, Name};
-///
-/// assert_eq!(
-///     record(b"a", &Event::pair(Name::DATA, 0, 1)),
-///     [1, 0, 0, 0, b'a', 2, 0, 0, 0, 0, 0, 0, 0, 0, 0, 0, 0, 1, 0, 0, 0, 1, 0, 0, 0],
-/// );
-/// ```
-#[cfg(feature = "alloc")]
-#[must_use]
-pub fn record(document: &[u8], events: &[Event]) -> Vec<u8> {
-    let mut bytes = vec![0; record_length(document.len(), events.len())];
-    let fits = record_into(document, events.iter().copied(), &mut bytes).is_some();
-    debug_assert!(fits, "as long as the record is");
-    bytes
-}
-
-/// A record, written to the start of `out`. `None` where it does not fit; then a part of it may stand there.
-///
-/// Nothing is judged here either. The events may come from a section, as they do for one resolver behind another:
-///
-/// ```
-/// use ledgerlark::{heading, record_into, record_length, resolve_headings, section_length, Events, Options, Work};
-///
-/// let (line, options) = (b"# a b", Options::default());
-/// let mut out = [0; section_length(12)];
-/// assert_eq!(heading(line, options, 0, &mut out)?, Some(12));
-///
-/// let mut bytes = [0; record_length(5, 12)];
-/// let record = record_into(line, Events::new(&out), &mut bytes).expect("room for 12 events");
-/// let mut work = [0; Work::LENGTH];
-/// let mut out = [0; section_length(12)];
-/// let resolved = resolve_headings(record, options, &mut out, &mut Work::from(&mut work))?;
-/// assert_eq!(resolved.events, 10);
-/// # Ok::<(), ledgerlark::Refusal>(())
-/// ```
-#[must_use]
-pub fn record_into<'a>(document: &[u8], events: impl IntoIterator<Item = Event>, out: &'a mut [u8]) -> Option<&'a [u8]> {
-    let (section, mut end, mut count) = (4 + document.len(), record_length(document.len(), 0), 0);
-    out.get_mut(..4)?.copy_from_slice(&four_bytes(document.len()));
-    out.get_mut(4..section)?.copy_from_slice(document);
-    for event in events {
-        let next = end + Event::LENGTH;
-        out.get_mut(end..next)?.copy_from_slice(&event.to_bytes());
-        (end, count) = (next, count + 1);
-    }
-    // Behind the events, since only now their number is known.
-    out.get_mut(section..section + 4)?.copy_from_slice(&four_bytes(count));
-    out.get(..end)
-}
-
 /// A number as u32, little endian. One too large becomes the largest, which is over every limit, and so is still refused.
-fn four_bytes(number: usize) -> [u8; 4] {
+pub(crate) fn four_bytes(number: usize) -> [u8; 4] {
     u32::try_from(number).unwrap_or(u32::MAX).to_le_bytes()
 }

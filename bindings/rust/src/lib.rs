@@ -43,22 +43,26 @@ mod ffi;
 mod limits;
 mod lines;
 mod options;
+mod records;
 mod refusal;
 mod resolve;
+mod sections;
 mod work;
 
-#[cfg(feature = "alloc")]
-pub use events::record;
-pub use events::{record_into, record_length, section_length, Event, Events, Kind, Name};
+pub use events::{Event, Kind, Name};
 pub use limits::{MAX_COLUMN, MAX_DEPTH, MAX_DOCUMENT, MAX_EVENTS, MAX_LINE, MAX_RESULT};
 #[cfg(feature = "alloc")]
 pub use lines::heading_to_vec;
 pub use lines::{continuation, heading, list_item, space_or_tab, Container, Continuation, Item, ListKind, Spaces};
 pub use options::Options;
+#[cfg(feature = "alloc")]
+pub use records::record;
+pub use records::{record_into, record_length};
 pub use refusal::Refusal;
 pub use resolve::{read, resolve_attention, resolve_headings, resolve_lists, Reading, Resolved};
 #[cfg(feature = "alloc")]
 pub use resolve::{resolve_attention_to_vec, resolve_headings_to_vec, resolve_lists_to_vec};
+pub use sections::{section_length, Events};
 pub use work::Work;
 
 /// The examples of the README are run too.

@@ -1,11 +1,13 @@
 //! The calls on a record: whether it is good, and the three resolvers.
 
-use crate::events::section_length;
 use crate::ffi;
 use crate::refusal::{refused, Refusal};
 #[cfg(feature = "alloc")]
-use crate::{Event, Events, MAX_RESULT};
-use crate::{Options, Work};
+use crate::sections::Section;
+use crate::sections::{length_of, Form};
+#[cfg(feature = "alloc")]
+use crate::MAX_RESULT;
+use crate::{Event, Options, Work};
 #[cfg(feature = "alloc")]
 use alloc::{vec, vec::Vec};
 
@@ -67,7 +69,7 @@ pub struct Resolved<'a> {
 /// Beside a run the document is read as UTF-8: whitespace is the general category Zs with tab, line feed and form feed, punctuation the categories P
 /// and S of Unicode 16.0.0. Bytes that are no character count as a letter does, and no document is refused for them.
 ///
-/// Bytes of `out` past the section stay as they are. An output of [`section_length`]`(`[`MAX_RESULT`](crate::MAX_RESULT)`)` bytes is always enough.
+/// Bytes of `out` past the section stay as they are. An output of [`section_length`](crate::section_length)`(`[`MAX_RESULT`](crate::MAX_RESULT)`)` bytes is always enough.
 ///
 /// ```
 /// use ledgerlark::{record_into, resolve_attention, Event, Events, Name, Options, Work};
@@ -89,7 +91,7 @@ pub struct Resolved<'a> {
 ///
 /// Those of [`read`], [`Refusal::Shape`], [`Refusal::Result`] and [`Refusal::Output`].
 pub fn resolve_attention<'a>(record: &[u8], options: Options, out: &'a mut [u8], work: &mut Work<'_>) -> Result<Resolved<'a>, Refusal> {
-    resolve_by(ffi::resolve_attention, record, options, out, work)
+    resolve_by::<Event>(|out, work| ffi::resolve_attention(record, options.bits(), out, work), out, work)
 }
 
 /// Puts the text of each heading of a record into a pair of its own, and writes the events' section to `out`, as
@@ -99,7 +101,7 @@ pub fn resolve_attention<'a>(record: &[u8], options: Options, out: &'a mut [u8],
 ///
 /// Those of [`read`], [`Refusal::Shape`] and [`Refusal::Output`]. Not [`Refusal::Result`]: no record has a result as long.
 pub fn resolve_headings<'a>(record: &[u8], options: Options, out: &'a mut [u8], work: &mut Work<'_>) -> Result<Resolved<'a>, Refusal> {
-    resolve_by(ffi::resolve_headings, record, options, out, work)
+    resolve_by::<Event>(|out, work| ffi::resolve_headings(record, options.bits(), out, work), out, work)
 }
 
 /// Puts a list round the neighbouring items of a record that belong together, and writes the events' section to `out`, as
@@ -109,7 +111,7 @@ pub fn resolve_headings<'a>(record: &[u8], options: Options, out: &'a mut [u8], 
 ///
 /// Those of [`read`], [`Refusal::Shape`] and [`Refusal::Output`]. Not [`Refusal::Result`]: no record has a result as long.
 pub fn resolve_lists<'a>(record: &[u8], options: Options, out: &'a mut [u8], work: &mut Work<'_>) -> Result<Resolved<'a>, Refusal> {
-    resolve_by(ffi::resolve_lists, record, options, out, work)
+    resolve_by::<Event>(|out, work| ffi::resolve_lists(record, options.bits(), out, work), out, work)
 }
 
 /// [`resolve_attention`] with an output of its own, which is always long enough. Needs the feature `alloc`.
@@ -119,7 +121,7 @@ pub fn resolve_lists<'a>(record: &[u8], options: Options, out: &'a mut [u8], wor
 /// Those of [`read`], [`Refusal::Shape`] and [`Refusal::Result`].
 #[cfg(feature = "alloc")]
 pub fn resolve_attention_to_vec(record: &[u8], options: Options, work: &mut Work<'_>) -> Result<Vec<Event>, Refusal> {
-    to_vec(ffi::resolve_attention, record, options, work)
+    to_vec(|out, work| resolve_attention(record, options, out, work), work)
 }
 
 /// [`resolve_headings`] with an output of its own, which is always long enough. Needs the feature `alloc`.
@@ -131,7 +133,7 @@ pub fn resolve_attention_to_vec(record: &[u8], options: Options, work: &mut Work
 /// Those of [`read`] and [`Refusal::Shape`].
 #[cfg(feature = "alloc")]
 pub fn resolve_headings_to_vec(record: &[u8], options: Options, work: &mut Work<'_>) -> Result<Vec<Event>, Refusal> {
-    to_vec(ffi::resolve_headings, record, options, work)
+    to_vec(|out, work| resolve_headings(record, options, out, work), work)
 }
 
 /// [`resolve_lists`] with an output of its own, which is always long enough. Needs the feature `alloc`.
@@ -141,34 +143,32 @@ pub fn resolve_headings_to_vec(record: &[u8], options: Options, work: &mut Work<
 /// Those of [`read`] and [`Refusal::Shape`].
 #[cfg(feature = "alloc")]
 pub fn resolve_lists_to_vec(record: &[u8], options: Options, work: &mut Work<'_>) -> Result<Vec<Event>, Refusal> {
-    to_vec(ffi::resolve_lists, record, options, work)
+    to_vec(|out, work| resolve_lists(record, options, out, work), work)
 }
 
-/// One of the three resolvers.
-type Resolver = fn(&[u8], u32, &mut [u8], &mut [u8]) -> ffi::Resolved;
-
-/// What the three have in common: the call, and its answer in Rust's terms.
-fn resolve_by<'a>(
-    resolver: Resolver,
-    record: &[u8],
-    options: Options,
+/// What all resolvers have in common: the call, with output and work memory, and its answer in Rust's terms. The section is one of the form.
+fn resolve_by<'a, F: Form>(
+    call: impl FnOnce(&mut [u8], &mut [u8]) -> ffi::Resolved,
     out: &'a mut [u8],
     work: &mut Work<'_>,
 ) -> Result<Resolved<'a>, Refusal> {
-    let answer = resolver(record, options.bits(), out, work.bytes_mut());
+    let answer = call(out, work.bytes_mut());
     refused(answer.number, answer.place)?;
     Ok(Resolved {
-        section: &out[..section_length(answer.events)],
+        section: &out[..length_of::<F>(answer.events)],
         events: answer.events,
         groups: answer.groups,
         tried: answer.tried,
     })
 }
 
-/// The same, as a list of events.
+/// What one of them writes, as a list of events.
 #[cfg(feature = "alloc")]
-fn to_vec(resolver: Resolver, record: &[u8], options: Options, work: &mut Work<'_>) -> Result<Vec<Event>, Refusal> {
-    let mut out = vec![0; section_length(MAX_RESULT)];
-    let resolved = resolve_by(resolver, record, options, &mut out, work)?;
-    Ok(Events::new(resolved.section).collect())
+fn to_vec<F: Form>(
+    resolve: impl for<'a> FnOnce(&'a mut [u8], &mut Work<'_>) -> Result<Resolved<'a>, Refusal>,
+    work: &mut Work<'_>,
+) -> Result<Vec<F>, Refusal> {
+    let mut out = vec![0; length_of::<F>(MAX_RESULT)];
+    let resolved = resolve(&mut out, work)?;
+    Ok(Section::new(resolved.section).collect())
 }

@@ -1,0 +1,121 @@
+//! Sections: a count, and so many events behind it.
+
+use crate::Event;
+use core::iter::FusedIterator;
+use core::marker::PhantomData;
+use core::ops::Range;
+
+/// A form of a record, by the events that it has: in what stands before the document, and in how wide an event is, the forms differ.
+pub(crate) trait Form: Sized {
+    /// The bytes before the document's count.
+    const FRONT: usize;
+    /// The bytes of an event.
+    const WIDTH: usize;
+
+    /// The event that `bytes` begin with, if they begin with one.
+    fn first_of(bytes: &[u8]) -> Option<Self>;
+}
+
+impl Form for Event {
+    const FRONT: usize = 0;
+    const WIDTH: usize = Event::LENGTH;
+
+    fn first_of(bytes: &[u8]) -> Option<Event> {
+        Event::from_bytes(*bytes.first_chunk()?)
+    }
+}
+
+/// The events of a section, in order and by number.
+#[derive(Clone, Debug)]
+pub(crate) struct Section<'a, F> {
+    /// Their bytes: no more events than the count says, and none that is cut short.
+    events: &'a [u8],
+    /// The numbers of those that are still to come.
+    coming: Range<usize>,
+    form: PhantomData<F>,
+}
+
+impl<'a, F: Form> Section<'a, F> {
+    /// The section that `bytes` begin with.
+    pub(crate) fn new(bytes: &'a [u8]) -> Section<'a, F> {
+        let (count, rest) = match bytes.split_first_chunk() {
+            Some((count, rest)) => (u32::from_le_bytes(*count) as usize, rest),
+            None => (0, bytes),
+        };
+        let whole = count.min(rest.len() / F::WIDTH);
+        Section {
+            events: &rest[..F::WIDTH * whole],
+            coming: 0..whole,
+            form: PhantomData,
+        }
+    }
+
+    /// The event with this number, whichever are still to come.
+    pub(crate) fn get(&self, number: usize) -> Option<F> {
+        F::first_of(self.events.get(F::WIDTH.checked_mul(number)?..)?)
+    }
+}
+
+impl<F: Form> Iterator for Section<'_, F> {
+    type Item = F;
+
+    fn next(&mut self) -> Option<F> {
+        let event = self.coming.next().and_then(|number| self.get(number));
+        if event.is_none() {
+            // None for good where no event stands, so that nothing behind it is taken for one.
+            self.coming = 0..0;
+        }
+        event
+    }
+
+    fn size_hint(&self) -> (usize, Option<usize>) {
+        (0, Some(self.coming.len()))
+    }
+}
+
+/// The events of a section, in order. Bytes behind the section are not looked at.
+///
+/// Any bytes will do: the events end where the count says, or before that at the first eight bytes that are cut short or are no event.
+///
+/// ```
+/// use ledgerlark::{Event, Events, Name};
+///
+/// let section = [1, 0, 0, 0, 0, 2, 0, 0, 7, 0, 0, 0];
+/// assert!(Events::new(&section).eq([Event::enter(Name::EMPHASIS, 7)]));
+/// assert_eq!(Events::new(&section[..11]).next(), None);
+/// ```
+#[derive(Clone, Debug)]
+#[must_use = "an iterator reads nothing until it is asked"]
+pub struct Events<'a>(Section<'a, Event>);
+
+impl<'a> Events<'a> {
+    /// The events of the section that `bytes` begin with.
+    pub fn new(bytes: &'a [u8]) -> Events<'a> {
+        Events(Section::new(bytes))
+    }
+}
+
+impl Iterator for Events<'_> {
+    type Item = Event;
+
+    fn next(&mut self) -> Option<Event> {
+        self.0.next()
+    }
+
+    fn size_hint(&self) -> (usize, Option<usize>) {
+        self.0.size_hint()
+    }
+}
+
+impl FusedIterator for Events<'_> {}
+
+/// How long a section of so many events is: its count and 8 bytes for each. Where that is no `usize`, the largest there is.
+#[must_use]
+pub const fn section_length(events: usize) -> usize {
+    length_of::<Event>(events)
+}
+
+/// How long a section of so many events is in a form.
+pub(crate) const fn length_of<F: Form>(events: usize) -> usize {
+    F::WIDTH.saturating_mul(events).saturating_add(4)
+}
