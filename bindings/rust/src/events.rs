@@ -159,6 +159,59 @@ impl fmt::Display for Event {
     }
 }
 
+/// An event of form 2: an event, and the number of its partner.
+///
+/// The partner of an enter is the exit that closes it, and the partner of that exit is the enter. Events are counted from 0, in the record or the section
+/// that they stand in.
+///
+/// ```
+/// use ledgerlark::{Event, Event2, Name};
+///
+/// let event = Event2 { event: Event::enter(Name::EMPHASIS, 7), partner: 9 };
+/// assert_eq!(event.to_string(), "+Emphasis@7/9");
+/// ```
+#[derive(Clone, Copy, Debug, PartialEq, Eq, Hash)]
+pub struct Event2 {
+    /// The event.
+    pub event: Event,
+    /// The number of its partner.
+    pub partner: usize,
+}
+
+impl Event2 {
+    /// The bytes that an event takes in a section of form 2: those of an [`Event`], and four.
+    pub const LENGTH: usize = Event::LENGTH + 4;
+
+    /// The event as it stands in a section of form 2. A place or partner too large for its four bytes becomes the largest, which no record has.
+    #[must_use]
+    pub fn to_bytes(self) -> [u8; Event2::LENGTH] {
+        let [a, b, c, d, e, f, g, h] = self.event.to_bytes();
+        let [i, j, k, l] = four_bytes(self.partner);
+        [a, b, c, d, e, f, g, h, i, j, k, l]
+    }
+
+    /// The event that stands in twelve bytes of a section of form 2. `None` where [`Event::from_bytes`] has none for the first eight; the last four
+    /// may be anything.
+    #[must_use]
+    pub const fn from_bytes(bytes: [u8; Event2::LENGTH]) -> Option<Event2> {
+        let [a, b, c, d, e, f, g, h, i, j, k, l] = bytes;
+        match Event::from_bytes([a, b, c, d, e, f, g, h]) {
+            Some(event) => Some(Event2 {
+                event,
+                partner: u32::from_le_bytes([i, j, k, l]) as usize,
+            }),
+            None => None,
+        }
+    }
+}
+
+/// The event, `/` and the number of its partner.
+impl fmt::Display for Event2 {
+    fn fmt(&self, f: &mut fmt::Formatter<'_>) -> fmt::Result {
+        write!(f, "{}/{}", self.event, self.partner)
+    }
+}
+
 /// A number as u32, little endian. One too large becomes the largest, which is over every limit, and so is still refused.
 pub(crate) fn four_bytes(number: usize) -> [u8; 4] {
     u32::try_from(number).unwrap_or(u32::MAX).to_le_bytes()

@@ -18,6 +18,16 @@ pub struct Reading {
     pub events: usize,
 }
 
+/// The numbers of an answer of `lark_read2`.
+#[repr(C)]
+pub struct Reading2 {
+    pub number: usize,
+    pub place: usize,
+    pub options: usize,
+    pub document: usize,
+    pub events: usize,
+}
+
 /// The numbers of a resolver's answer.
 #[repr(C)]
 pub struct Resolved {
@@ -74,6 +84,9 @@ pub struct Headed {
 /// A resolver as the library has it: record, options, output, work memory.
 type Resolver = unsafe extern "C" fn(*const u8, usize, u32, *mut u8, usize, *mut u8, usize) -> Resolved;
 
+/// A resolver of form 2, whose records have their options in them: record, output, work memory.
+type Resolver2 = unsafe extern "C" fn(*const u8, usize, *mut u8, usize, *mut u8, usize) -> Resolved;
+
 extern "C" {
     fn lark_read(record: *const u8, record_length: usize, options: u32, work: *mut u8, work_length: usize) -> Reading;
     fn lark_resolve_attention(
@@ -98,6 +111,31 @@ extern "C" {
         record: *const u8,
         record_length: usize,
         options: u32,
+        out: *mut u8,
+        out_length: usize,
+        work: *mut u8,
+        work_length: usize,
+    ) -> Resolved;
+    fn lark_read2(record: *const u8, record_length: usize, work: *mut u8, work_length: usize) -> Reading2;
+    fn lark_resolve_attention2(
+        record: *const u8,
+        record_length: usize,
+        out: *mut u8,
+        out_length: usize,
+        work: *mut u8,
+        work_length: usize,
+    ) -> Resolved;
+    fn lark_resolve_headings2(
+        record: *const u8,
+        record_length: usize,
+        out: *mut u8,
+        out_length: usize,
+        work: *mut u8,
+        work_length: usize,
+    ) -> Resolved;
+    fn lark_resolve_lists2(
+        record: *const u8,
+        record_length: usize,
         out: *mut u8,
         out_length: usize,
         work: *mut u8,
@@ -134,6 +172,37 @@ fn resolve(resolver: Resolver, record: &[u8], options: u32, out: &mut [u8], work
             record.as_ptr(),
             record.len(),
             options,
+            out.as_mut_ptr(),
+            out.len(),
+            work.as_mut_ptr(),
+            work.len(),
+        )
+    }
+}
+
+pub fn read2(record: &[u8], work: &mut [u8]) -> Reading2 {
+    // SAFETY: two slices with their own lengths; `work` is `&mut`, so they lie apart.
+    unsafe { lark_read2(record.as_ptr(), record.len(), work.as_mut_ptr(), work.len()) }
+}
+
+pub fn resolve_attention2(record: &[u8], out: &mut [u8], work: &mut [u8]) -> Resolved {
+    resolve2(lark_resolve_attention2, record, out, work)
+}
+
+pub fn resolve_headings2(record: &[u8], out: &mut [u8], work: &mut [u8]) -> Resolved {
+    resolve2(lark_resolve_headings2, record, out, work)
+}
+
+pub fn resolve_lists2(record: &[u8], out: &mut [u8], work: &mut [u8]) -> Resolved {
+    resolve2(lark_resolve_lists2, record, out, work)
+}
+
+fn resolve2(resolver: Resolver2, record: &[u8], out: &mut [u8], work: &mut [u8]) -> Resolved {
+    // SAFETY: as for `resolve`: three slices that lie apart, and one of the library's three resolvers of form 2.
+    unsafe {
+        resolver(
+            record.as_ptr(),
+            record.len(),
             out.as_mut_ptr(),
             out.len(),
             work.as_mut_ptr(),

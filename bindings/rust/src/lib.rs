@@ -49,20 +49,26 @@ mod resolve;
 mod sections;
 mod work;
 
-pub use events::{Event, Kind, Name};
+pub use events::{Event, Event2, Kind, Name};
 pub use limits::{MAX_COLUMN, MAX_DEPTH, MAX_DOCUMENT, MAX_EVENTS, MAX_LINE, MAX_RESULT};
 #[cfg(feature = "alloc")]
 pub use lines::heading_to_vec;
 pub use lines::{continuation, heading, list_item, space_or_tab, Container, Continuation, Item, ListKind, Spaces};
 pub use options::Options;
 #[cfg(feature = "alloc")]
-pub use records::record;
-pub use records::{record_into, record_length};
+pub use records::{record, record2};
+pub use records::{record2_into, record_into, record_length, record_length2};
 pub use refusal::Refusal;
-pub use resolve::{read, resolve_attention, resolve_headings, resolve_lists, Reading, Resolved};
+pub use resolve::{
+    read, read2, resolve_attention, resolve_attention2, resolve_headings, resolve_headings2, resolve_lists, resolve_lists2, Reading,
+    Reading2, Resolved,
+};
 #[cfg(feature = "alloc")]
-pub use resolve::{resolve_attention_to_vec, resolve_headings_to_vec, resolve_lists_to_vec};
-pub use sections::{section_length, Events};
+pub use resolve::{
+    resolve_attention2_to_vec, resolve_attention_to_vec, resolve_headings2_to_vec, resolve_headings_to_vec, resolve_lists2_to_vec,
+    resolve_lists_to_vec,
+};
+pub use sections::{section_length, section_length2, Events, Events2};
 pub use work::Work;
 
 /// The examples of the README are run too.

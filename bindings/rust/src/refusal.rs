@@ -20,7 +20,8 @@ use core::fmt;
 pub enum Refusal {
     /// Number 1: fewer than [`Work::LENGTH`](crate::Work::LENGTH) bytes of work memory.
     Work,
-    /// Number 2: options over [`Options::ALL`](crate::Options::ALL), or a column over [`MAX_COLUMN`](crate::MAX_COLUMN).
+    /// Number 2: options over [`Options::ALL`](crate::Options::ALL), given or in a record of form 2; or a column over
+    /// [`MAX_COLUMN`](crate::MAX_COLUMN); or the first count of a record of form 2, which is that of its option byte, is not 1.
     Options,
     /// Number 3: a count is cut off, is over its limit or promises more than the record has; or bytes follow the last section; or a line has
     /// more than [`MAX_LINE`](crate::MAX_LINE) bytes.
@@ -34,9 +35,9 @@ pub enum Refusal {
         place: usize,
     },
     /// Number 5: an event has a kind, name, zero byte or place that cannot be; or closes another than the innermost; or is the one too many that
-    /// is open; or events are left open.
+    /// is open; or, in form 2, a pair has a partner number that is not true; or events are left open.
     Event {
-        /// That event; or, where events are left open, the record's end.
+        /// That event; of a pair its exit; or, where events are left open, the record's end.
         place: usize,
     },
     /// Number 6: a run, heading or list item has not the shape that its resolver asks for.
@@ -92,7 +93,7 @@ impl Refusal {
     pub const fn text(self) -> &'static str {
         match self {
             Refusal::Work => "the work memory is under 65,536 bytes",
-            Refusal::Options => "the options are over 63, or the column over 16,384",
+            Refusal::Options => "the options are over 63, the column over 16,384, or the first count not 1",
             Refusal::Count { .. } => "a length does not fit",
             Refusal::Return { .. } => "a carriage return",
             Refusal::Event { .. } => "an event is not sound",

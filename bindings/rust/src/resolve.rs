@@ -7,7 +7,7 @@ use crate::sections::Section;
 use crate::sections::{length_of, Form};
 #[cfg(feature = "alloc")]
 use crate::MAX_RESULT;
-use crate::{Event, Options, Work};
+use crate::{Event, Event2, Options, Work};
 #[cfg(feature = "alloc")]
 use alloc::{vec, vec::Vec};
 
@@ -49,12 +49,56 @@ pub fn read(record: &[u8], options: Options, work: &mut Work<'_>) -> Result<Read
     })
 }
 
+/// What [`read2`] finds in a good record of form 2.
+#[derive(Clone, Copy, Debug, PartialEq, Eq, Hash)]
+#[non_exhaustive]
+pub struct Reading2 {
+    /// The options that it carries.
+    pub options: Options,
+    /// How many bytes the document has.
+    pub document: usize,
+    /// How many events there are.
+    pub events: usize,
+}
+
+/// Says whether a record of form 2 is good.
+///
+/// ```
+/// use ledgerlark::{read2, Options, Refusal, Work};
+///
+/// let good = [1, 0, 0, 0, 59, 1, 0, 0, 0, b'a', 0, 0, 0, 0];
+/// let mut memory = [0; Work::LENGTH];
+/// let mut work = Work::from(&mut memory);
+/// let reading = read2(&good, &mut work)?;
+/// assert_eq!((reading.options, reading.document, reading.events), (Options::default(), 1, 0));
+///
+/// // One byte short: the events' count, at 10, does not fit.
+/// let refused = read2(&good[..13], &mut work);
+/// assert_eq!(refused, Err(Refusal::Count { place: 10 }));
+/// # Ok::<(), Refusal>(())
+/// ```
+///
+/// # Errors
+///
+/// [`Refusal::Work`], [`Refusal::Options`], [`Refusal::Count`], [`Refusal::Return`] and [`Refusal::Event`].
+pub fn read2(record: &[u8], work: &mut Work<'_>) -> Result<Reading2, Refusal> {
+    let answer = ffi::read2(record, work.bytes_mut());
+    refused(answer.number, answer.place)?;
+    Ok(Reading2 {
+        // At most 63: they come out of one byte.
+        options: Options::from_bits(answer.options as u32),
+        document: answer.document,
+        events: answer.events,
+    })
+}
+
 /// What a resolver has made of a record.
 #[derive(Clone, Copy, Debug, PartialEq, Eq, Hash)]
 #[non_exhaustive]
 #[must_use = "its section is what was written: the rest of the output is as it was"]
 pub struct Resolved<'a> {
-    /// The section that was written: the front of the lent output. [`Events`](crate::Events) reads it.
+    /// The section that was written: the front of the lent output. [`Events`](crate::Events) reads it, and in form 2
+    /// [`Events2`](crate::Events2).
     pub section: &'a [u8],
     /// How many events it has.
     pub events: usize,
@@ -114,6 +158,40 @@ pub fn resolve_lists<'a>(record: &[u8], options: Options, out: &'a mut [u8], wor
     resolve_by::<Event>(|out, work| ffi::resolve_lists(record, options.bits(), out, work), out, work)
 }
 
+/// [`resolve_attention`] for a record of form 2, which has its options in it. The section is one of form 2: each event has its partner, by its number in
+/// the section.
+///
+/// An output of [`section_length2`](crate::section_length2)`(`[`MAX_RESULT`](crate::MAX_RESULT)`)` bytes is always enough.
+///
+/// [`Events2`](crate::Events2) has an example.
+///
+/// # Errors
+///
+/// Those of [`read2`], [`Refusal::Shape`], [`Refusal::Result`] and [`Refusal::Output`].
+pub fn resolve_attention2<'a>(record: &[u8], out: &'a mut [u8], work: &mut Work<'_>) -> Result<Resolved<'a>, Refusal> {
+    resolve_by::<Event2>(|out, work| ffi::resolve_attention2(record, out, work), out, work)
+}
+
+/// [`resolve_headings`] for a record of form 2, with a section of form 2, as [`resolve_attention2`] has it.
+///
+/// [`record2_into`](crate::record2_into) has an example.
+///
+/// # Errors
+///
+/// Those of [`read2`], [`Refusal::Shape`] and [`Refusal::Output`]. Not [`Refusal::Result`]: no record has a result as long.
+pub fn resolve_headings2<'a>(record: &[u8], out: &'a mut [u8], work: &mut Work<'_>) -> Result<Resolved<'a>, Refusal> {
+    resolve_by::<Event2>(|out, work| ffi::resolve_headings2(record, out, work), out, work)
+}
+
+/// [`resolve_lists`] for a record of form 2, with a section of form 2, as [`resolve_attention2`] has it.
+///
+/// # Errors
+///
+/// Those of [`read2`], [`Refusal::Shape`] and [`Refusal::Output`]. Not [`Refusal::Result`]: no record has a result as long.
+pub fn resolve_lists2<'a>(record: &[u8], out: &'a mut [u8], work: &mut Work<'_>) -> Result<Resolved<'a>, Refusal> {
+    resolve_by::<Event2>(|out, work| ffi::resolve_lists2(record, out, work), out, work)
+}
+
 /// [`resolve_attention`] with an output of its own, which is always long enough. Needs the feature `alloc`.
 ///
 /// # Errors
@@ -144,6 +222,36 @@ pub fn resolve_headings_to_vec(record: &[u8], options: Options, work: &mut Work<
 #[cfg(feature = "alloc")]
 pub fn resolve_lists_to_vec(record: &[u8], options: Options, work: &mut Work<'_>) -> Result<Vec<Event>, Refusal> {
     to_vec(|out, work| resolve_lists(record, options, out, work), work)
+}
+
+/// [`resolve_attention2`] with an output of its own, which is always long enough. Needs the feature `alloc`.
+///
+/// # Errors
+///
+/// Those of [`read2`], [`Refusal::Shape`] and [`Refusal::Result`].
+#[cfg(feature = "alloc")]
+pub fn resolve_attention2_to_vec(record: &[u8], work: &mut Work<'_>) -> Result<Vec<Event2>, Refusal> {
+    to_vec(|out, work| resolve_attention2(record, out, work), work)
+}
+
+/// [`resolve_headings2`] with an output of its own, which is always long enough. Needs the feature `alloc`.
+///
+/// # Errors
+///
+/// Those of [`read2`] and [`Refusal::Shape`].
+#[cfg(feature = "alloc")]
+pub fn resolve_headings2_to_vec(record: &[u8], work: &mut Work<'_>) -> Result<Vec<Event2>, Refusal> {
+    to_vec(|out, work| resolve_headings2(record, out, work), work)
+}
+
+/// [`resolve_lists2`] with an output of its own, which is always long enough. Needs the feature `alloc`.
+///
+/// # Errors
+///
+/// Those of [`read2`] and [`Refusal::Shape`].
+#[cfg(feature = "alloc")]
+pub fn resolve_lists2_to_vec(record: &[u8], work: &mut Work<'_>) -> Result<Vec<Event2>, Refusal> {
+    to_vec(|out, work| resolve_lists2(record, out, work), work)
 }
 
 /// What all resolvers have in common: the call, with output and work memory, and its answer in Rust's terms. The section is one of the form.

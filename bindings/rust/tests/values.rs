@@ -245,7 +245,12 @@ fn lengths_without_bound() {
 fn refusals_in_words() {
     let refusals = [
         (Refusal::Work, 1, None, "the work memory is under 65,536 bytes"),
-        (Refusal::Options, 2, None, "the options are over 63, or the column over 16,384"),
+        (
+            Refusal::Options,
+            2,
+            None,
+            "the options are over 63, the column over 16,384, or the first count not 1",
+        ),
         (Refusal::Count { place: 0 }, 3, Some(0), "a length does not fit"),
         (Refusal::Return { place: 6 }, 4, Some(6), "a carriage return"),
         (Refusal::Event { place: 18 }, 5, Some(18), "an event is not sound"),
