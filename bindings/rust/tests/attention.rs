@@ -2,16 +2,22 @@
 
 mod common;
 
-use common::{is_dirty, record, refuses, resolves, Expected, Lent};
+use common::{is_dirty, record, refuses, resolves, Expected, Lent, ATTENTION2, OLD, SECOND};
 use ledgerlark::{resolve_attention, section_length, Options, Refusal, Work, MAX_RESULT};
 
 fn case(document: &str, before: &str, groups: usize, tried: usize, after: &str) {
+    case_with(Options::default(), document, before, groups, tried, after);
+}
+
+/// In either form.
+fn case_with(options: Options, document: &str, before: &str, groups: usize, tried: usize, after: &str) {
     let expected = Expected {
         events: after,
         groups,
         tried,
     };
-    resolves(resolve_attention, Options::default(), document, before, expected);
+    resolves(&OLD, resolve_attention, options, document, before, expected);
+    resolves(&SECOND, ATTENTION2, options, document, before, expected);
 }
 
 /// The whole case of document 01, to the byte.
@@ -134,17 +140,13 @@ fn runs_between_lose_open() {
 fn single_tilde_only_with_its_option() {
     let before = "+1@0 -1@1 +0@1 -0@2 +1@2 -1@3";
     case("~a~", before, 0, 1, "+0@0 -0@1 +0@1 -0@2 +0@2 -0@3");
-    let expected = Expected {
-        events: "+8@0 +9@0 -9@1 +10@1 +0@1 -0@2 -10@2 +9@2 -9@3 -8@3",
-        groups: 1,
-        tried: 1,
-    };
-    resolves(
-        resolve_attention,
+    case_with(
         Options::default() | Options::SINGLE_TILDE,
         "~a~",
         before,
-        expected,
+        1,
+        1,
+        "+8@0 +9@0 -9@1 +10@1 +0@1 -0@2 -10@2 +9@2 -9@3 -8@3",
     );
 }
 

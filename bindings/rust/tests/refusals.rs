@@ -1,8 +1,8 @@
-//! Every refusal of every call. Buffers hold other bytes before; after, the output is as it was and the work memory zero, all of it.
+//! Every refusal of every call on a record of the old form or on a line. Buffers hold other bytes before; after, the output is as it was and the work memory zero, all of it.
 
 mod common;
 
-use common::{record, refuses, Lent};
+use common::{record, refuses, Lent, OnRecord};
 use ledgerlark::{
     continuation, heading, list_item, read, resolve_attention, resolve_headings, resolve_lists, section_length, space_or_tab, Container,
     ListKind, Options, Refusal, Work,
@@ -11,8 +11,6 @@ use ledgerlark::{
 const OPTIONS: Options = Options::from_bits(59);
 const OVER: [Options; 3] = [Options::from_bits(64), Options::from_bits(256), Options::from_bits(u32::MAX)];
 
-/// A call on a record, of which only the refusal matters here.
-type OnRecord = fn(&[u8], Options, &mut [u8], &mut Work<'_>) -> Result<(), Refusal>;
 const ON_RECORDS: [OnRecord; 4] = [
     |record, options, _, work| read(record, options, work).map(drop),
     |record, options, out, work| resolve_attention(record, options, out, work).map(drop),
@@ -22,16 +20,7 @@ const ON_RECORDS: [OnRecord; 4] = [
 
 /// All four calls on a record refuse it.
 fn refused(record: &[u8], options: Options, work_length: usize, refusal: Refusal) {
-    for (call, on_record) in ON_RECORDS.iter().enumerate() {
-        for out_length in [0, 1_000] {
-            let mut out = Lent::new(out_length);
-            let mut work = Lent::new(work_length);
-            let answer = on_record(record, options, out.lend(), &mut Work::from(work.lend()));
-            assert_eq!(answer, Err(refusal), "call {call}, record {record:?}");
-            assert!(out.is_dirty());
-            assert!(work.is_zero());
-        }
-    }
+    common::refused(&ON_RECORDS, record, options, work_length, refusal);
 }
 
 fn refused_with(record: &[u8], refusal: Refusal) {

@@ -3,7 +3,8 @@
 // Each test file is a crate of its own and uses a part of this.
 #![allow(dead_code)]
 
-use ledgerlark::{record_into, record_length, Event, Name, Options, Refusal, Resolved, Work};
+use ledgerlark::{record2_into, record_into, record_length, record_length2, Event, Kind, Name, Options, Refusal, Resolved, Work};
+use ledgerlark::{resolve_attention2, resolve_headings2, resolve_lists2};
 
 /// What lent memory holds before a call. No event, count or place of these tests has this byte.
 pub const DIRT: u8 = 0xa5;
@@ -59,8 +60,11 @@ pub fn is_dirty(bytes: &[u8]) -> bool {
     bytes.iter().all(|&byte| byte == DIRT)
 }
 
-/// Any of the three resolvers.
+/// Any resolver. Those of form 2 find their options in the record, and are told them for nothing.
 pub type Resolver = for<'a> fn(&[u8], Options, &'a mut [u8], &mut Work<'_>) -> Result<Resolved<'a>, Refusal>;
+pub const ATTENTION2: Resolver = |record, _, out, work| resolve_attention2(record, out, work);
+pub const HEADINGS2: Resolver = |record, _, out, work| resolve_headings2(record, out, work);
+pub const LISTS2: Resolver = |record, _, out, work| resolve_lists2(record, out, work);
 
 /// Events from `+name@place` (enter) and `-name@place` (exit), with names as numbers.
 pub fn events(notation: &str) -> Vec<Event> {
@@ -87,19 +91,74 @@ pub fn record(document: &[u8], notation: &str) -> Vec<u8> {
     bytes
 }
 
+/// A record of form 2, from options, a document and events in that notation.
+pub fn record2(options: Options, document: &[u8], notation: &str) -> Vec<u8> {
+    let events = events(notation);
+    let mut bytes = vec![DIRT; record_length2(document.len(), events.len())];
+    let written = record2_into(options, document, events, &mut bytes).expect("it fits").len();
+    assert_eq!(written, bytes.len());
+    bytes
+}
+
 /// A section, byte by byte as document 01 lays it out, from events in that notation.
 pub fn section(notation: &str) -> Vec<u8> {
     let events = events(notation);
     let mut bytes = (events.len() as u32).to_le_bytes().to_vec();
     for event in events {
-        bytes.push(if event.kind == ledgerlark::Kind::Enter { 0 } else { 1 });
-        bytes.extend([event.name.0, 0, 0]);
-        bytes.extend((event.place as u32).to_le_bytes());
+        bytes.extend(eight_bytes(event));
     }
     bytes
 }
 
+/// The same in form 2.
+pub fn section2(notation: &str) -> Vec<u8> {
+    let events = events(notation);
+    let mut bytes = (events.len() as u32).to_le_bytes().to_vec();
+    for (event, partner) in events.iter().zip(partners(&events)) {
+        bytes.extend(eight_bytes(*event));
+        bytes.extend((partner as u32).to_le_bytes());
+    }
+    bytes
+}
+
+fn eight_bytes(event: Event) -> Vec<u8> {
+    let kind = if event.kind == Kind::Enter { 0 } else { 1 };
+    [&[kind, event.name.0, 0, 0][..], &(event.place as u32).to_le_bytes()].concat()
+}
+
+/// The partners of events that are all closed: an exit's is the last enter before it that has none yet.
+pub fn partners(events: &[Event]) -> Vec<usize> {
+    let (mut partners, mut open) = (vec![0; events.len()], Vec::new());
+    for (exit, event) in events.iter().enumerate() {
+        match event.kind {
+            Kind::Enter => open.push(exit),
+            Kind::Exit => {
+                let enter = open.pop().expect("an enter");
+                (partners[enter], partners[exit]) = (exit, enter);
+            }
+        }
+    }
+    partners
+}
+
+/// A form of a record, in bytes.
+pub struct Form {
+    /// A record of options, if it has them, a document and events.
+    pub record: fn(Options, &[u8], &str) -> Vec<u8>,
+    /// What a resolver writes.
+    pub section: fn(&str) -> Vec<u8>,
+}
+pub const OLD: Form = Form {
+    record: |_, document, notation| record(document, notation),
+    section,
+};
+pub const SECOND: Form = Form {
+    record: record2,
+    section: section2,
+};
+
 /// What an accepted call has to come to.
+#[derive(Clone, Copy)]
 pub struct Expected<'a> {
     pub events: &'a str,
     pub groups: usize,
@@ -108,9 +167,9 @@ pub struct Expected<'a> {
 
 /// Resolves with an output that is just long enough, some that are longer, and one that is a byte short; looks at all of every buffer. 65,536 cut to
 /// 16 bits is 0.
-pub fn resolves(resolver: Resolver, options: Options, document: &str, before: &str, expected: Expected) {
-    let record = record(document.as_bytes(), before);
-    let section = section(expected.events);
+pub fn resolves(form: &Form, resolver: Resolver, options: Options, document: &str, before: &str, expected: Expected) {
+    let record = (form.record)(options, document.as_bytes(), before);
+    let section = (form.section)(expected.events);
     for length in [section.len(), section.len() + 1, 65_536] {
         let mut out = Lent::new(length);
         let mut work = Lent::work();
@@ -133,4 +192,21 @@ pub fn refuses(resolver: Resolver, record: &[u8], options: Options, out_length: 
     assert_eq!(resolver(record, options, out.lend(), &mut Work::from(work.lend())), Err(refusal));
     assert!(out.is_dirty());
     assert!(work.is_zero());
+}
+
+/// A call on a record, of which only the refusal matters.
+pub type OnRecord = fn(&[u8], Options, &mut [u8], &mut Work<'_>) -> Result<(), Refusal>;
+
+/// All of these calls refuse a record, with an output and without.
+pub fn refused(calls: &[OnRecord], record: &[u8], options: Options, work_length: usize, refusal: Refusal) {
+    for (call, on_record) in calls.iter().enumerate() {
+        for out_length in [0, 1_000] {
+            let mut out = Lent::new(out_length);
+            let mut work = Lent::new(work_length);
+            let answer = on_record(record, options, out.lend(), &mut Work::from(work.lend()));
+            assert_eq!(answer, Err(refusal), "call {call}, record {record:?}");
+            assert!(out.is_dirty());
+            assert!(work.is_zero());
+        }
+    }
 }
