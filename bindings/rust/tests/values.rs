@@ -1,6 +1,7 @@
 //! Options, events, records and refusals as values: nothing here asks the library.
 
-use ledgerlark::{record_into, record_length, section_length, Container, Event, Events, Kind, ListKind, Name, Options, Refusal, Work};
+use ledgerlark::{record2_into, record_into, record_length, record_length2, section_length, section_length2};
+use ledgerlark::{Container, Event, Event2, Events, Events2, Kind, ListKind, Name, Options, Refusal, Work};
 use ledgerlark::{MAX_COLUMN, MAX_DEPTH, MAX_DOCUMENT, MAX_EVENTS, MAX_LINE, MAX_RESULT};
 
 #[test]
@@ -132,6 +133,40 @@ fn events_in_bytes() {
 }
 
 #[test]
+fn events_of_form_2_in_bytes() {
+    let written = [
+        (Event::enter(Name::DATA, 0), 0, [0; 12]),
+        (
+            Event::exit(Name::STRONG, 0x0403_0201),
+            0x0807_0605,
+            [1, 5, 0, 0, 1, 2, 3, 4, 5, 6, 7, 8],
+        ),
+        (
+            Event::enter(Name(255), 1),
+            0xffff_ffff,
+            [0, 255, 0, 0, 1, 0, 0, 0, 255, 255, 255, 255],
+        ),
+    ];
+    for (event, partner, bytes) in written {
+        let event = Event2 { event, partner };
+        assert_eq!((event.to_bytes(), Event2::from_bytes(bytes)), (bytes, Some(event)));
+    }
+    for large in [1 << 32, usize::MAX] {
+        let event = Event2 {
+            event: Event::enter(Name::DATA, large),
+            partner: large,
+        };
+        assert_eq!(event.to_bytes(), [0, 0, 0, 0, 255, 255, 255, 255, 255, 255, 255, 255]);
+    }
+    for (at, wrong) in [(0, 2), (0, 255), (2, 1), (3, 1), (3, 128)] {
+        let mut odd = [0; 12];
+        odd[at] = wrong;
+        assert_eq!(Event2::from_bytes(odd), None);
+    }
+    assert_eq!(Event2::LENGTH, 12);
+}
+
+#[test]
 fn events_of_a_section() {
     let bytes = [2, 0, 0, 0, 0, 5, 0, 0, 1, 2, 3, 0, 1, 255, 0, 0, 255, 255, 255, 255, 9, 9];
     let (first, second) = (Event::enter(Name::STRONG, 0x030201), Event::exit(Name(255), 0xffff_ffff));
@@ -151,6 +186,56 @@ fn events_of_a_section() {
 }
 
 #[test]
+fn events_of_a_section_of_form_2() {
+    // The second and third are a pair; two more bytes follow.
+    let mut bytes = [3, 0, 0, 0].to_vec();
+    bytes.extend([0, 5, 0, 0, 1, 2, 3, 0, 1, 2, 3, 4]);
+    bytes.extend([0, 2, 0, 0, 7, 0, 0, 0, 2, 0, 0, 0]);
+    bytes.extend([1, 2, 0, 0, 9, 0, 0, 0, 1, 0, 0, 0, 9, 9]);
+    let make = |event, partner| Event2 { event, partner };
+    let all = [
+        make(Event::enter(Name::STRONG, 0x030201), 0x04030201),
+        make(Event::enter(Name::EMPHASIS, 7), 2),
+        make(Event::exit(Name::EMPHASIS, 9), 1),
+    ];
+    assert_eq!(section_length2(3), 40);
+    for (length, whole) in [
+        (0, 0),
+        (3, 0),
+        (4, 0),
+        (15, 0),
+        (16, 1),
+        (27, 1),
+        (28, 2),
+        (39, 2),
+        (40, 3),
+        (42, 3),
+    ] {
+        let events = Events2::new(&bytes[..length]);
+        assert_eq!(events.size_hint(), (0, Some(whole)), "{length}");
+        assert!((0..5)
+            .map(|number| events.get(number))
+            .eq((0..5).map(|number| all[..whole].get(number).copied())));
+        assert_eq!(events.collect::<Vec<_>>(), all[..whole], "{length}");
+    }
+
+    // Numbers are those of the section, also when some have been taken, or all.
+    let mut events = Events2::new(&bytes);
+    assert_eq!((events.next(), events.size_hint()), (Some(all[0]), (0, Some(2))));
+    let enter = events.next().expect("the second");
+    assert_eq!((events.get(enter.partner), events.get(0)), (Some(all[2]), Some(all[0])));
+    assert_eq!((events.next(), events.next(), events.get(1)), (Some(all[2]), None, Some(all[1])));
+    // None has the number that the first one names; nor are there any so large that no offset has them.
+    assert_eq!(events.get(all[0].partner), None);
+    for number in [3, usize::MAX / 12, usize::MAX / 12 + 1, usize::MAX / 3 + 1, usize::MAX] {
+        assert_eq!(events.get(number), None);
+    }
+    // Fewer by the count than there is room for.
+    bytes[0] = 1;
+    assert_eq!((Events2::new(&bytes).count(), Events2::new(&bytes).get(1)), (1, None));
+}
+
+#[test]
 fn odd_bytes_end_the_events() {
     // Three events, of which the second gets one wrong byte after the other.
     let mut section = [0; section_length(3)];
@@ -163,10 +248,23 @@ fn odd_bytes_end_the_events() {
         assert_eq!(events.next(), Some(Event::enter(Name::DATA, 0)));
         assert_eq!((events.next(), events.next(), events.next()), (None, None, None));
         assert_eq!(events.size_hint(), (0, Some(0)));
+
+        // In form 2 the same; by number the third can still be had, and the second cannot.
+        let mut section = [0; section_length2(3)];
+        (section[0], section[16 + at], section[36]) = (3, wrong, 7);
+        let third = Event2 {
+            event: Event::enter(Name::DATA, 0),
+            partner: 7,
+        };
+        let mut events = Events2::new(&section);
+        assert!(events.next().is_some());
+        assert_eq!((events.next(), events.next(), events.next()), (None, None, None));
+        assert_eq!(events.size_hint(), (0, Some(0)));
+        assert_eq!((events.get(1), events.get(2)), (None, Some(third)));
     }
 }
 
-/// Many short buffers of the bytes 0 to 3, most of them sound in part, and read by offsets beside.
+/// Many short buffers of the bytes 0 to 3, most of them sound in part, and read by offsets beside, in events of 8 and of 12 bytes.
 #[test]
 fn any_bytes_will_do() {
     let mut seed = 1u32;
@@ -174,31 +272,43 @@ fn any_bytes_will_do() {
         seed = seed.wrapping_mul(1_664_525).wrapping_add(1_013_904_223);
         (seed >> 16) % below
     };
-    let mut lengths = [0; 4];
-    for _ in 0..20_000 {
-        let length = next(50);
-        // The upper bytes of the count, and most kinds and zero bytes, are such as a section has.
-        let mut byte = |at: u32| match at {
-            0 => next(4),
-            1..=3 => 0,
-            _ if [0, 2, 3].contains(&((at - 4) % 8)) && next(5) > 0 => 0,
-            _ => next(4),
-        };
-        let bytes: Vec<u8> = (0..length).map(|at| byte(at) as u8).collect();
-        let count = if bytes.len() < 4 { 0 } else { bytes[0] as usize };
-        let mut expected = Vec::new();
-        for at in (0..count).map(|i| 4 + 8 * i) {
-            if at + 8 > bytes.len() || bytes[at] > 1 || bytes[at + 2] != 0 || bytes[at + 3] != 0 {
-                break;
+    for width in [8, 12] {
+        let mut lengths = [0; 4];
+        for _ in 0..20_000 {
+            let length = next(6 * width as u32 + 2);
+            // The upper bytes of the count, and most kinds and zero bytes, are such as a section has.
+            let mut byte = |at: u32| match at {
+                0 => next(4),
+                1..=3 => 0,
+                _ if [0, 2, 3].contains(&((at - 4) % width as u32)) && next(5) > 0 => 0,
+                _ => next(4),
+            };
+            let bytes: Vec<u8> = (0..length).map(|at| byte(at) as u8).collect();
+            let count = if bytes.len() < 4 { 0 } else { bytes[0] as usize };
+            let number = |at: usize| (0..4).map(|i| (bytes[at + i] as usize) << (8 * i)).sum();
+            let expected = |i: usize| {
+                let at = 4 + width * i;
+                if i >= count || at + width > bytes.len() || bytes[at] > 1 || bytes[at + 2] != 0 || bytes[at + 3] != 0 {
+                    return None;
+                }
+                let make = if bytes[at] == 0 { Event::enter } else { Event::exit };
+                let event = make(Name(bytes[at + 1]), number(at + 4));
+                let partner = if width == 12 { number(at + 8) } else { 0 };
+                Some(Event2 { event, partner })
+            };
+            let in_order: Vec<Event2> = (0..count).map_while(expected).collect();
+            lengths[in_order.len()] += 1;
+            if width == 8 {
+                let in_order = in_order.iter().map(|event| event.event);
+                assert!(Events::new(&bytes).eq(in_order), "{bytes:?}");
+            } else {
+                let events = Events2::new(&bytes);
+                assert!((0..5).all(|i| events.get(i) == expected(i)), "{bytes:?}");
+                assert!(events.eq(in_order), "{bytes:?}");
             }
-            let place = (0..4).map(|i| (bytes[at + 4 + i] as usize) << (8 * i)).sum();
-            let make = if bytes[at] == 0 { Event::enter } else { Event::exit };
-            expected.push(make(Name(bytes[at + 1]), place));
         }
-        lengths[expected.len()] += 1;
-        assert_eq!(Events::new(&bytes).collect::<Vec<_>>(), expected, "{bytes:?}");
+        assert!(lengths.iter().all(|&times| times > 500), "{width}: {lengths:?}");
     }
-    assert!(lengths.iter().all(|&times| times > 500), "{lengths:?}");
 }
 
 /// A document of two bytes and two events, and the record that it is.
@@ -230,6 +340,86 @@ fn records_in_lent_memory() {
     assert_eq!(record_into(b"a\n", Events::new(&RECORD[6..]), &mut again), Some(&RECORD[..]));
 }
 
+/// The events of a record of form 2, and the partners that they get.
+fn partners(events: &[Event]) -> Vec<usize> {
+    let mut bytes = vec![7; record_length2(1, events.len())];
+    let record = record2_into(Options::ALL, b"a", events.iter().copied(), &mut bytes).expect("it fits");
+    assert_eq!(record[..10], [1, 0, 0, 0, 63, 1, 0, 0, 0, b'a']);
+    let written: Vec<Event2> = Events2::new(&record[10..]).collect();
+    assert!(written.iter().map(|event| event.event).eq(events.iter().copied()));
+    written.iter().map(|event| event.partner).collect()
+}
+
+#[test]
+fn partners_are_filled_in() {
+    let [enter, exit] = Event::pair(Name::OTHER_CONTAINER, 0, 0);
+    let [data, data_end] = Event::pair(Name::DATA, 0, 1);
+    assert_eq!(partners(&[]), []);
+    assert_eq!(partners(&[enter, exit]), [1, 0]);
+    assert_eq!(partners(&[enter, exit, data, data_end]), [1, 0, 3, 2]);
+    assert_eq!(partners(&[enter, data, data_end, exit]), [3, 2, 1, 0]);
+    // Behind a pair that is closed, the one round it is the innermost again: `(()(()))()`.
+    let nested = [enter, enter, exit, enter, enter, exit, exit, exit, data, data_end];
+    assert_eq!(partners(&nested), [7, 2, 1, 6, 5, 4, 3, 0, 9, 8]);
+    // Deeper than a record may be, and with a number of two bytes.
+    let deep: Vec<Event> = [vec![enter; 300], vec![exit; 300]].concat();
+    assert!(partners(&deep).into_iter().eq((0..600).rev()));
+}
+
+/// Exits of nothing and enters left open are written too. Those that do pair have their partners.
+#[test]
+fn partners_of_events_that_do_not_pair() {
+    let [enter, exit] = Event::pair(Name::DATA, 0, 0);
+    assert_eq!(partners(&[exit, enter, exit])[1..], [2, 1]);
+    assert_eq!(
+        partners(&[exit, exit, exit, enter, enter, exit, exit, exit, exit])[3..7],
+        [6, 5, 4, 3]
+    );
+    assert_eq!(partners(&[enter, enter, exit, enter, exit, enter])[1..5], [2, 1, 4, 3]);
+    // Any at all, up to twelve of them.
+    for length in 0..=12 {
+        for kinds in 0..1 << length {
+            let events: Vec<Event> = (0..length).map(|i| if kinds >> i & 1 == 0 { enter } else { exit }).collect();
+            let partners = partners(&events);
+            let mut open = Vec::new();
+            for (number, event) in events.iter().enumerate() {
+                if event.kind == Kind::Enter {
+                    open.push(number);
+                } else if let Some(enter) = open.pop() {
+                    assert_eq!((partners[enter], partners[number]), (number, enter));
+                }
+            }
+        }
+    }
+}
+
+/// The document and events above in form 2. They do not pair, so that only what is no partner is looked at.
+#[test]
+fn records_of_form_2_in_lent_memory() {
+    const FRONT: [u8; 15] = [1, 0, 0, 0, 59, 2, 0, 0, 0, b'a', b'\n', 2, 0, 0, 0];
+    assert_eq!((record_length2(0, 0), record_length2(2, 2)), (13, 39));
+    let nothing = [1, 0, 0, 0, 0, 0, 0, 0, 0, 0, 0, 0, 0];
+    assert_eq!(record2_into(Options::NONE, b"", [], &mut [7; 13]), Some(&nothing[..]));
+    for length in 0..45 {
+        let mut bytes = [7; 45];
+        let record = record2_into(Options::default(), b"a\n", EVENTS, &mut bytes[..length]);
+        assert_eq!(record.map(<[u8]>::len), (length >= 39).then_some(39));
+        if let Some(record) = record {
+            assert_eq!(
+                (&record[..15], &record[15..23], &record[27..35]),
+                (&FRONT[..], &RECORD[10..18], &RECORD[18..])
+            );
+        }
+        assert!(bytes[length.min(39)..].iter().all(|&byte| byte == 7));
+    }
+    // Options that are no byte become the largest one.
+    for (bits, byte) in [(0, 0), (63, 63), (64, 64), (255, 255), (256, 255), (256 + 59, 255), (u32::MAX, 255)] {
+        let mut bytes = [7; 13];
+        let record = record2_into(Options::from_bits(bits), b"", [], &mut bytes);
+        assert_eq!(record.map(|record| record[..5].to_vec()), Some(vec![1, 0, 0, 0, byte]));
+    }
+}
+
 /// Lengths that no memory has are not cut.
 #[test]
 fn lengths_without_bound() {
@@ -238,6 +428,11 @@ fn lengths_without_bound() {
     assert_eq!((section_length(MOST / 8 + 1), section_length(MOST)), (MOST, MOST));
     assert_eq!((record_length(MOST - 8, 0), record_length(MOST - 7, 0)), (MOST, MOST));
     assert_eq!((record_length(0, MOST), record_length(MOST, MOST)), (MOST, MOST));
+    // MOST is 12 times MOST / 12, and 3.
+    assert_eq!((section_length2(0), section_length2(MOST / 12 - 1)), (4, MOST - 11));
+    assert_eq!((section_length2(MOST / 12), section_length2(MOST)), (MOST, MOST));
+    assert_eq!((record_length2(MOST - 13, 0), record_length2(MOST - 12, 0)), (MOST, MOST));
+    assert_eq!((record_length2(0, MOST), record_length2(MOST, MOST)), (MOST, MOST));
 }
 
 /// Every refusal, with its number, its place and its words.
