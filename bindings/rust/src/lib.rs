@@ -11,13 +11,18 @@
 //! record of it for the next resolver; but a result may have more events than a record may, and deeper ones, attention's most of all, so attention
 //! comes last.
 //!
+//! In form 2 a record has its options in it, and each event the number of its partner: an enter that of its exit, and the exit that of the enter. It is
+//! made by [`record2()`] or [`record2_into`], which take events without partners, and goes to [`read2`], [`resolve_attention2`], [`resolve_headings2`] and
+//! [`resolve_lists2`]. What these write is read by [`Events2`], in order or by number, so that the exit of an enter is one step away.
+//!
 //! What a call answers and writes depends on the record or line, the options, the arguments and the lengths of the buffers alone. It never
 //! depends on what a buffer held before. A [`Refusal`] leaves the output as it was. The work memory is zero after every call.
 //!
 //! # Features
 //!
-//! The crate is `no_std`. The feature `alloc`, on by default, adds what needs an allocator: [`Work::new`], [`record()`] and the calls that answer
-//! with a vector, `.._to_vec`. Without it work memory is lent by [`Work::from`] and records are written by [`record_into`].
+//! The crate is `no_std`. The feature `alloc`, on by default, adds what needs an allocator: [`Work::new`], [`record()`], [`record2()`] and the
+//! calls that answer with a vector, `.._to_vec`. Without it work memory is lent by [`Work::from`] and records are written by [`record_into`] and
+//! [`record2_into`].
 //!
 //! # Example
 //!

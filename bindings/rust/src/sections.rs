@@ -121,7 +121,8 @@ impl FusedIterator for Events<'_> {}
 
 /// The events of a section of form 2, in order, or by number. Bytes behind the section are not looked at.
 ///
-/// Any bytes will do: in order the events end where the count says, or before that at the first twelve bytes that are cut short or are no event.
+/// Any bytes will do: in order the events end where the count says, or before that at the first twelve bytes that are cut short or are no event. Partners
+/// are as the bytes have them: those that a call has written are true.
 ///
 /// With [`get`](Events2::get) the exit of an enter is one step away, however much lies between them:
 ///
