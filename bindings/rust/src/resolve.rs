@@ -113,7 +113,8 @@ pub struct Resolved<'a> {
 /// Beside a run the document is read as UTF-8: whitespace is the general category Zs with tab, line feed and form feed, punctuation the categories P
 /// and S of Unicode 16.0.0. Bytes that are no character count as a letter does, and no document is refused for them.
 ///
-/// Bytes of `out` past the section stay as they are. An output of [`section_length`](crate::section_length)`(`[`MAX_RESULT`](crate::MAX_RESULT)`)` bytes is always enough.
+/// Bytes of `out` past the section stay as they are. An output of
+/// [`section_length`](crate::section_length)`(`[`MAX_RESULT`](crate::MAX_RESULT)`)` bytes is always enough.
 ///
 /// ```
 /// use ledgerlark::{record_into, resolve_attention, Event, Events, Name, Options, Work};

@@ -1,4 +1,5 @@
-//! Every refusal of every call on a record of the old form or on a line. Buffers hold other bytes before; after, the output is as it was and the work memory zero, all of it.
+//! Every refusal of every call on a record of the old form or on a line. Buffers hold other bytes before; after, the output is as it was and the work
+//! memory zero, all of it.
 
 mod common;
 
