@@ -36,17 +36,22 @@ const WHOLE_RESOLVED: [u8; 124] = [
     1, 2, 0, 0, 3, 0, 0, 0, 0, 0, 0, 0, // 9: -2@3
 ];
 
-fn reads(record: &[u8]) -> Result<Reading2, Refusal> {
-    let mut work = Lent::work();
-    let reading = read2(record, &mut Work::from(work.lend()));
-    assert!(work.is_zero());
-    reading
+/// What is read in a good record, whatever work memory above the least is lent.
+fn reads(record: &[u8]) -> Reading2 {
+    let [least, more] = [65_536, 70_000].map(|work_length| {
+        let mut work = Lent::new(work_length);
+        let reading = read2(record, &mut Work::from(work.lend())).expect("good");
+        assert!(work.is_zero());
+        reading
+    });
+    assert_eq!(least, more);
+    least
 }
 
 #[test]
 fn whole_case() {
     assert_eq!(WHOLE, *record2(OPTIONS, b"*a*", "+1@0 -1@1 +0@1 -0@2 +1@2 -1@3"));
-    let reading = reads(&WHOLE).expect("good");
+    let reading = reads(&WHOLE);
     assert_eq!((reading.options, reading.document, reading.events), (OPTIONS, 3, 6));
 
     let mut out = Lent::new(130);
@@ -63,17 +68,17 @@ fn whole_case() {
 fn good_records() {
     // every option byte there is, and what it stands for is what is told
     for bits in 0..=63 {
-        let reading = reads(&[1, 0, 0, 0, bits, 0, 0, 0, 0, 0, 0, 0, 0]).expect("good");
+        let reading = reads(&[1, 0, 0, 0, bits, 0, 0, 0, 0, 0, 0, 0, 0]);
         assert_eq!(
             (reading.options, reading.document, reading.events),
             (Options::from_bits(bits.into()), 0, 0)
         );
     }
     let pairs = ["+0@0 -0@16384 ".to_string(), "+0@16384 -0@16384 ".repeat(1_023)].concat();
-    let reading = reads(&record2(Options::ALL, &[b'a'; 16_384], &pairs)).expect("good");
+    let reading = reads(&record2(Options::ALL, &[b'a'; 16_384], &pairs));
     assert_eq!((reading.options, reading.document, reading.events), (Options::ALL, 16_384, 2_048));
     let deepest = ["+24@0 ".repeat(64), "-24@0 ".repeat(64)].concat();
-    let reading = reads(&record2(Options::NONE, b"", &deepest)).expect("good");
+    let reading = reads(&record2(Options::NONE, b"", &deepest));
     assert_eq!((reading.options, reading.document, reading.events), (Options::NONE, 0, 128));
 }
 

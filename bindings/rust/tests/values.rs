@@ -189,12 +189,12 @@ fn events_of_a_section() {
 fn events_of_a_section_of_form_2() {
     // The second and third are a pair; two more bytes follow.
     let mut bytes = [3, 0, 0, 0].to_vec();
-    bytes.extend([0, 5, 0, 0, 1, 2, 3, 0, 1, 2, 3, 4]);
+    bytes.extend([0, 5, 0, 0, 1, 2, 3, 0, 1, 2, 0, 0]);
     bytes.extend([0, 2, 0, 0, 7, 0, 0, 0, 2, 0, 0, 0]);
     bytes.extend([1, 2, 0, 0, 9, 0, 0, 0, 1, 0, 0, 0, 9, 9]);
     let make = |event, partner| Event2 { event, partner };
     let all = [
-        make(Event::enter(Name::STRONG, 0x030201), 0x04030201),
+        make(Event::enter(Name::STRONG, 0x030201), 0x0201),
         make(Event::enter(Name::EMPHASIS, 7), 2),
         make(Event::exit(Name::EMPHASIS, 9), 1),
     ];
@@ -225,7 +225,8 @@ fn events_of_a_section_of_form_2() {
     let enter = events.next().expect("the second");
     assert_eq!((events.get(enter.partner), events.get(0)), (Some(all[2]), Some(all[0])));
     assert_eq!((events.next(), events.next(), events.get(1)), (Some(all[2]), None, Some(all[1])));
-    // None has the number that the first one names; nor are there any so large that no offset has them.
+    // None has the number that the first one names, nor one that is too large for an offset: cut to its bits, the fourth of these would stand at 8, where
+    // bytes begin that could be an event.
     assert_eq!(events.get(all[0].partner), None);
     for number in [3, usize::MAX / 12, usize::MAX / 12 + 1, usize::MAX / 3 + 1, usize::MAX] {
         assert_eq!(events.get(number), None);
