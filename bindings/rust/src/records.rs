@@ -101,7 +101,8 @@ pub fn record_into<'a>(document: &[u8], events: impl IntoIterator<Item = Event>,
 
 /// A record of form 2, written to the start of `out`. `None` where it does not fit; then a part of it may stand there.
 ///
-/// The events are given without partners, and get them here: in what one resolver has written they are counted anew for the next. Nothing is judged.
+/// The events are given without partners, and get them here. Those of a section of form 2 are `Events2::new(section).map(|event| event.event)`. Nothing is
+/// judged here either.
 ///
 /// ```
 /// use ledgerlark::{heading, record2_into, record_length2, resolve_headings2, section_length, section_length2, Events, Options, Work};
