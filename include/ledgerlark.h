@@ -1,12 +1,14 @@
 /* Ledgerlark: Markdown resolved over records of events.
  *
- * Eight calls, all there is to the library. It allocates nothing, keeps nothing between calls and calls nothing of yours. Everything it
+ * Twelve calls, all there is to the library. It allocates nothing, keeps nothing between calls and calls nothing of yours. Everything it
  * reads and writes is lent to it for the time of one call. For C99 and C++, where no call throws.
  *
  *     lark_read               is this a good record?
  *     lark_resolve_attention  `*`, `_` and `~` runs become emphasis, strong and strikethrough
  *     lark_resolve_headings   what each heading reads gets a text round it
  *     lark_resolve_lists      neighbouring list items get a list round them
+ *     lark_read2, lark_resolve_attention2, lark_resolve_headings2, lark_resolve_lists2
+ *                             the same for a record of form 2
  *     lark_space_or_tab       with how many columns of spaces and tabs does a line begin?
  *     lark_list_item          does a list item start on this line?
  *     lark_continuation       does this line go on with a list item?
@@ -22,6 +24,20 @@
  * each exit closes the innermost event that is open. A SECTION, which is what a call writes, is the second of these two lines alone: count
  * and events. Event i of a section stands at 4 + 8 * i; event i of a record at 8 + D + 8 * i.
  *
+ * FORM 2 of a record has its options in it, and in each event the number of its PARTNER: an enter has that of its exit, an exit that of its enter.
+ *
+ *     count 1, then 1 byte: the options
+ *     count D, then D bytes: the document
+ *     count E, then E events of 12 bytes: kind, name, 0, 0, place, partner
+ *
+ * Events are numbered from 0 within their section. So page code that has an enter finds its exit in one step:
+ *
+ *     struct lark_event2 matching = lark_event_at2(out, event.partner);
+ *
+ * The four calls whose names end in 2 take this form, with no options beside it. What they write is its last line: event i of that section stands
+ * at 4 + 12 * i, and its partner is numbered in that section and not in the record. Event i of a record stands at 13 + D + 12 * i. All else, limits
+ * included, is as in the old form.
+ *
  * YOU BRING THE EVENTS. The library has no tokenizer: where the runs, headings and items of a document are comes from you, in part by the line
  * readers. A record is begun with its document, in a buffer of yours, and gets its events one by one:
  *
@@ -33,6 +49,9 @@
  * Its counts are right at every step. What does not fit the buffer is not written, and leaves the length 0 for good; every call on a record
  * refuses that with 3, unless 1 or 2 applies, so nothing need be asked in between. LARK_RECORD_BYTES are enough for every good record. What a
  * call has written is read with lark_event_at(out, i), for each i under the answer's `events`.
+ *
+ * In form 2 it is struct lark_record2, lark_begin_record2, which is given the options too, lark_add_event2, which fills in the partners by itself,
+ * LARK_RECORD2_BYTES and lark_event_at2.
  *
  * To hand a section on to another resolver, begin a record with the same document and add each event of the section. A resolver may write more
  * events than a record may have, and deeper ones, attention most of all; such a record is refused with 3 or 5. So attention comes last.
@@ -60,9 +79,9 @@
  * read with the output or the work memory, and not the output with the work memory. NULL with length 0 is allowed everywhere and is an
  * empty slice. NULL with another length is not allowed, nor is a length that passes the end of your memory: the library cannot see either.
  *
- * MEMORY. The resolvers and lark_read need LARK_WORK_BYTES of work memory; what it holds before does not matter. LARK_OUT_BYTES of output
- * are enough for every call; less is enough wherever the section fits. Every call wipes all the work memory that it is lent, however much, and
- * takes time for it: more than LARK_WORK_BYTES gains nothing. More output costs nothing.
+ * MEMORY. The calls on a record need LARK_WORK_BYTES of work memory; what it holds before does not matter. LARK_OUT_BYTES of output are enough for
+ * every call, LARK_OUT2_BYTES for one that writes events of form 2; less is enough wherever the section fits. Every call wipes all the work memory
+ * that it is lent, however much, and takes time for it: more than LARK_WORK_BYTES gains nothing. More output costs nothing.
  *
  * ANSWERS. An answer is a struct by value. `number` is 0 if the call was accepted. Otherwise it is one of LARK_REFUSED_.., `place` says
  * where, and all other fields are 0. If several refusals apply, the lowest number is given, and for 3, 4 and 5 its earliest place. Places are
@@ -128,7 +147,9 @@ extern "C" {
 /* Sizes for buffers. */
 #define LARK_WORK_BYTES 65536                                               /* the least work memory; more is only more to wipe */
 #define LARK_OUT_BYTES (4 + 8 * LARK_MAX_RESULT)                            /* always enough for a section */
+#define LARK_OUT2_BYTES (4 + 12 * LARK_MAX_RESULT)                          /* and for one of form 2 */
 #define LARK_RECORD_BYTES (8 + LARK_MAX_DOCUMENT + 8 * LARK_MAX_EVENTS)     /* the longest good record */
+#define LARK_RECORD2_BYTES (13 + LARK_MAX_DOCUMENT + 12 * LARK_MAX_EVENTS)  /* and that of form 2 */
 
 /* Options, summed. */
 #define LARK_OPTION_ATTENTION 1u      /* runs of `*` and `_` */
@@ -173,13 +194,16 @@ extern "C" {
 /* Refusals: the values of `number`, and what `place` then is. */
 #define LARK_ACCEPTED 0
 #define LARK_REFUSED_WORK 1    /* less than LARK_WORK_BYTES of work memory. Place 0 */
-#define LARK_REFUSED_OPTIONS 2 /* options over LARK_MAX_OPTIONS, or a column over LARK_MAX_COLUMN. Place 0 */
-#define LARK_REFUSED_COUNT 3   /* a count is cut off, over its limit, or promises more than the record has: the place of that count.
-                                * Bytes after the last section: the place of the first of them. A line over LARK_MAX_LINE: 16,384 */
+#define LARK_REFUSED_OPTIONS 2 /* options over LARK_MAX_OPTIONS, or a column over LARK_MAX_COLUMN; in form 2 also a first count that is not 1.
+                                * Place 0 */
+#define LARK_REFUSED_COUNT 3   /* a count is cut off, over its limit, or promises more than the record has: the place of that count, which is
+                                * 0 or 4 + D, in form 2 0, 5 or 9 + D. Bytes after the last section: the place of the first of them. A line over
+                                * LARK_MAX_LINE: 16,384 */
 #define LARK_REFUSED_RETURN 4  /* a carriage return in the document or line: its place */
 #define LARK_REFUSED_EVENT 5   /* an event is not sound: a kind, name or place that cannot be, bytes that should be 0, an exit that closes
                                 * another event than the innermost, too many open: the place of that event. Events left open: the place
-                                * after the record's last byte */
+                                * after the record's last byte. In form 2 also a pair of which one partner or both are untrue: the place of
+                                * its exit */
 #define LARK_REFUSED_SHAPE 6   /* a run, heading or list item that the resolver cannot take: the place of its enter event */
 #define LARK_REFUSED_RESULT 7  /* the section would have over LARK_MAX_RESULT events. Place 0 */
 #define LARK_REFUSED_OUTPUT 8  /* the output is shorter than the section. Place 0 */
@@ -189,7 +213,7 @@ static inline const char *lark_refusal_text(size_t number) LARK_NOEXCEPT {
     switch (number) {
     case LARK_ACCEPTED: return "accepted";
     case LARK_REFUSED_WORK: return "the work memory is under 65,536 bytes";
-    case LARK_REFUSED_OPTIONS: return "the options are over 63, or the column over 16,384";
+    case LARK_REFUSED_OPTIONS: return "the options are over 63, the column over 16,384, or the first count not 1";
     case LARK_REFUSED_COUNT: return "a length does not fit";
     case LARK_REFUSED_RETURN: return "a carriage return";
     case LARK_REFUSED_EVENT: return "an event is not sound";
@@ -200,7 +224,8 @@ static inline const char *lark_refusal_text(size_t number) LARK_NOEXCEPT {
     }
 }
 
-/* The number that stands in four bytes, least byte first: a count, or an event's place, which stands 4 bytes into the event. */
+/* The number that stands in four bytes, least byte first: a count, an event's place, which stands 4 bytes into the event, or its partner, which
+ * stands 8 bytes into it. */
 static inline size_t lark_number_at(const uint8_t *bytes) LARK_NOEXCEPT {
     size_t number = 0;
     int i;
@@ -208,12 +233,15 @@ static inline size_t lark_number_at(const uint8_t *bytes) LARK_NOEXCEPT {
     return number;
 }
 
-/* Puts a number into four bytes. One that is over 4,294,967,295 is put as that, which no call takes for a count or a place. */
+/* Puts a number into four bytes. One that is over 4,294,967,295 is put as that, which no call takes for a count, a place or a partner. */
 static inline void lark_put_number(uint8_t *bytes, size_t number) LARK_NOEXCEPT {
     int i;
     if (number > 0xffffffffu) number = 0xffffffffu;
     for (i = 0; i < 4; i++) bytes[i] = (number >> (8 * i)) & 255;
 }
+
+/* Puts a number into a byte. One that is over 255 is put as that, which no call takes for options, a kind or a name. */
+static inline void lark_put_byte(uint8_t *byte, size_t number) LARK_NOEXCEPT { *byte = number > 255 ? 255 : number & 255; }
 
 /* An event, its fields apart. */
 struct lark_event {
@@ -222,14 +250,37 @@ struct lark_event {
     size_t place; /* an offset in the document, or in the line for lark_heading */
 };
 
-/* Event `i` of a section that a call has written; `i` has to be under the `events` of its answer. The section of a record that lark_read has
- * accepted begins at record + 4 + answer.document. */
-static inline struct lark_event lark_event_at(const uint8_t *section, size_t i) LARK_NOEXCEPT {
-    const uint8_t *bytes = section + 4 + 8 * i;
+/* The same in form 2. */
+struct lark_event2 {
+    size_t kind;
+    size_t name;
+    size_t place;
+    size_t partner; /* the number of the exit that an enter has, or of the enter that an exit has */
+};
+
+/* The event whose bytes begin here: in form 2, all but the partner. */
+static inline struct lark_event lark_event_of(const uint8_t *bytes) LARK_NOEXCEPT {
     struct lark_event event;
     event.kind = bytes[0];
     event.name = bytes[1];
     event.place = lark_number_at(bytes + 4);
+    return event;
+}
+
+/* Event `i` of a section that a call has written; `i` has to be under the `events` of its answer. The section of a record that lark_read has
+ * accepted begins at record + 4 + answer.document. */
+static inline struct lark_event lark_event_at(const uint8_t *section, size_t i) LARK_NOEXCEPT { return lark_event_of(section + 4 + 8 * i); }
+
+/* The same in form 2. The section of a record that lark_read2 has accepted begins at record + 9 + answer.document. Every partner that a call has
+ * written or accepted is under `events` too. */
+static inline struct lark_event2 lark_event_at2(const uint8_t *section, size_t i) LARK_NOEXCEPT {
+    const uint8_t *bytes = section + 4 + 12 * i;
+    struct lark_event apart = lark_event_of(bytes);
+    struct lark_event2 event;
+    event.kind = apart.kind;
+    event.name = apart.name;
+    event.place = apart.place;
+    event.partner = lark_number_at(bytes + 8);
     return event;
 }
 
@@ -241,36 +292,92 @@ struct lark_record {
     size_t document; /* bytes of the document */
 };
 
+/* The same in form 2. Begin it with lark_begin_record2. */
+struct lark_record2 {
+    uint8_t *bytes;
+    size_t length;
+    size_t room;
+    size_t document;
+    size_t open; /* the number of the innermost enter that is open, or 4,294,967,295: none is */
+};
+
+/* For the functions below: puts a document and a count of no events, from `front` on, if the buffer has room. The bytes of the record, or 0. */
+static inline size_t lark_put_document(uint8_t *bytes, size_t room, size_t front, const void *document, size_t document_length) LARK_NOEXCEPT {
+    if (room < front + 8 || room - front - 8 < document_length) return 0;
+    if (document_length) memmove(bytes + front + 4, document, document_length);
+    lark_put_number(bytes + front, document_length);
+    lark_put_number(bytes + front + 4 + document_length, 0);
+    return front + 8 + document_length;
+}
+
+/* For the functions below: puts an event of `width` bytes, but for its partner, behind the others of the section that begins at `section`, and
+ * counts it, if the buffer has room for it and all before did fit. The event's bytes, or NULL. */
+static inline uint8_t *lark_put_event(uint8_t *bytes, size_t room, size_t *length, size_t section, size_t width, size_t kind, size_t name,
+                                      size_t place) LARK_NOEXCEPT {
+    uint8_t *event;
+    if (*length == 0 || room - *length < width) {
+        *length = 0;
+        return NULL;
+    }
+    event = bytes + *length;
+    lark_put_byte(event, kind);
+    lark_put_byte(event + 1, name);
+    event[2] = event[3] = 0;
+    lark_put_number(event + 4, place);
+    *length += width;
+    lark_put_number(bytes + section, (*length - section - 4) / width);
+    return event;
+}
+
 /* A record of a document and no events yet, if the buffer has room for it. The document may lie in the buffer. */
 static inline struct lark_record lark_begin_record(uint8_t *bytes, size_t room, const void *document, size_t document_length) LARK_NOEXCEPT {
     struct lark_record record;
     record.bytes = bytes;
-    record.length = 0;
+    record.length = lark_put_document(bytes, room, 0, document, document_length);
     record.room = room;
     record.document = document_length;
-    if (room < 8 || room - 8 < document_length) return record;
-    if (document_length) memmove(bytes + 4, document, document_length);
-    lark_put_number(bytes, document_length);
-    lark_put_number(bytes + 4 + document_length, 0);
-    record.length = 8 + document_length;
+    return record;
+}
+
+/* The same in form 2. Options over 255 are put as 255, which no call takes. */
+static inline struct lark_record2 lark_begin_record2(uint8_t *bytes, size_t room, uint32_t options, const void *document,
+                                                     size_t document_length) LARK_NOEXCEPT {
+    struct lark_record2 record;
+    record.bytes = bytes;
+    record.length = lark_put_document(bytes, room, 5, document, document_length); /* first, since the document may lie where the options go */
+    record.room = room;
+    record.document = document_length;
+    record.open = 0xffffffffu;
+    if (record.length) {
+        lark_put_number(bytes, 1);
+        lark_put_byte(bytes + 4, options);
+    }
     return record;
 }
 
 /* Adds an event to a record, and counts it, if the buffer has room for it and all before did fit. A kind or name over 255 is put as 255, which no
  * call takes. */
 static inline void lark_add_event(struct lark_record *record, size_t kind, size_t name, size_t place) LARK_NOEXCEPT {
-    uint8_t *event;
-    if (record->length == 0 || record->room - record->length < 8) {
-        record->length = 0;
-        return;
+    lark_put_event(record->bytes, record->room, &record->length, 4 + record->document, 8, kind, name, place);
+}
+
+/* The same in form 2. An exit is the partner of the innermost enter that is open, and both get their numbers with it. Until then an enter has the
+ * number of the one that was open before it: so there is no stack, and no bound to how many are open. */
+static inline void lark_add_event2(struct lark_record2 *record, size_t kind, size_t name, size_t place) LARK_NOEXCEPT {
+    size_t section = 9 + record->document, partner = 0, number;
+    uint8_t *event = lark_put_event(record->bytes, record->room, &record->length, section, 12, kind, name, place), *enter;
+    if (event == NULL) return;
+    number = (record->length - section - 4) / 12 - 1;
+    if (kind == LARK_ENTER) {
+        partner = record->open;
+        record->open = number;
+    } else if (kind == LARK_EXIT && record->open < number) { /* none is not under it; nor is what does not stand in the buffer */
+        partner = record->open;
+        enter = record->bytes + section + 4 + 12 * partner;
+        record->open = lark_number_at(enter + 8);
+        lark_put_number(enter + 8, number);
     }
-    event = record->bytes + record->length;
-    event[0] = kind > 255 ? 255 : kind & 255;
-    event[1] = name > 255 ? 255 : name & 255;
-    event[2] = event[3] = 0;
-    lark_put_number(event + 4, place);
-    record->length += 8;
-    lark_put_number(record->bytes + 4 + record->document, (record->length - 8 - record->document) / 8);
+    lark_put_number(event + 8, partner);
 }
 
 /* The answer of lark_read. */
@@ -281,11 +388,20 @@ struct lark_reading {
     size_t events;   /* events of the record */
 };
 
+/* The answer of lark_read2. */
+struct lark_reading2 {
+    size_t number;   /* 0, or the refusal */
+    size_t place;    /* where */
+    size_t options;  /* the options that the record has in it */
+    size_t document; /* bytes of the document */
+    size_t events;   /* events of the record */
+};
+
 /* The answer of a resolver. */
 struct lark_resolved {
     size_t number; /* 0, or the refusal */
     size_t place;  /* where */
-    size_t events; /* events of the section: 4 + 8 * events bytes were written */
+    size_t events; /* events of the section: 4 + 8 * events bytes were written, 4 + 12 * events in form 2 */
     size_t groups; /* attention: groups formed. Otherwise 0 */
     size_t tried;  /* attention: openers looked at on the way. Otherwise 0 */
 };
@@ -381,6 +497,27 @@ struct lark_resolved lark_resolve_headings(const uint8_t *record, size_t record_
  * item's exit and the next item's enter. Number 7 is not given: no record has a result as long. */
 struct lark_resolved lark_resolve_lists(const uint8_t *record, size_t record_length, uint32_t options, uint8_t *out, size_t out_length,
                                         uint8_t *work, size_t work_length) LARK_NOEXCEPT;
+
+/* lark_read for a record of form 2. It tells the record's options too. */
+struct lark_reading2 lark_read2(const uint8_t *record, size_t record_length, uint8_t *work, size_t work_length) LARK_NOEXCEPT;
+
+/* lark_resolve_attention for a record of form 2, by the options that the record has in it. The section that is written has events of 12 bytes; all
+ * partners in it are true.
+ *
+ *     `*a*`    +1@0/1 -1@1/0 +0@1/3 -0@2/2 +1@2/5 -1@3/4
+ *     becomes  +2@0/9 +3@0/2 -3@1/1 +4@1/6 +0@1/5 -0@2/4 -4@2/3 +3@2/8 -3@3/7 -2@3/0
+ *
+ * Refuses with 1 to 5 as lark_read2 does, and else as lark_resolve_attention does: with 8 where the output is under 4 + 12 * events. */
+struct lark_resolved lark_resolve_attention2(const uint8_t *record, size_t record_length, uint8_t *out, size_t out_length, uint8_t *work,
+                                             size_t work_length) LARK_NOEXCEPT;
+
+/* lark_resolve_headings for a record of form 2. What is written and refused differs as it does for lark_resolve_attention2. */
+struct lark_resolved lark_resolve_headings2(const uint8_t *record, size_t record_length, uint8_t *out, size_t out_length, uint8_t *work,
+                                            size_t work_length) LARK_NOEXCEPT;
+
+/* lark_resolve_lists for a record of form 2. What is written and refused differs as it does for lark_resolve_attention2. */
+struct lark_resolved lark_resolve_lists2(const uint8_t *record, size_t record_length, uint8_t *out, size_t out_length, uint8_t *work,
+                                         size_t work_length) LARK_NOEXCEPT;
 
 /* The spaces and tabs that a line begins with, at most `max` columns of them; a tab may be cut there. Fewer columns than `min` is the finding "too
  * few", also where `min` is more than `max`; the part of a cut tab that is taken counts. Any `min` and `max` will do: 0 and SIZE_MAX set no bound.
