@@ -2,11 +2,13 @@
  *
  * What must come is not known here, but what must hold of it is. Each call is made twice, in memory that held other bytes and with a page that
  * may not be touched behind the slices the first time and before them the second; both must answer and write alike. A refusal says its number
- * and place and nothing else. What a resolver writes is again a list of sound events. At the end each kind of answer must have come up.
+ * and place and nothing else. What a resolver writes is again a list of sound events, in form 2 with true partners. A record that is not broken is
+ * answered alike in both forms, but for places. At the end each kind of answer must have come up.
  */
 #include "check.h"
 
-enum { READ, ATTENTION, HEADINGS, LISTS, SPACES, ITEM, GOING, HEADING, CALLS };
+/* RESOLVE and one of the resolvers is its call. The calls before SPACES are on a record, and are made in either form. */
+enum { READ, RESOLVE, SPACES = RESOLVE + RESOLVERS, ITEM, GOING, HEADING, CALLS };
 enum { INPUTS = 1500, FIELDS = 8 };
 
 static uint32_t state = 2463534242u;
@@ -21,17 +23,15 @@ static int once_in(uint32_t n) { return below(n) == 0; }
 /* --- records --- */
 
 static struct bytes text;
-static struct lark_record made;
 static unsigned open_names[80];
 static size_t depth;
 
-static void event(unsigned kind, unsigned name, size_t place) { lark_add_event(&made, kind, name, place); }
 static void pair(unsigned name, size_t from, size_t to) {
-    event(LARK_ENTER, name, from);
-    event(LARK_EXIT, name, to);
+    add_event(LARK_ENTER, name, from);
+    add_event(LARK_EXIT, name, to);
 }
 static void enter(unsigned name, size_t place) {
-    event(LARK_ENTER, name, place);
+    add_event(LARK_ENTER, name, place);
     open_names[depth++] = name;
 }
 
@@ -43,7 +43,7 @@ static void make_record(void) {
     text.n = depth = 0;
     for (i = 0; i < n; i++) put_many(&text, (uint8_t)letters[below(sizeof letters - 1)], 1);
     if (n && once_in(16)) text.at[below((uint32_t)n)] = '\r';
-    made = lark_begin_record(record_bytes.at, sizeof record_bytes.at, text.at, text.n);
+    begin_record(text.at, text.n);
     while (at < n) {
         uint8_t byte = text.at[at];
         size_t end = at + 1;
@@ -51,14 +51,14 @@ static void make_record(void) {
         if (strchr("*-.", byte) && once_in(6) && depth < 60) {
             pair(LARK_NAME_LINE_ENDING, at, at);
             enter(LARK_NAME_LIST_ITEM, at);
-            event(LARK_ENTER, LARK_NAME_LIST_ITEM_PREFIX, at);
+            add_event(LARK_ENTER, LARK_NAME_LIST_ITEM_PREFIX, at);
             pair(LARK_NAME_LIST_ITEM_MARKER, at, end);
-            event(LARK_EXIT, LARK_NAME_LIST_ITEM_PREFIX, end);
+            add_event(LARK_EXIT, LARK_NAME_LIST_ITEM_PREFIX, end);
         } else if (byte == '#' && once_in(2)) {
-            event(LARK_ENTER, LARK_NAME_HEADING_ATX, at);
+            add_event(LARK_ENTER, LARK_NAME_HEADING_ATX, at);
             pair(LARK_NAME_HEADING_ATX_SEQUENCE, at, end);
             while (end < n && once_in(2)) pair(once_in(3) ? LARK_NAME_SPACE_OR_TAB : LARK_NAME_DATA, end, end + 1), end++;
-            event(LARK_EXIT, LARK_NAME_HEADING_ATX, end);
+            add_event(LARK_EXIT, LARK_NAME_HEADING_ATX, end);
         } else if (strchr("*_~", byte)) {
             while (end < n && text.at[end] == byte) end++;
             pair(LARK_NAME_ATTENTION_SEQUENCE, at, end);
@@ -66,10 +66,10 @@ static void make_record(void) {
             pair(byte == '\n' ? LARK_NAME_LINE_ENDING : LARK_NAME_DATA, at, end);
         }
         at = end;
-        if (depth && once_in(6)) event(LARK_EXIT, open_names[--depth], at);
+        if (depth && once_in(6)) add_event(LARK_EXIT, open_names[--depth], at);
     }
-    while (depth) event(LARK_EXIT, open_names[--depth], n);
-    record_bytes.n = made.length;
+    while (depth) add_event(LARK_EXIT, open_names[--depth], n);
+    built();
 }
 
 /* Something of it is broken: a byte changed, the end cut off, or bytes added. */
@@ -112,22 +112,21 @@ static const char *const call_names[CALLS] = {"lark_read",         "lark_resolve
 
 /* The fields of the answer, and what was written. */
 static void make(int call, struct given g, size_t fields[FIELDS], struct bytes *wrote) {
-    struct slice in = lend_bytes(g.in->at, g.in->n), out = lend(g.out_length), work = lend(call <= LISTS ? g.work_length : 0);
+    struct slice in = lend_bytes(g.in->at, g.in->n), out = lend(g.out_length), work = lend(call < SPACES ? g.work_length : 0);
     size_t n = 0, i;
     memset(fields, 0, FIELDS * sizeof *fields);
     switch (call) {
     case READ: {
-        struct lark_reading r = lark_read(in.p, in.n, g.options, work.p, work.n);
+        struct lark_reading r = read_record(in.p, in.n, g.options, work.p, work.n);
         memcpy(fields, &r, sizeof r);
         break;
     }
-    case ATTENTION:
-    case HEADINGS:
-    case LISTS: {
-        resolver *resolve = call == ATTENTION ? lark_resolve_attention : call == HEADINGS ? lark_resolve_headings : lark_resolve_lists;
-        struct lark_resolved r = resolve(in.p, in.n, g.options, out.p, out.n, work.p, work.n);
+    case RESOLVE + ATTENTION:
+    case RESOLVE + HEADINGS:
+    case RESOLVE + LISTS: {
+        struct lark_resolved r = resolve(call - RESOLVE, in.p, in.n, g.options, out.p, out.n, work.p, work.n);
         memcpy(fields, &r, sizeof r);
-        n = r.number ? 0 : 4 + 8 * r.events;
+        n = r.number ? 0 : 4 + widths[form] * r.events;
         break;
     }
     case SPACES: {
@@ -166,7 +165,7 @@ static void make(int call, struct given g, size_t fields[FIELDS], struct bytes *
     take_back(work);
 }
 
-static size_t answers[CALLS][9], findings[CALLS], cuts[CALLS];
+static size_t answers[FORMS][CALLS][9], findings[CALLS], cuts[CALLS];
 
 /* What is left of a cut tab: at most 3 columns, of a tab that stands where the bytes taken end. */
 static void cut_is_sound(int call, struct given g, const size_t fields[FIELDS]) {
@@ -175,71 +174,122 @@ static void cut_is_sound(int call, struct given g, const size_t fields[FIELDS]) 
     cuts[call]++;
 }
 
-static void both_ways(int call, struct given g) {
-    static struct bytes wrote, again;
-    size_t first[FIELDS], second[FIELDS], i;
-    case_name = call_names[call];
-    way = PAGE_BEHIND;
-    make(call, g, first, &wrote);
-    way = PAGE_BEFORE;
-    make(call, g, second, &again);
-    for (i = 0; i < FIELDS; i++) equal("a field, the second time,", second[i], first[i]);
-    equal("the length written, the second time,", again.n, wrote.n);
-    same("what is written the second time", again.at, wrote.at, wrote.n);
-    if (first[0] <= 8) answers[call][first[0]]++;
-    if (call >= SPACES && !first[0] && !first[2]) findings[call]++;
-    if (call >= SPACES && call <= GOING && first[2] && first[4]) cut_is_sound(call, g, first);
-    /* a resolved record is a record again, if it is not too deep */
-    if (call >= ATTENTION && call <= LISTS && !first[0]) {
-        static struct bytes resolved;
-        static uint8_t work[LARK_WORK_BYTES];
-        struct lark_reading r;
-        resolved.n = 0;
-        put(&resolved, g.in->at, g.in->n);
-        r = lark_read(g.in->at, g.in->n, 0, work, sizeof work);
-        resolved.n = 4 + r.document;
-        put(&resolved, wrote.at, wrote.n);
-        r = lark_read(resolved.at, resolved.n, 0, work, sizeof work);
-        equal("number for what came out", r.number, 0);
-        equal("events of what came out", r.events, first[2]);
+/* What a resolver wrote is, behind the document, a record again, if it is not too deep. In form 2 it is said here too what true partners are. */
+static void section_is_sound(struct given g, const struct bytes *wrote, size_t events) {
+    static struct bytes resolved;
+    static uint8_t work[LARK_WORK_BYTES];
+    struct lark_reading r = read_record(g.in->at, g.in->n, g.options, work, sizeof work);
+    size_t i;
+    resolved.n = 0;
+    put(&resolved, g.in->at, fronts[form] + 4 + r.document);
+    put(&resolved, wrote->at, wrote->n);
+    r = read_record(resolved.at, resolved.n, g.options, work, sizeof work);
+    equal("number for what came out", r.number, 0);
+    equal("events of what came out", r.events, events);
+    for (i = 0; form == SECOND && i < events; i++) {
+        struct lark_event2 event = lark_event_at2(wrote->at, i), partner;
+        if (event.partner >= events) {
+            fail("a partner", event.partner, events);
+            continue;
+        }
+        partner = lark_event_at2(wrote->at, event.partner);
+        equal("the partner of a partner", partner.partner, i);
+        equal("the name of a partner", partner.name, event.name);
+        equal("the kind of a partner", partner.kind, !event.kind);
+        equal("an enter before its exit", event.partner > i, event.kind == LARK_ENTER);
     }
 }
 
+/* A call made both ways: the fields of its answer, and what was written. */
+struct made {
+    size_t fields[FIELDS];
+    struct bytes wrote;
+};
+static void both_ways(int call, struct given g, struct made *first) {
+    static struct made second;
+    size_t i;
+    case_name = call_names[call];
+    way = PAGE_BEHIND;
+    make(call, g, first->fields, &first->wrote);
+    way = PAGE_BEFORE;
+    make(call, g, second.fields, &second.wrote);
+    for (i = 0; i < FIELDS; i++) equal("a field, the second time,", second.fields[i], first->fields[i]);
+    equal("the length written, the second time,", second.wrote.n, first->wrote.n);
+    same("what is written the second time", second.wrote.at, first->wrote.at, first->wrote.n);
+    if (first->fields[0] <= 8) answers[form][call][first->fields[0]]++;
+    if (call >= SPACES && !first->fields[0] && !first->fields[2]) findings[call]++;
+    if (call >= SPACES && call <= GOING && first->fields[2] && first->fields[4]) cut_is_sound(call, g, first->fields);
+    if (call >= RESOLVE && call < SPACES && !first->fields[0]) section_is_sound(g, &first->wrote, first->fields[2]);
+}
+
+/* A record in both forms: the same answers, and the same events, each where that form has it. */
+static void alike(int call, const struct made *old, const struct made *second) {
+    size_t i, place = old->fields[1], number = old->fields[0], events = call == READ ? 0 : old->fields[2];
+    case_name = call_names[call];
+    if (number == 5 || number == 6) place += 5 + (place - 8 - text.n) / 8 * 4;
+    if (number == 3 || number == 4) place += 5;
+    equal("place in form 2", second->fields[1], place);
+    for (i = 0; i < FIELDS; i++)
+        if (i != 1) equal("a field in form 2", second->fields[i], old->fields[i]);
+    if (number || call == READ) return;
+    same("the count in form 2", second->wrote.at, old->wrote.at, 4);
+    for (i = 0; i < events; i++) same("an event in form 2", second->wrote.at + 4 + 12 * i, old->wrote.at + 4 + 8 * i, 8);
+}
+
 int main(void) {
+    static struct made done[FORMS][SPACES], on_line;
+    static struct bytes line, whole;
     int i, call;
     size_t number;
     watch();
     for (i = 0; i < INPUTS; i++) {
-        static struct bytes line;
         struct given g;
-        g.options = once_in(16) ? state : 63 - (once_in(8) ? below(64) : 0);
+        uint32_t start, options = once_in(16) ? below(256) : once_in(32) ? state : 63 - (once_in(8) ? below(64) : 0);
+        int broken = once_in(3), no_room = once_in(16);
+        size_t room = once_in(3) ? below(50) : 400, more = no_room ? below(4) : 4 + below(8);
         g.flag = below(3);
         g.mark = state;
         g.column = once_in(32) ? state : once_in(4) ? LARK_MAX_COLUMN - below(4) : below(9);
         g.min = below(6);
         g.max = once_in(8) ? SIZE_MAX : below(6);
-        g.out_length = once_in(3) ? below(400) : 4 + 8 * 400;
         g.work_length = once_in(16) ? below(65536) : LARK_WORK_BYTES + (once_in(4) ? below(99) : 0);
-        make_record();
-        if (once_in(3)) break_bytes(&record_bytes);
-        g.in = &record_bytes;
-        for (call = READ; call <= LISTS; call++) both_ways(call, g);
+        start = state;
+        for (form = 0; form < FORMS; form++) {
+            const struct bytes *r;
+            state = start;
+            make_record();
+            r = handed(&record_bytes, options);
+            whole.n = 0;
+            put(&whole, r->at, r->n);
+            if (broken) break_bytes(&whole);
+            g.in = &whole;
+            g.options = form == OLD ? options : whole.n > 4 ? whole.at[4] : 0;
+            g.out_length = (no_room ? 0 : widths[form] * room) + more;
+            for (call = READ; call < SPACES; call++) both_ways(call, g, &done[form][call]);
+        }
+        for (call = READ; call < SPACES; call++)
+            if (!broken && options <= 255) alike(call, &done[OLD][call], &done[SECOND][call]);
+        form = OLD;
         make_line(&line);
         g.in = &line;
-        for (call = SPACES; call <= HEADING; call++) both_ways(call, g);
+        g.options = options;
+        g.out_length = (no_room ? 0 : 8 * room) + more;
+        for (call = SPACES; call <= HEADING; call++) both_ways(call, g, &on_line);
     }
-    for (call = 0; call < CALLS; call++)
-        for (number = 0; number < 9; number++) {
-            int line = call >= SPACES, writes = call != READ && (!line || call == HEADING);
-            int can = number == 0 || (number == 1 && !line) || (number >= 2 && number <= 4) || (number == 5 && !line) ||
-                      (number == 6 && writes && !line) || (number == 8 && writes);
-            if (line && number == 3) can = 0; /* no line here is that long */
-            case_name = call_names[call];
-            cases++;
-            if ((answers[call][number] != 0) != can) printf("number %zu: ", number), fail("answers of it", answers[call][number], (size_t)can);
-            if (line && number == 0 && !findings[call]) fail("findings", 0, 1);
-            if (line && number == 0 && call != HEADING && !cuts[call]) fail("cut tabs", 0, 1);
-            if (line && number == 0 && findings[call] == answers[call][0]) fail("findings alone", 1, 0);
-        }
+    for (form = 0; form < FORMS; form++)
+        for (call = 0; call < (form == OLD ? CALLS : SPACES); call++)
+            for (number = 0; number < 9; number++) {
+                int a_line = call >= SPACES, writes = call != READ && (!a_line || call == HEADING);
+                int can = number == 0 || (number == 1 && !a_line) || (number >= 2 && number <= 4) || (number == 5 && !a_line) ||
+                          (number == 6 && writes && !a_line) || (number == 8 && writes);
+                size_t came = answers[form][call][number];
+                if (a_line && number == 3) can = 0; /* no line here is that long */
+                case_name = call_names[call];
+                cases++;
+                if ((came != 0) != can) printf("number %zu: ", number), fail("answers of it", came, (size_t)can);
+                if (a_line && number == 0 && !findings[call]) fail("findings", 0, 1);
+                if (a_line && number == 0 && call != HEADING && !cuts[call]) fail("cut tabs", 0, 1);
+                if (a_line && number == 0 && findings[call] == came) fail("findings alone", 1, 0);
+            }
     return report();
 }

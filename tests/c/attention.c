@@ -1,10 +1,11 @@
-/* lark_resolve_attention: document 01's whole case in bare bytes, its cases by line, what may stand beside a run, and numbers 6, 7 and 8. Every
- * section is written here by hand from the document's rules: closing pieces in match order, the leftover, opening pieces with the last match first.
+/* lark_resolve_attention in either form: document 01's whole case in bare bytes, its cases by line, what may stand beside a run, and numbers 6, 7 and
+ * 8. Every section is written here by hand from the document's rules: closing pieces in match order, the leftover, opening pieces with the last match
+ * first.
  */
 #include "check.h"
 
 static void attention(const char *text, uint32_t options, const char *events, size_t groups, size_t tried, const char *result) {
-    resolves(lark_resolve_attention, record(text, events), options, groups, tried, section(result));
+    resolves(ATTENTION, record(text, events), options, groups, tried, section(result));
 }
 
 /* The whole case, byte by byte, without the functions of check.h that build records. */
@@ -110,7 +111,7 @@ static void by_line(void) {
     resolves_once(record_of(text, n, "+1@" a " -1@" b " +1@" c " -1@" d), group, \
                   section(group ? "+2@" a " +3@" a " -3@" b " +4@" b " -4@" c " +3@" c " -3@" d " -2@" d : "+0@" a " -0@" b " +0@" c " -0@" d))
 static void resolves_once(const struct bytes *r, int group, const struct bytes *result) {
-    resolves_into(result->n, LARK_WORK_BYTES, lark_resolve_attention, r, 63, (size_t)group, (size_t)group, result);
+    resolves_into(result->n, LARK_WORK_BYTES, ATTENTION, r, 63, (size_t)group, (size_t)group, result);
 }
 
 /* Every byte beside a run. A letter on the other side: the run opens (closes) if the byte is other. The document's end on the other side: it does
@@ -178,11 +179,11 @@ static void three(const char *text, size_t n, size_t second, enum pair pair) {
     size_t third = n - 1;
     record_bytes.n = section_bytes.n = 0;
     put_document(&record_bytes, text, n);
-    put_number(&record_bytes, 6);
+    put_count(&record_bytes, 6);
     put_pair(&record_bytes, 1, 0, 1);
     put_pair(&record_bytes, 1, second, second + 2);
     put_pair(&record_bytes, 1, third, third + 1);
-    put_number(&section_bytes, pair == FIRST_AND_LAST ? 10 : 12);
+    put_count(&section_bytes, pair == FIRST_AND_LAST ? 10 : 12);
     if (pair == LAST_TWO)
         put_pair(&section_bytes, 0, 0, 1), put_pair(&section_bytes, 0, second, second + 1), put_opening(second + 1);
     else
@@ -190,7 +191,7 @@ static void three(const char *text, size_t n, size_t second, enum pair pair) {
     if (pair == FIRST_TWO) put_closing(second), put_pair(&section_bytes, 0, second + 1, second + 2), put_pair(&section_bytes, 0, third, third + 1);
     if (pair == FIRST_AND_LAST) put_pair(&section_bytes, 0, second, second + 2);
     if (pair != FIRST_TWO) put_closing(third);
-    resolves_into(section_bytes.n, LARK_WORK_BYTES, lark_resolve_attention, &record_bytes, 59, 1, pair == FIRST_AND_LAST ? 3 : 1, &section_bytes);
+    resolves_into(section_bytes.n, LARK_WORK_BYTES, ATTENTION, &record_bytes, 59, 1, pair == FIRST_AND_LAST ? 3 : 1, &section_bytes);
 }
 
 /* Some bytes before the second run of `*a{..}**.a*`, and after that of `*a.**{..}a*`. Before a run: if they are other it closes, if whitespace it
@@ -328,11 +329,11 @@ static void cut(void) {
     begin("cut by the end, where the count of 128 events, 80 00 00 00, would go on");
     record_bytes.n = section_bytes.n = 0;
     put_document(&record_bytes, "*a.**\xe3\x80", 7);
-    put_number(&record_bytes, 128), put_number(&section_bytes, 128);
+    put_count(&record_bytes, 128), put_count(&section_bytes, 128);
     put_pair(&record_bytes, 1, 0, 1), put_pair(&section_bytes, 0, 0, 1);
     put_pair(&record_bytes, 1, 3, 5), put_pair(&section_bytes, 0, 3, 5);
     for (i = 0; i < 62; i++) put_pair(&record_bytes, 0, 5, 5), put_pair(&section_bytes, 0, 5, 5);
-    resolves(lark_resolve_attention, &record_bytes, 59, 0, 0, &section_bytes);
+    resolves(ATTENTION, &record_bytes, 59, 0, 0, &section_bytes);
 }
 
 /* Options 1, 2 and 4 by what they do; the others do nothing. */
@@ -344,9 +345,9 @@ static void every_option(void) {
         if (options & 1)
             attention("*a*", options, a, 1, 1, "+2@0 +3@0 -3@1 +4@1 +0@1 -0@2 -4@2 +3@2 -3@3 -2@3");
         else
-            refuses(lark_resolve_attention, record("*a*", a), options, LARK_OUT_BYTES, LARK_WORK_BYTES, 6, 11);
+            refuses(ATTENTION, record("*a*", a), options, ample[form], LARK_WORK_BYTES, 6, event_place(3, 0));
         if (!(options & 2))
-            refuses(lark_resolve_attention, record("~a~", a), options, LARK_OUT_BYTES, LARK_WORK_BYTES, 6, 11);
+            refuses(ATTENTION, record("~a~", a), options, ample[form], LARK_WORK_BYTES, 6, event_place(3, 0));
         else if (options & 4)
             attention("~a~", options, a, 1, 1, "+8@0 +9@0 -9@1 +10@1 +0@1 -0@2 -10@2 +9@2 -9@3 -8@3");
         else
@@ -354,34 +355,33 @@ static void every_option(void) {
     }
 }
 
-/* Refused with 6 at a place, with ample output and with none. */
-static void shape(const char *text, uint32_t options, const char *events, size_t place) {
-    refuses(lark_resolve_attention, record(text, events), options, LARK_OUT_BYTES, LARK_WORK_BYTES, 6, place);
-    refuses(lark_resolve_attention, record(text, events), options, 0, LARK_WORK_BYTES, 6, place);
+/* Refused with 6 at an event. */
+static void shape(const char *text, uint32_t options, const char *events, size_t at) {
+    refuses_shape(ATTENTION, record(text, events), options, event_place(strlen(text), at));
 }
 
 static void number_6(void) {
     begin("6: a run of no bytes");
-    shape("*", 63, "+1@0 -1@0", 9);
+    shape("*", 63, "+1@0 -1@0", 0);
     begin("6: an event inside a run");
-    shape("*", 63, "+1@0 +0@0 -0@0 -1@1", 9);
+    shape("*", 63, "+1@0 +0@0 -0@0 -1@1", 0);
     begin("6: a run inside a run: the outer offends");
-    shape("*", 63, "+1@0 +1@0 -1@1 -1@1", 9);
+    shape("*", 63, "+1@0 +1@0 -1@1 -1@1", 0);
     begin("6: two markers in one run");
-    shape("*_", 63, "+1@0 -1@2", 10);
+    shape("*_", 63, "+1@0 -1@2", 0);
     begin("6: a byte that is no marker");
-    shape("a", 63, "+1@0 -1@1", 9);
+    shape("a", 63, "+1@0 -1@1", 0);
     begin("6: the marker goes on behind the run");
-    shape("**", 63, "+1@0 -1@1", 10);
+    shape("**", 63, "+1@0 -1@1", 0);
     begin("6: option 1 is off");
-    shape("*", 62, "+1@0 -1@1", 9);
-    shape("_", 62, "+1@0 -1@1", 9);
+    shape("*", 62, "+1@0 -1@1", 0);
+    shape("_", 62, "+1@0 -1@1", 0);
     begin("6: option 2 is off");
-    shape("~~", 61, "+1@0 -1@2", 10);
+    shape("~~", 61, "+1@0 -1@2", 0);
     begin("6: the earliest run that offends");
-    shape("*a*ba", 63, "+0@0 -0@0 +1@0 -1@1 +0@1 -0@2 +1@2 -1@4 +1@4 -1@5", 13 + 8 * 6);
+    shape("*a*ba", 63, "+0@0 -0@0 +1@0 -1@1 +0@1 -0@2 +1@2 -1@4 +1@4 -1@5", 6);
     begin("6: far on");
-    refuses_far_on(lark_resolve_attention, "+1@0 -1@0");
+    refuses_far_on(ATTENTION, "+1@0 -1@0");
     begin("a run behind its own marker is good");
     attention("**", 63, "+1@1 -1@2", 0, 0, "+0@1 -0@2");
 }
@@ -393,7 +393,7 @@ static const struct bytes *twice(size_t n) {
     put_many(&record_bytes, '*', n);
     put_many(&record_bytes, 'a', 1);
     put_many(&record_bytes, '*', n);
-    put_number(&record_bytes, 4);
+    put_count(&record_bytes, 4);
     put_event(&record_bytes, LARK_ENTER, 1, 0);
     put_event(&record_bytes, LARK_EXIT, 1, n);
     put_event(&record_bytes, LARK_ENTER, 1, n + 1);
@@ -404,27 +404,27 @@ static const struct bytes *twice(size_t n) {
 static void number_7(void) {
     size_t i;
     begin("7: 1,001 groups, 8,008 events");
-    refuses(lark_resolve_attention, twice(2001), 63, LARK_OUT_BYTES, LARK_WORK_BYTES, 7, 0);
-    refuses(lark_resolve_attention, twice(2001), 63, 100000, LARK_WORK_BYTES, 7, 0);
+    refuses(ATTENTION, twice(2001), 63, ample[form], LARK_WORK_BYTES, 7, 0);
+    refuses(ATTENTION, twice(2001), 63, 100000, LARK_WORK_BYTES, 7, 0);
     begin("7 comes before 8");
-    refuses(lark_resolve_attention, twice(2001), 63, 0, LARK_WORK_BYTES, 7, 0);
+    refuses(ATTENTION, twice(2001), 63, 0, LARK_WORK_BYTES, 7, 0);
     begin("7: 4,096 groups");
-    refuses(lark_resolve_attention, twice(8191), 63, LARK_OUT_BYTES, LARK_WORK_BYTES, 7, 0);
+    refuses(ATTENTION, twice(8191), 63, ample[form], LARK_WORK_BYTES, 7, 0);
     begin("6 comes before 7, also behind the last group");
     twice(2001);
     record_bytes.n = 4 + 4003;
-    put_number(&record_bytes, 6);
+    put_count(&record_bytes, 6);
     put_event(&record_bytes, LARK_ENTER, 1, 0);
     put_event(&record_bytes, LARK_EXIT, 1, 2001);
     put_event(&record_bytes, LARK_ENTER, 1, 2002);
     put_event(&record_bytes, LARK_EXIT, 1, 4003);
     put_event(&record_bytes, LARK_ENTER, 1, 4003);
     put_event(&record_bytes, LARK_EXIT, 1, 4003);
-    refuses(lark_resolve_attention, &record_bytes, 63, LARK_OUT_BYTES, LARK_WORK_BYTES, 6, 8 + 4003 + 8 * 4);
+    refuses(ATTENTION, &record_bytes, 63, ample[form], LARK_WORK_BYTES, 6, event_place(4003, 4));
 
     begin("1,000 groups, 8,000 events: the longest result");
     section_bytes.n = 0;
-    put_number(&section_bytes, 8000);
+    put_count(&section_bytes, 8000);
     for (i = 0; i < 1000; i++) {
         put_event(&section_bytes, LARK_ENTER, 5, 2 * i);
         put_event(&section_bytes, LARK_ENTER, 6, 2 * i);
@@ -437,9 +437,9 @@ static void number_7(void) {
         put_event(&section_bytes, LARK_EXIT, 6, 2003 + 2 * i);
         put_event(&section_bytes, LARK_EXIT, 5, 2003 + 2 * i);
     }
-    resolves(lark_resolve_attention, twice(2000), 63, 1000, 1000, &section_bytes);
+    resolves(ATTENTION, twice(2000), 63, 1000, 1000, &section_bytes);
     begin("8: the longest result, a byte short");
-    refuses(lark_resolve_attention, twice(2000), 63, LARK_OUT_BYTES - 1, LARK_WORK_BYTES, 8, 0);
+    refuses(ATTENTION, twice(2000), 63, ample[form] - 1, LARK_WORK_BYTES, 8, 0);
 }
 
 /* `a~~~` 1,024 times and `a`: every run opens and closes, and none matches, being over 2. The first looks at no run, the next at one, and so
@@ -451,28 +451,26 @@ static void most_tried(void) {
     put_number(&record_bytes, 4 * 1024 + 1);
     for (i = 0; i < 1024; i++) put(&record_bytes, "a~~~", 4);
     put(&record_bytes, "a", 1);
-    put_number(&record_bytes, 2048);
-    put_number(&section_bytes, 2048);
+    put_count(&record_bytes, 2048);
+    put_count(&section_bytes, 2048);
     for (i = 0; i < 1024; i++) {
         put_event(&record_bytes, LARK_ENTER, 1, 4 * i + 1);
         put_event(&record_bytes, LARK_EXIT, 1, 4 * i + 4);
         put_event(&section_bytes, LARK_ENTER, 0, 4 * i + 1);
         put_event(&section_bytes, LARK_EXIT, 0, 4 * i + 4);
     }
-    resolves(lark_resolve_attention, &record_bytes, 63, 0, 523776, &section_bytes);
+    resolves(ATTENTION, &record_bytes, 63, 0, 523776, &section_bytes);
 }
 
 static void number_8(void) {
-    size_t n;
-    begin("8: every length under 84 for `*a*`");
-    for (n = 0; n < 84; n++) refuses(lark_resolve_attention, record("*a*", "+1@0 -1@1 +0@1 -0@2 +1@2 -1@3"), 59, n, LARK_WORK_BYTES, 8, 0);
-    begin("8: no output for no events");
-    refuses(lark_resolve_attention, record("", ""), 59, 0, LARK_WORK_BYTES, 8, 0);
-    refuses(lark_resolve_attention, record("", ""), 59, 3, LARK_WORK_BYTES, 8, 0);
+    begin("8: every length that is too short for the ten events that `*a*` becomes");
+    refuses_output(ATTENTION, record("*a*", "+1@0 -1@1 +0@1 -0@2 +1@2 -1@3"), 59, 10);
+    begin("8: every length that is too short for no events");
+    refuses_output(ATTENTION, record("", ""), 59, 0);
 }
 
 static void all(void) {
-    whole_case();
+    if (form == OLD) whole_case(); /* form2.c has the other */
     by_line();
     quotations();
     if (way == EXACT) neighbours(), characters(), malformed(), every_option(); /* once is enough: what is lent is not what they are about */
@@ -483,4 +481,4 @@ static void all(void) {
     number_8();
 }
 
-int main(void) { return in_every_way(all); }
+int main(void) { return in_every_form(all); }

@@ -4,6 +4,9 @@
  * time: with memory of exactly the right size from malloc (a sanitizer and valgrind see a byte too many there); against a page that may not be
  * touched, behind the slice and before it (any machine sees it there, also where no sanitizer reaches); and with NULL for every empty slice.
  * The buffers are dirty before, in each way with other bytes.
+ *
+ * What is said of a record is said once for both of its forms. A record is built from its document's count on, and places in it are counted from
+ * there. Where it is handed over its options go beside it, or, in form 2, before it: as the first section.
  */
 #ifndef CHECK_H
 #define CHECK_H
@@ -32,6 +35,12 @@ static const char *const way_names[WAYS] = {"exact", "page behind", "page before
 static const uint8_t way_dirt[WAYS] = {0xa5, 0xa5, 0x5a, 0x00};
 static int way;
 
+/* The forms of a record, and of a section: the bytes before the document's count, those of an event, and those of the longest section. */
+enum form { OLD, SECOND, FORMS };
+static const char *const form_names[FORMS] = {"", "form 2, "};
+static const size_t fronts[FORMS] = {0, 5}, widths[FORMS] = {8, 12}, ample[FORMS] = {LARK_OUT_BYTES, LARK_OUT2_BYTES};
+static int form;
+
 static inline void begin(const char *name) {
     case_name = name;
     if (way == 0) cases++;
@@ -46,7 +55,7 @@ static inline void failed(void) {
 }
 
 static inline void fail(const char *what, size_t got, size_t want) {
-    printf("FAIL: %s (%s): %s is %zu, not %zu\n", case_name, way_names[way], what, got, want);
+    printf("FAIL: %s (%s%s): %s is %zu, not %zu\n", case_name, form_names[form], way_names[way], what, got, want);
     failed();
 }
 
@@ -107,7 +116,7 @@ static inline void all_are(const char *what, const uint8_t *p, size_t n, uint8_t
     size_t i;
     if (n == 0 || (p[0] == byte && memcmp(p, p + 1, n - 1) == 0)) return;
     for (i = 0; p[i] == byte;) i++;
-    printf("FAIL: %s (%s): %s, byte %zu is %u, not %u\n", case_name, way_names[way], what, i, (unsigned)p[i], (unsigned)byte);
+    printf("FAIL: %s (%s%s): %s, byte %zu is %u, not %u\n", case_name, form_names[form], way_names[way], what, i, (unsigned)p[i], (unsigned)byte);
     failed();
 }
 
@@ -116,7 +125,7 @@ static inline void same(const char *what, const uint8_t *got, const uint8_t *wan
     size_t i;
     if (n == 0 || memcmp(got, want, n) == 0) return;
     for (i = 0; got[i] == want[i];) i++;
-    printf("FAIL: %s (%s): %s, byte %zu is %u, not %u\n", case_name, way_names[way], what, i, (unsigned)got[i], (unsigned)want[i]);
+    printf("FAIL: %s (%s%s): %s, byte %zu is %u, not %u\n", case_name, form_names[form], way_names[way], what, i, (unsigned)got[i], (unsigned)want[i]);
     failed();
 }
 
@@ -136,6 +145,9 @@ static inline void take_back(struct slice s) {
 struct bytes {
     size_t n;
     uint8_t at[100000];
+    size_t events; /* how many were put since their count, */
+    size_t depth;  /* how many of these are open, and which */
+    size_t open[LARK_MAX_RESULT];
 };
 
 static inline void put(struct bytes *b, const void *from, size_t n) {
@@ -154,16 +166,39 @@ static inline void put_number(struct bytes *b, size_t number) {
     put(b, four, sizeof four);
 }
 
-/* An event of a section, or of a record that no lark_begin_record would make. */
+static inline void put_document(struct bytes *b, const char *text, size_t n) {
+    put_number(b, n);
+    put(b, text, n);
+}
+
+/* The count of the events that follow. */
+static inline void put_count(struct bytes *b, size_t events) {
+    put_number(b, events);
+    b->events = b->depth = 0;
+}
+
+/* An event of a section, or of a record that no lark_begin_record would make. In form 2 an exit and the innermost event that is open are partners; an
+ * event that has none has 0. */
 static inline void put_event(struct bytes *b, unsigned kind, unsigned name, size_t place) {
+    size_t number = b->events++, partner = 0;
     put_many(b, (uint8_t)kind, 1);
     put_many(b, (uint8_t)name, 1);
     put_many(b, 0, 2);
     put_number(b, place);
+    if (form == OLD) return;
+    if (kind == LARK_ENTER) {
+        if (b->depth == LARK_MAX_RESULT) sure(NULL);
+        b->open[b->depth++] = number;
+    } else if (b->depth) {
+        partner = b->open[--b->depth];
+        lark_put_number(b->at + b->n - 12 * (number - partner), number);
+    }
+    put_number(b, partner);
 }
 
-/* The next of events that are written as document 01 writes them: `+1@0 -1@1`. */
-static inline int next_event(const char **text, struct lark_event *event) {
+/* The next of events that are written as document 01 writes them: `+1@0 -1@1`. Behind an event its partner may stand: `+1@0/1 -1@1/0`. */
+#define UNSAID SIZE_MAX
+static inline int next_event(const char **text, struct lark_event2 *event) {
     const char *c = *text;
     char *end;
     if (*c == 0) return 0;
@@ -174,36 +209,64 @@ static inline int next_event(const char **text, struct lark_event *event) {
         exit(1);
     }
     event->place = strtoul(end + 1, &end, 10);
+    event->partner = *end == '/' ? strtoul(end + 1, &end, 10) : UNSAID;
     while (*end == ' ') end++;
     *text = end;
     return 1;
 }
 
-static inline void put_document(struct bytes *b, const char *text, size_t n) {
-    put_number(b, n);
-    put(b, text, n);
+/* Partners that are written out, true or untrue, in place of those in a section. */
+static inline void put_partners(uint8_t *section, const char *events) {
+    struct lark_event2 event;
+    size_t i;
+    for (i = 0; form == SECOND && next_event(&events, &event); i++)
+        if (event.partner != UNSAID) lark_put_number(section + 4 + 12 * i + 8, event.partner);
 }
 
 /* A record, or a section: the bytes of each stay until its next use. */
 static struct bytes record_bytes, section_bytes;
 
+/* A record that the header's functions put together: begun, with an event more, and done. */
+static struct lark_record building;
+static struct lark_record2 building2;
+static inline void begin_record(const void *text, size_t n) {
+    if (form == OLD) building = lark_begin_record(record_bytes.at, sizeof record_bytes.at, text, n);
+    if (form == SECOND) building2 = lark_begin_record2(record_bytes.at, sizeof record_bytes.at, 0, text, n);
+}
+static inline void add_event(size_t kind, size_t name, size_t place) {
+    if (form == OLD) lark_add_event(&building, kind, name, place);
+    if (form == SECOND) lark_add_event2(&building2, kind, name, place);
+}
+static inline const struct bytes *built(void) {
+    record_bytes.n = (form == OLD ? building.length : building2.length) - fronts[form];
+    memmove(record_bytes.at, record_bytes.at + fronts[form], record_bytes.n);
+    return &record_bytes;
+}
+
 static inline const struct bytes *record_of(const char *text, size_t n, const char *events) {
-    struct lark_record r = lark_begin_record(record_bytes.at, sizeof record_bytes.at, text, n);
-    struct lark_event event;
-    while (next_event(&events, &event)) lark_add_event(&r, event.kind, event.name, event.place);
-    record_bytes.n = r.length;
+    const char *rest = events;
+    struct lark_event2 event;
+    begin_record(text, n);
+    while (next_event(&rest, &event)) add_event(event.kind, event.name, event.place);
+    built();
+    put_partners(record_bytes.at + 4 + n, events);
     return &record_bytes;
 }
 static inline const struct bytes *record(const char *text, const char *events) { return record_of(text, strlen(text), events); }
 
 static inline const struct bytes *section(const char *events) {
-    struct lark_event event;
+    const char *rest = events;
+    struct lark_event2 event;
     section_bytes.n = 0;
-    put_number(&section_bytes, 0);
-    while (next_event(&events, &event)) put_event(&section_bytes, (unsigned)event.kind, (unsigned)event.name, event.place);
-    lark_put_number(section_bytes.at, (section_bytes.n - 4) / 8);
+    put_count(&section_bytes, 0);
+    while (next_event(&rest, &event)) put_event(&section_bytes, (unsigned)event.kind, (unsigned)event.name, event.place);
+    lark_put_number(section_bytes.at, section_bytes.events);
+    put_partners(section_bytes.at, events);
     return &section_bytes;
 }
+
+/* Where event `i` stands in a record with a document of `d` bytes; behind the last event, the record's end. */
+static inline size_t event_place(size_t d, size_t i) { return 8 + d + widths[form] * i; }
 
 /* A record of bare bytes: text with its length, so that zeros may stand in it. */
 static inline const struct bytes *raw(const char *text, size_t n) {
@@ -213,9 +276,44 @@ static inline const struct bytes *raw(const char *text, size_t n) {
 }
 #define RAW(text) raw(text, sizeof(text) - 1)
 
+/* A record as a call is lent it: in form 2 with its first section. */
+static inline const struct bytes *handed(const struct bytes *r, uint32_t options) {
+    static struct bytes whole;
+    whole.n = 0;
+    if (form == SECOND) put_number(&whole, 1), put_many(&whole, (uint8_t)options, 1);
+    put(&whole, r->at, r->n);
+    return &whole;
+}
+
+/* A place in that record: numbers 3 to 6 have one. */
+static inline size_t handed_place(size_t number, size_t place) { return number >= 3 && number <= 6 ? fronts[form] + place : place; }
+
 /* --- calls, with everything looked at --- */
 
 typedef struct lark_resolved resolver(const uint8_t *, size_t, uint32_t, uint8_t *, size_t, uint8_t *, size_t);
+typedef struct lark_resolved resolver2(const uint8_t *, size_t, uint8_t *, size_t, uint8_t *, size_t);
+enum { ATTENTION, HEADINGS, LISTS, RESOLVERS };
+static resolver *const resolvers[RESOLVERS] = {lark_resolve_attention, lark_resolve_headings, lark_resolve_lists};
+static resolver2 *const resolvers2[RESOLVERS] = {lark_resolve_attention2, lark_resolve_headings2, lark_resolve_lists2};
+
+/* A resolver for a record as it was handed over, and lark_read. Form 2's options are looked at here. */
+static inline struct lark_resolved resolve(int which, const uint8_t *record, size_t record_length, uint32_t options, uint8_t *out, size_t out_length,
+                                           uint8_t *work, size_t work_length) {
+    if (form == SECOND) return resolvers2[which](record, record_length, out, out_length, work, work_length);
+    return resolvers[which](record, record_length, options, out, out_length, work, work_length);
+}
+static inline struct lark_reading read_record(const uint8_t *record, size_t record_length, uint32_t options, uint8_t *work, size_t work_length) {
+    struct lark_reading got;
+    struct lark_reading2 got2;
+    if (form == OLD) return lark_read(record, record_length, options, work, work_length);
+    got2 = lark_read2(record, record_length, work, work_length);
+    equal("options", got2.options, got2.number ? 0 : options);
+    got.number = got2.number;
+    got.place = got2.place;
+    got.document = got2.document;
+    got.events = got2.events;
+    return got;
+}
 
 /* The output is the section, if there is one, and behind it as dirty as before. */
 static inline void output_is(struct slice out, const struct bytes *want) {
@@ -228,23 +326,34 @@ static inline void output_is(struct slice out, const struct bytes *want) {
     if (out.n > n) all_are(n ? "output past the section" : "output that must stay", out.p + n, out.n - n, way_dirt[way]);
 }
 
-static inline void reads(const struct bytes *r, uint32_t options, size_t work_length, size_t number, size_t place, size_t document, size_t events) {
+/* A record that was handed over is read. */
+static inline void reads_handed(const struct bytes *r, uint32_t options, size_t work_length, struct lark_reading want) {
     struct slice in = lend_bytes(r->at, r->n), work = lend(work_length);
-    struct lark_reading got = lark_read(in.p, in.n, options, work.p, work.n);
-    equal("number", got.number, number);
-    equal("place", got.place, place);
-    equal("document", got.document, document);
-    equal("events", got.events, events);
+    struct lark_reading got = read_record(in.p, in.n, options, work.p, work.n);
+    equal("number", got.number, want.number);
+    equal("place", got.place, want.place);
+    equal("document", got.document, want.document);
+    equal("events", got.events, want.events);
     same("the record", in.p, r->at, r->n);
     all_are("work memory", work.p, work.n, 0);
     take_back(in);
     take_back(work);
 }
 
-static inline void resolves_with(resolver *call, const struct bytes *r, uint32_t options, size_t out_length, size_t work_length,
-                          struct lark_resolved want, const struct bytes *result) {
+static inline void reads(const struct bytes *r, uint32_t options, size_t work_length, size_t number, size_t place, size_t document, size_t events) {
+    struct lark_reading want;
+    want.number = number;
+    want.place = handed_place(number, place);
+    want.document = document;
+    want.events = events;
+    reads_handed(handed(r, options), options, work_length, want);
+}
+
+/* A record that was handed over is resolved. */
+static inline void resolves_handed(int which, const struct bytes *r, uint32_t options, size_t out_length, size_t work_length,
+                                   struct lark_resolved want, const struct bytes *result) {
     struct slice in = lend_bytes(r->at, r->n), out = lend(out_length), work = lend(work_length);
-    struct lark_resolved got = call(in.p, in.n, options, out.p, out.n, work.p, work.n);
+    struct lark_resolved got = resolve(which, in.p, in.n, options, out.p, out.n, work.p, work.n);
     equal("number", got.number, want.number);
     equal("place", got.place, want.place);
     equal("events", got.events, want.events);
@@ -259,38 +368,54 @@ static inline void resolves_with(resolver *call, const struct bytes *r, uint32_t
 }
 
 /* A resolver accepts and writes this section, into an output of this length. */
-static inline void resolves_into(size_t out_length, size_t work_length, resolver *call, const struct bytes *r, uint32_t options, size_t groups,
+static inline void resolves_into(size_t out_length, size_t work_length, int which, const struct bytes *r, uint32_t options, size_t groups,
                                  size_t tried, const struct bytes *result) {
     struct lark_resolved want;
     want.number = want.place = 0;
-    want.events = (result->n - 4) / 8;
+    want.events = (result->n - 4) / widths[form];
     want.groups = groups;
     want.tried = tried;
-    resolves_with(call, r, options, out_length, work_length, want, result);
+    resolves_handed(which, handed(r, options), options, out_length, work_length, want, result);
 }
 
-/* The same into ample output, into output of just its length, and with more output and work memory than is needed. 65,536 cut to 16 bits is 0. */
-static inline void resolves(resolver *call, const struct bytes *r, uint32_t options, size_t groups, size_t tried, const struct bytes *result) {
-    resolves_into(LARK_OUT_BYTES, LARK_WORK_BYTES, call, r, options, groups, tried, result);
-    resolves_into(result->n, LARK_WORK_BYTES, call, r, options, groups, tried, result);
-    resolves_into(result->n + 1, LARK_WORK_BYTES + 4099, call, r, options, groups, tried, result);
-    resolves_into(65536, LARK_WORK_BYTES + 65536, call, r, options, groups, tried, result);
+/* The same into ample output, into output of just its length, and with more output and work memory than is needed. 65,536 and 131,072 cut to 16 bits
+ * are 0. */
+static inline void resolves(int which, const struct bytes *r, uint32_t options, size_t groups, size_t tried, const struct bytes *result) {
+    resolves_into(ample[form], LARK_WORK_BYTES, which, r, options, groups, tried, result);
+    resolves_into(result->n, LARK_WORK_BYTES, which, r, options, groups, tried, result);
+    resolves_into(result->n + 1, LARK_WORK_BYTES + 4099, which, r, options, groups, tried, result);
+    resolves_into(131072, LARK_WORK_BYTES + 65536, which, r, options, groups, tried, result);
 }
 
-static inline void refuses(resolver *call, const struct bytes *r, uint32_t options, size_t out_length, size_t work_length, size_t number,
-                    size_t place) {
+static inline struct lark_resolved refusal(size_t number, size_t place) {
     struct lark_resolved want;
     want.number = number;
     want.place = place;
     want.events = want.groups = want.tried = 0;
-    resolves_with(call, r, options, out_length, work_length, want, NULL);
+    return want;
+}
+
+static inline void refuses(int which, const struct bytes *r, uint32_t options, size_t out_length, size_t work_length, size_t number, size_t place) {
+    resolves_handed(which, handed(r, options), options, out_length, work_length, refusal(number, handed_place(number, place)), NULL);
+}
+
+/* Refused with 6 at a place, with ample output and with none. */
+static inline void refuses_shape(int which, const struct bytes *r, uint32_t options, size_t place) {
+    refuses(which, r, options, ample[form], LARK_WORK_BYTES, 6, place);
+    refuses(which, r, options, 0, LARK_WORK_BYTES, 6, place);
 }
 
 /* Behind a document of 300 bytes the first event is refused with 6: at a place that eight bits do not hold. */
-static inline void refuses_far_on(resolver *call, const char *events) {
+static inline void refuses_far_on(int which, const char *events) {
     static char text[300];
     memset(text, 'a', sizeof text);
-    refuses(call, record_of(text, sizeof text, events), 63, LARK_OUT_BYTES, LARK_WORK_BYTES, 6, 308);
+    refuses_shape(which, record_of(text, sizeof text, events), 63, event_place(300, 0));
+}
+
+/* Refused with 8: every output that is shorter than a section of so many events. */
+static inline void refuses_output(int which, const struct bytes *r, uint32_t options, size_t events) {
+    size_t n;
+    for (n = 0; n < 4 + widths[form] * events; n++) refuses(which, r, options, n, LARK_WORK_BYTES, 8, 0);
 }
 
 /* --- the program --- */
@@ -319,6 +444,14 @@ static inline int report(void) {
 static inline int in_every_way(void (*all)(void)) {
     watch();
     for (way = 0; way < WAYS; way++) all();
+    return report();
+}
+
+/* And for either form of a record. */
+static inline int in_every_form(void (*all)(void)) {
+    watch();
+    for (way = 0; way < WAYS; way++)
+        for (form = 0; form < FORMS; form++) all();
     return report();
 }
 

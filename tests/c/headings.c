@@ -1,10 +1,10 @@
-/* lark_resolve_headings: the text rule on document 01's cases, and numbers 6 and 8. No record can bring number 7 about: a heading of six events
- * becomes one of eight, so that 2,048 events become 2,730 at most.
+/* lark_resolve_headings in either form: the text rule on document 01's cases, and numbers 6 and 8. No record can bring number 7 about: a heading of
+ * six events becomes one of eight, so that 2,048 events become 2,730 at most.
  */
 #include "check.h"
 
 static void headings(const char *text, uint32_t options, const char *events, const char *result) {
-    resolves(lark_resolve_headings, record(text, events), options, 0, 0, section(result));
+    resolves(HEADINGS, record(text, events), options, 0, 0, section(result));
 }
 
 static void texts(void) {
@@ -57,44 +57,39 @@ static void every_option(void) {
         headings("#a", options, "+11@0 +12@0 -12@1 +0@1 -0@2 -11@2", "+11@0 +12@0 -12@1 +13@1 +0@1 -0@2 -13@2 -11@2");
 }
 
-/* Refused with 6 at a place, with ample output and with none. */
-static void shape(const char *text, const char *events, size_t place) {
-    refuses(lark_resolve_headings, record(text, events), 63, LARK_OUT_BYTES, LARK_WORK_BYTES, 6, place);
-    refuses(lark_resolve_headings, record(text, events), 63, 0, LARK_WORK_BYTES, 6, place);
+/* Refused with 6 at an event. */
+static void shape(const char *text, const char *events, size_t at) {
+    refuses_shape(HEADINGS, record(text, events), 63, event_place(strlen(text), at));
 }
 
 static void number_6(void) {
     begin("6: a heading with nothing in it");
-    shape("#", "+11@0 -11@1", 9);
+    shape("#", "+11@0 -11@1", 0);
     begin("6: no sequence");
-    shape("a", "+11@0 +0@0 -0@1 -11@1", 9);
+    shape("a", "+11@0 +0@0 -0@1 -11@1", 0);
     begin("6: a space alone");
-    shape(" ", "+11@0 +14@0 -14@1 -11@1", 9);
+    shape(" ", "+11@0 +14@0 -14@1 -11@1", 0);
     begin("6: two spaces and then the sequence");
-    shape("  #", "+11@0 +14@0 -14@1 +14@1 -14@2 +12@2 -12@3 -11@3", 11);
+    shape("  #", "+11@0 +14@0 -14@1 +14@1 -14@2 +12@2 -12@3 -11@3", 0);
     begin("6: another name");
-    shape("# a", "+11@0 +12@0 -12@1 +24@1 -24@2 -11@3", 11);
+    shape("# a", "+11@0 +12@0 -12@1 +24@1 -24@2 -11@3", 0);
     begin("6: a pair that holds one");
-    shape("# a", "+11@0 +12@0 -12@1 +0@2 +0@2 -0@3 -0@3 -11@3", 11);
+    shape("# a", "+11@0 +12@0 -12@1 +0@2 +0@2 -0@3 -0@3 -11@3", 0);
     begin("6: a heading in a heading: the outer offends");
-    shape("# a", "+11@0 +12@0 -12@1 +11@1 +12@1 -12@1 -11@1 -11@3", 11);
+    shape("# a", "+11@0 +12@0 -12@1 +11@1 +12@1 -12@1 -11@1 -11@3", 0);
     begin("6: a heading that is resolved already");
-    shape("# a", "+11@0 +12@0 -12@1 +14@1 -14@2 +13@2 +0@2 -0@3 -13@3 -11@3", 11);
+    shape("# a", "+11@0 +12@0 -12@1 +14@1 -14@2 +13@2 +0@2 -0@3 -13@3 -11@3", 0);
     begin("6: the earliest heading that offends");
-    shape("# a", "+11@0 +12@0 -12@1 -11@1 +11@2 -11@3 +11@3 -11@3", 11 + 8 * 4);
+    shape("# a", "+11@0 +12@0 -12@1 -11@1 +11@2 -11@3 +11@3 -11@3", 4);
     begin("6: far on");
-    refuses_far_on(lark_resolve_headings, "+11@0 -11@0");
+    refuses_far_on(HEADINGS, "+11@0 -11@0");
 }
 
 static void number_8(void) {
-    size_t n;
-    begin("8: every length under 84 for `# a b`");
-    for (n = 0; n < 84; n++)
-        refuses(lark_resolve_headings, record("# a b", "+11@0 +12@0 -12@1 +14@1 -14@2 +0@2 -0@3 +14@3 -14@4 +0@4 -0@5 -11@5"), 63, n,
-                LARK_WORK_BYTES, 8, 0);
-    begin("8: no output for no events");
-    refuses(lark_resolve_headings, record("", ""), 63, 0, LARK_WORK_BYTES, 8, 0);
-    refuses(lark_resolve_headings, record("", ""), 63, 3, LARK_WORK_BYTES, 8, 0);
+    begin("8: every length that is too short for the ten events that `# a b` becomes");
+    refuses_output(HEADINGS, record("# a b", "+11@0 +12@0 -12@1 +14@1 -14@2 +0@2 -0@3 +14@3 -14@4 +0@4 -0@5 -11@5"), 63, 10);
+    begin("8: every length that is too short for no events");
+    refuses_output(HEADINGS, record("", ""), 63, 0);
 }
 
 /* As many headings as a record can hold. */
@@ -103,8 +98,8 @@ static void many(void) {
     begin("341 headings of six events");
     record_bytes.n = section_bytes.n = 0;
     put_document(&record_bytes, "#a", 2);
-    put_number(&record_bytes, 341 * 6);
-    put_number(&section_bytes, 341 * 8);
+    put_count(&record_bytes, 341 * 6);
+    put_count(&section_bytes, 341 * 8);
     for (i = 0; i < 341; i++) {
         size_t at = i == 340 ? 2 : 0, end = i < 339 ? 0 : 2;
         put_event(&record_bytes, LARK_ENTER, 11, at);
@@ -122,7 +117,7 @@ static void many(void) {
         put_event(&section_bytes, LARK_EXIT, 13, end);
         put_event(&section_bytes, LARK_EXIT, 11, end);
     }
-    resolves(lark_resolve_headings, &record_bytes, 63, 0, 0, &section_bytes);
+    resolves(HEADINGS, &record_bytes, 63, 0, 0, &section_bytes);
 }
 
 static void all(void) {
@@ -133,4 +128,4 @@ static void all(void) {
     many();
 }
 
-int main(void) { return in_every_way(all); }
+int main(void) { return in_every_form(all); }

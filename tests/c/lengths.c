@@ -23,20 +23,21 @@ static void is_wiped(void) {
     memset(work, 0xa5, sizeof work);
 }
 
-/* The resolvers with an output of OVER bytes, the record being whole; then with a record that OVER bytes follow. */
-static void resolver_lengths(const char *name, resolver *call, const struct bytes *r, size_t groups, const struct bytes *want) {
+/* A resolver with an output of OVER bytes, the record being whole; then with a record that OVER bytes follow. */
+static void resolver_lengths(const char *name, int which, const struct bytes *built, size_t groups, const struct bytes *want) {
+    const struct bytes *r = handed(built, 63);
     uint8_t *in = vast(r->at, r->n), *out = vast(NULL, 0);
     struct lark_resolved got;
     begin(name);
-    got = call(in, r->n, 63, out, OVER, work, sizeof work);
+    got = resolve(which, in, r->n, 63, out, OVER, work, sizeof work);
     equal("number", got.number, 0);
-    equal("events", got.events, (want->n - 4) / 8);
+    equal("events", got.events, (want->n - 4) / widths[form]);
     equal("groups", got.groups, groups);
     same("the section", out, want->at, want->n);
     all_are("output past the section", out + want->n, PAGES - want->n, 0xa5);
     is_wiped();
     memset(out, 0xa5, want->n);
-    got = call(in, OVER + r->n, 63, out, PAGES, work, sizeof work);
+    got = resolve(which, in, OVER + r->n, 63, out, PAGES, work, sizeof work);
     equal("number, with a record too long,", got.number, 3);
     equal("place, with a record too long,", got.place, r->n);
     equal("events, with a record too long,", got.events, 0);
@@ -47,17 +48,27 @@ static void resolver_lengths(const char *name, resolver *call, const struct byte
 }
 
 static void read_lengths(void) {
-    const struct bytes *r = record("ab", "+0@0 -0@2");
+    const struct bytes *r = handed(record("ab", "+0@0 -0@2"), 63);
     uint8_t *in = vast(r->at, r->n);
     struct lark_reading got;
     begin("lark_read");
-    got = lark_read(in, OVER + r->n, 63, work, sizeof work);
+    got = read_record(in, OVER + r->n, 63, work, sizeof work);
     equal("number", got.number, 3);
     equal("place", got.place, r->n);
     equal("document", got.document, 0);
     equal("events", got.events, 0);
     is_wiped();
     munmap(in, OVER + PAGES);
+}
+
+static void record_lengths(void) {
+    read_lengths();
+    resolver_lengths("lark_resolve_attention", ATTENTION, record("*a*", "+1@0 -1@1 +0@1 -0@2 +1@2 -1@3"), 1,
+                     section("+2@0 +3@0 -3@1 +4@1 +0@1 -0@2 -4@2 +3@2 -3@3 -2@3"));
+    resolver_lengths("lark_resolve_headings", HEADINGS, record("# a", "+11@0 +12@0 -12@1 +14@1 -14@2 +0@2 -0@3 -11@3"), 0,
+                     section("+11@0 +12@0 -12@1 +14@1 -14@2 +13@2 +0@2 -0@3 -13@3 -11@3"));
+    resolver_lengths("lark_resolve_lists", LISTS, record("-", "+15@0 +16@0 +17@0 -17@1 -16@1 -15@1"), 0,
+                     section("+20@0 +15@0 +16@0 +17@0 -17@1 -16@1 -15@1 -20@1"));
 }
 
 /* The line readers, for which OVER + 4 bytes are too long a line; and a heading into an output of OVER bytes. */
@@ -103,13 +114,8 @@ static void line_lengths(void) {
 int main(void) {
     watch();
     memset(work, 0xa5, sizeof work);
-    read_lengths();
-    resolver_lengths("lark_resolve_attention", lark_resolve_attention, record("*a*", "+1@0 -1@1 +0@1 -0@2 +1@2 -1@3"), 1,
-                     section("+2@0 +3@0 -3@1 +4@1 +0@1 -0@2 -4@2 +3@2 -3@3 -2@3"));
-    resolver_lengths("lark_resolve_headings", lark_resolve_headings, record("# a", "+11@0 +12@0 -12@1 +14@1 -14@2 +0@2 -0@3 -11@3"), 0,
-                     section("+11@0 +12@0 -12@1 +14@1 -14@2 +13@2 +0@2 -0@3 -13@3 -11@3"));
-    resolver_lengths("lark_resolve_lists", lark_resolve_lists, record("-", "+15@0 +16@0 +17@0 -17@1 -16@1 -15@1"), 0,
-                     section("+20@0 +15@0 +16@0 +17@0 -17@1 -16@1 -15@1 -20@1"));
+    for (form = 0; form < FORMS; form++) record_lengths();
+    form = OLD;
     line_lengths();
     return report();
 }

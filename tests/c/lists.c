@@ -1,10 +1,10 @@
-/* lark_resolve_lists: which items get a list round them, by document 01's rule, and numbers 6 and 8. No record can bring number 7 about: an item
- * has six events at least and a list adds two.
+/* lark_resolve_lists in either form: which items get a list round them, by document 01's rule, and numbers 6 and 8. No record can bring number 7
+ * about: an item has six events at least and a list adds two.
  */
 #include "check.h"
 
 static void lists(const char *text, uint32_t options, const char *events, const char *result) {
-    resolves(lark_resolve_lists, record(text, events), options, 0, 0, section(result));
+    resolves(LISTS, record(text, events), options, 0, 0, section(result));
 }
 
 /* An item of six events with its mark at `at`: no space, no content. */
@@ -62,50 +62,47 @@ static void every_option(void) {
     for (options = 0; options <= 63; options++) lists("-", options, ITEM("0", "1"), "+20@0 " ITEM("0", "1") "-20@1");
 }
 
-/* Refused with 6 at a place, with ample output and with none. */
-static void shape(const char *text, const char *events, size_t place) {
-    refuses(lark_resolve_lists, record(text, events), 63, LARK_OUT_BYTES, LARK_WORK_BYTES, 6, place);
-    refuses(lark_resolve_lists, record(text, events), 63, 0, LARK_WORK_BYTES, 6, place);
+/* Refused with 6 at an event. */
+static void shape(const char *text, const char *events, size_t at) {
+    refuses_shape(LISTS, record(text, events), 63, event_place(strlen(text), at));
 }
 
 static void number_6(void) {
     begin("6: an item with nothing in it");
-    shape("-", "+15@0 -15@1", 9);
+    shape("-", "+15@0 -15@1", 0);
     begin("6: no marker in the prefix");
-    shape("-", "+15@0 +16@0 -16@1 -15@1", 9);
+    shape("-", "+15@0 +16@0 -16@1 -15@1", 0);
     begin("6: two spaces before the prefix");
-    shape("  -", "+15@0 +14@0 -14@1 +14@1 -14@2 +16@2 +17@2 -17@3 -16@3 -15@3", 11);
+    shape("  -", "+15@0 +14@0 -14@1 +14@1 -14@2 +16@2 +17@2 -17@3 -16@3 -15@3", 0);
     begin("6: something else before the prefix");
-    shape("-", "+15@0 +0@0 -0@0 +16@0 +17@0 -17@1 -16@1 -15@1", 9);
+    shape("-", "+15@0 +0@0 -0@0 +16@0 +17@0 -17@1 -16@1 -15@1", 0);
     begin("6: a marker over two bytes");
-    shape("--", "+15@0 +16@0 +17@0 -17@2 -16@2 -15@2", 10);
+    shape("--", "+15@0 +16@0 +17@0 -17@2 -16@2 -15@2", 0);
     begin("6: a marker over no byte");
-    shape("-", "+15@0 +16@0 +17@0 -17@0 -16@0 -15@0", 9);
+    shape("-", "+15@0 +16@0 +17@0 -17@0 -16@0 -15@0", 0);
     begin("6: a marker that is no mark");
-    shape("a", "+15@0 +16@0 +17@0 -17@1 -16@1 -15@1", 9);
+    shape("a", "+15@0 +16@0 +17@0 -17@1 -16@1 -15@1", 0);
     begin("6: a marker that holds a pair");
-    shape("-", "+15@0 +16@0 +17@0 +0@0 -0@1 -17@1 -16@1 -15@1", 9);
+    shape("-", "+15@0 +16@0 +17@0 +0@0 -0@1 -17@1 -16@1 -15@1", 0);
     begin("6: two spaces in the prefix");
-    shape("-  ", "+15@0 +16@0 +17@0 -17@1 +14@1 -14@2 +14@2 -14@3 -16@3 -15@3", 11);
+    shape("-  ", "+15@0 +16@0 +17@0 -17@1 +14@1 -14@2 +14@2 -14@3 -16@3 -15@3", 0);
     begin("6: two values");
-    shape("1.", "+15@0 +16@0 +18@0 -18@0 +18@0 -18@1 +17@1 -17@2 -16@2 -15@2", 10);
+    shape("1.", "+15@0 +16@0 +18@0 -18@0 +18@0 -18@1 +17@1 -17@2 -16@2 -15@2", 0);
     begin("6: an item right after an item: the later offends");
-    shape("--", ITEM("0", "1") ITEM("1", "2"), 10 + 8 * 6);
+    shape("--", ITEM("0", "1") ITEM("1", "2"), 6);
     begin("6: the earliest item that offends");
-    shape("-\n-", ITEM("0", "1") "+21@1 -21@2 +15@2 -15@2 +21@2 -21@2 +15@2 -15@3", 11 + 8 * 8);
+    shape("-\n-", ITEM("0", "1") "+21@1 -21@2 +15@2 -15@2 +21@2 -21@2 +15@2 -15@3", 8);
     begin("6: far on");
-    refuses_far_on(lark_resolve_lists, "+15@0 -15@0");
+    refuses_far_on(LISTS, "+15@0 -15@0");
     begin("an empty pair between two items is enough");
     lists("--", 63, ITEM("0", "1") "+14@1 -14@1 " ITEM("1", "2"), "+20@0 " ITEM("0", "1") "+14@1 -14@1 " ITEM("1", "2") "-20@2");
 }
 
 static void number_8(void) {
-    size_t n;
-    begin("8: every length under 68 for `-`");
-    for (n = 0; n < 68; n++) refuses(lark_resolve_lists, record("-", ITEM("0", "1")), 63, n, LARK_WORK_BYTES, 8, 0);
-    begin("8: no output for no events");
-    refuses(lark_resolve_lists, record("", ""), 63, 0, LARK_WORK_BYTES, 8, 0);
-    refuses(lark_resolve_lists, record("", ""), 63, 3, LARK_WORK_BYTES, 8, 0);
+    begin("8: every length that is too short for the eight events that `-` becomes");
+    refuses_output(LISTS, record("-", ITEM("0", "1")), 63, 8);
+    begin("8: every length that is too short for no events");
+    refuses_output(LISTS, record("", ""), 63, 0);
 }
 
 /* An item up to where its content begins, and a whole one with none. */
@@ -128,8 +125,8 @@ static void deep(void) {
     record_bytes.n = section_bytes.n = 0;
     put_number(&record_bytes, 62);
     put_many(&record_bytes, '-', 62);
-    put_number(&record_bytes, 62 * 6);
-    put_number(&section_bytes, 62 * 8);
+    put_count(&record_bytes, 62 * 6);
+    put_count(&section_bytes, 62 * 8);
     for (i = 0; i < 62; i++) {
         put_event(&section_bytes, LARK_ENTER, 20, i);
         put_start(&record_bytes, i);
@@ -140,7 +137,7 @@ static void deep(void) {
         put_event(&section_bytes, LARK_EXIT, 15, 62);
         put_event(&section_bytes, LARK_EXIT, 20, 62);
     }
-    resolves(lark_resolve_lists, &record_bytes, 63, 0, 0, &section_bytes);
+    resolves(LISTS, &record_bytes, 63, 0, 0, &section_bytes);
 }
 
 /* As many items as a record can hold, in one list, and each in a list of its own. */
@@ -150,8 +147,8 @@ static void many(void) {
     record_bytes.n = section_bytes.n = 0;
     put_number(&record_bytes, 256);
     put_many(&record_bytes, '-', 256);
-    put_number(&record_bytes, 256 * 6 + 255 * 2);
-    put_number(&section_bytes, 256 * 6 + 255 * 2 + 2);
+    put_count(&record_bytes, 256 * 6 + 255 * 2);
+    put_count(&section_bytes, 256 * 6 + 255 * 2 + 2);
     put_event(&section_bytes, LARK_ENTER, 20, 0);
     for (i = 0; i < 256; i++) {
         if (i) {
@@ -164,14 +161,14 @@ static void many(void) {
         put_item(&section_bytes, i);
     }
     put_event(&section_bytes, LARK_EXIT, 20, 256);
-    resolves(lark_resolve_lists, &record_bytes, 63, 0, 0, &section_bytes);
+    resolves(LISTS, &record_bytes, 63, 0, 0, &section_bytes);
 
     begin("256 lists of one item");
     record_bytes.n = section_bytes.n = 0;
     put_number(&record_bytes, 256);
     for (i = 0; i < 256; i++) put_many(&record_bytes, i % 2 ? '.' : '-', 1);
-    put_number(&record_bytes, 256 * 6 + 255 * 2);
-    put_number(&section_bytes, 256 * 8 + 255 * 2);
+    put_count(&record_bytes, 256 * 6 + 255 * 2);
+    put_count(&section_bytes, 256 * 8 + 255 * 2);
     for (i = 0; i < 256; i++) {
         if (i) {
             put_event(&record_bytes, LARK_ENTER, 21, i);
@@ -184,7 +181,7 @@ static void many(void) {
         put_item(&section_bytes, i);
         put_event(&section_bytes, LARK_EXIT, i % 2 ? 19 : 20, i + 1);
     }
-    resolves(lark_resolve_lists, &record_bytes, 63, 0, 0, &section_bytes);
+    resolves(LISTS, &record_bytes, 63, 0, 0, &section_bytes);
 }
 
 static void all(void) {
@@ -196,4 +193,4 @@ static void all(void) {
     many();
 }
 
-int main(void) { return in_every_way(all); }
+int main(void) { return in_every_form(all); }

@@ -4,8 +4,8 @@
 #include <stdio.h>
 #include <string.h>
 
-static uint8_t out[LARK_OUT_BYTES], work[LARK_WORK_BYTES];
-static const uint8_t empty[8] = {0}; /* no document, no events */
+static uint8_t out[LARK_OUT2_BYTES], work[LARK_WORK_BYTES];
+static const uint8_t empty[8] = {0}, empty2[13] = {1, 0, 0, 0, 63}; /* no document, no events */
 static const uint8_t hash[] = {'#'};
 static unsigned cases, failures;
 
@@ -29,27 +29,47 @@ static void holds(const char *name, int held) {
     }
 }
 
-typedef struct lark_resolved resolver(const uint8_t *, size_t, uint32_t, uint8_t *, size_t, uint8_t *, size_t);
+/* A resolver, which is of the old form or of form 2. */
+struct resolver {
+    const char *name;
+    struct lark_resolved (*old)(const uint8_t *, size_t, uint32_t, uint8_t *, size_t, uint8_t *, size_t);
+    struct lark_resolved (*second)(const uint8_t *, size_t, uint8_t *, size_t, uint8_t *, size_t);
+};
+static const struct resolver resolvers[] = {{"lark_resolve_attention", lark_resolve_attention, NULL},
+                                            {"lark_resolve_headings", lark_resolve_headings, NULL},
+                                            {"lark_resolve_lists", lark_resolve_lists, NULL},
+                                            {"lark_resolve_attention2", NULL, lark_resolve_attention2},
+                                            {"lark_resolve_headings2", NULL, lark_resolve_headings2},
+                                            {"lark_resolve_lists2", NULL, lark_resolve_lists2}};
 
-static int refused(struct lark_resolved r, size_t number, size_t place) {
-    return r.number == number && r.place == place && r.events == 0 && r.groups == 0 && r.tried == 0;
+/* Whether it refuses so, lent the empty record or none, an output or none, work memory or none. */
+static int refused(const struct resolver *call, int with_record, int with_out, int with_work, size_t number) {
+    const uint8_t *in = !with_record ? NULL : call->old ? empty : empty2;
+    size_t in_length = !with_record ? 0 : call->old ? sizeof empty : sizeof empty2, out_length = with_out ? sizeof out : 0;
+    size_t work_length = with_work ? sizeof work : 0;
+    uint8_t *o = with_out ? out : NULL, *w = with_work ? work : NULL;
+    struct lark_resolved r = call->old ? call->old(in, in_length, 63, o, out_length, w, work_length)
+                                       : call->second(in, in_length, o, out_length, w, work_length);
+    return r.number == number && r.place == 0 && r.events == 0 && r.groups == 0 && r.tried == 0 && (!with_work || wiped());
 }
 
-static void resolver_nulls(const char *name, resolver *call) {
-    printf("%s\n", name);
-    holds("record", refused(call(NULL, 0, 63, out, sizeof out, work, sizeof work), 3, 0) && wiped());
-    holds("output", refused(call(empty, sizeof empty, 63, NULL, 0, work, sizeof work), 8, 0) && wiped());
-    holds("work memory", refused(call(empty, sizeof empty, 63, out, sizeof out, NULL, 0), 1, 0));
-    holds("record and output", refused(call(NULL, 0, 63, NULL, 0, work, sizeof work), 3, 0) && wiped());
-    holds("all three", refused(call(NULL, 0, 63, NULL, 0, NULL, 0), 1, 0));
+static void resolver_nulls(const struct resolver *call) {
+    printf("%s\n", call->name);
+    holds("record", refused(call, 0, 1, 1, 3));
+    holds("output", refused(call, 1, 0, 1, 8));
+    holds("work memory", refused(call, 1, 1, 0, 1));
+    holds("record and output", refused(call, 0, 0, 1, 3));
+    holds("all three", refused(call, 0, 0, 0, 1));
 }
 
 int main(void) {
     struct lark_reading r;
+    struct lark_reading2 r2;
     struct lark_spaces s;
     struct lark_item i;
     struct lark_going g;
     struct lark_headed h;
+    size_t call;
     memset(out, 0xa5, sizeof out);
     memset(work, 0xa5, sizeof work);
 
@@ -61,9 +81,15 @@ int main(void) {
     r = lark_read(NULL, 0, 63, NULL, 0);
     holds("both", r.number == 1 && r.place == 0 && r.document == 0 && r.events == 0);
 
-    resolver_nulls("lark_resolve_attention", lark_resolve_attention);
-    resolver_nulls("lark_resolve_headings", lark_resolve_headings);
-    resolver_nulls("lark_resolve_lists", lark_resolve_lists);
+    printf("lark_read2\n");
+    r2 = lark_read2(NULL, 0, work, sizeof work);
+    holds("record", r2.number == 3 && r2.place == 0 && r2.options == 0 && r2.document == 0 && r2.events == 0 && wiped());
+    r2 = lark_read2(empty2, sizeof empty2, NULL, 0);
+    holds("work memory", r2.number == 1 && r2.place == 0 && r2.options == 0 && r2.document == 0 && r2.events == 0);
+    r2 = lark_read2(NULL, 0, NULL, 0);
+    holds("both", r2.number == 1 && r2.place == 0 && r2.options == 0 && r2.document == 0 && r2.events == 0);
+
+    for (call = 0; call < sizeof resolvers / sizeof *resolvers; call++) resolver_nulls(&resolvers[call]);
 
     printf("lark_space_or_tab\n");
     s = lark_space_or_tab(NULL, 0, 63, 0, 0, 3);
