@@ -9,14 +9,18 @@
 /* The bytes that are shared. Those that no call uses take no room. */
 #define SHARED ((size_t)256 << 20)
 
-enum { READ, RESOLVE_ATTENTION, RESOLVE_HEADINGS, RESOLVE_LISTS, SPACE_OR_TAB, LIST_ITEM, CONTINUATION, HEADING };
+enum {
+    READ, RESOLVE_ATTENTION, RESOLVE_HEADINGS, RESOLVE_LISTS,
+    READ2, RESOLVE_ATTENTION2, RESOLVE_HEADINGS2, RESOLVE_LISTS2,
+    SPACE_OR_TAB, LIST_ITEM, CONTINUATION, HEADING
+};
 
 /* The slices of a call: what is read, the output, the work memory. */
 enum { INPUT, OUT, WORK, SLICES };
 
 struct call {
-    uint32_t name;           /* which of the eight */
-    uint32_t options;
+    uint32_t name;           /* which of the twelve */
+    uint32_t options;        /* beside what is read; 0 in form 2, which has them in it */
     uint64_t place[SLICES];  /* where each slice stands in what is shared; 0 is NULL */
     uint64_t length[SLICES]; /* and its length */
     uint64_t column;         /* where a line starts */

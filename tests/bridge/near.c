@@ -1,4 +1,4 @@
-/* The near side of the bridge: the eight calls for a processor that is not x86-64, so that programs which cannot be compiled for x86-64 here are
+/* The near side of the bridge: the twelve calls for a processor that is not x86-64, so that programs which cannot be compiled for x86-64 here are
  * tested with the library all the same. Each call is made by a second process (far.c), which the emulator runs. FAR is that process's command
  * line: strings with commas between them.
  *
@@ -103,12 +103,18 @@ static struct call cross(struct call c, const uint8_t *in, size_t in_length, uin
     return c;
 }
 
-/* The eight calls, as the header has them. */
+/* The twelve calls, as the header has them. */
 
 struct lark_reading lark_read(const uint8_t *record, size_t record_length, uint32_t options, uint8_t *work, size_t work_length) {
     struct call c = {.name = READ, .options = options};
     c = cross(c, record, record_length, NULL, 0, work, work_length);
     return (struct lark_reading){c.answer[0], c.answer[1], c.answer[2], c.answer[3]};
+}
+
+struct lark_reading2 lark_read2(const uint8_t *record, size_t record_length, uint8_t *work, size_t work_length) {
+    struct call c = {.name = READ2};
+    c = cross(c, record, record_length, NULL, 0, work, work_length);
+    return (struct lark_reading2){c.answer[0], c.answer[1], c.answer[2], c.answer[3], c.answer[4]};
 }
 
 static struct lark_resolved resolve(uint32_t name, const uint8_t *record, size_t record_length, uint32_t options, uint8_t *out, size_t out_length,
@@ -126,6 +132,15 @@ static struct lark_resolved resolve(uint32_t name, const uint8_t *record, size_t
 RESOLVER(lark_resolve_attention, RESOLVE_ATTENTION)
 RESOLVER(lark_resolve_headings, RESOLVE_HEADINGS)
 RESOLVER(lark_resolve_lists, RESOLVE_LISTS)
+
+#define RESOLVER2(call, name)                                                                                                          \
+    struct lark_resolved call(const uint8_t *record, size_t record_length, uint8_t *out, size_t out_length, uint8_t *work,              \
+                              size_t work_length) {                                                                                     \
+        return resolve(name, record, record_length, 0, out, out_length, work, work_length);                                             \
+    }
+RESOLVER2(lark_resolve_attention2, RESOLVE_ATTENTION2)
+RESOLVER2(lark_resolve_headings2, RESOLVE_HEADINGS2)
+RESOLVER2(lark_resolve_lists2, RESOLVE_LISTS2)
 
 struct lark_spaces lark_space_or_tab(const uint8_t *line, size_t line_length, uint32_t options, size_t column, size_t min, size_t max) {
     struct call c = {.name = SPACE_OR_TAB, .options = options, .column = column, .argument = {min, max}};

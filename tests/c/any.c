@@ -117,7 +117,7 @@ static void make(int call, struct given g, size_t fields[FIELDS], struct bytes *
     memset(fields, 0, FIELDS * sizeof *fields);
     switch (call) {
     case READ: {
-        struct lark_reading r = read_record(in.p, in.n, g.options, work.p, work.n);
+        struct lark_reading2 r = read_record(in.p, in.n, g.options, work.p, work.n);
         memcpy(fields, &r, sizeof r);
         break;
     }
@@ -178,7 +178,7 @@ static void cut_is_sound(int call, struct given g, const size_t fields[FIELDS]) 
 static void section_is_sound(struct given g, const struct bytes *wrote, size_t events) {
     static struct bytes resolved;
     static uint8_t work[LARK_WORK_BYTES];
-    struct lark_reading r = read_record(g.in->at, g.in->n, g.options, work, sizeof work);
+    struct lark_reading2 r = read_record(g.in->at, g.in->n, g.options, work, sizeof work);
     size_t i;
     resolved.n = 0;
     put(&resolved, g.in->at, fronts[form] + 4 + r.document);
@@ -224,7 +224,7 @@ static void both_ways(int call, struct given g, struct made *first) {
 
 /* A record in both forms: the same answers, and the same events, each where that form has it. */
 static void alike(int call, const struct made *old, const struct made *second) {
-    size_t i, place = old->fields[1], number = old->fields[0], events = call == READ ? 0 : old->fields[2];
+    size_t i, place = old->fields[1], number = old->fields[0];
     case_name = call_names[call];
     if (number == 5 || number == 6) place += 5 + (place - 8 - text.n) / 8 * 4;
     if (number == 3 || number == 4) place += 5;
@@ -233,7 +233,7 @@ static void alike(int call, const struct made *old, const struct made *second) {
         if (i != 1) equal("a field in form 2", second->fields[i], old->fields[i]);
     if (number || call == READ) return;
     same("the count in form 2", second->wrote.at, old->wrote.at, 4);
-    for (i = 0; i < events; i++) same("an event in form 2", second->wrote.at + 4 + 12 * i, old->wrote.at + 4 + 8 * i, 8);
+    for (i = 0; i < old->fields[2]; i++) same("an event in form 2", second->wrote.at + 4 + 12 * i, old->wrote.at + 4 + 8 * i, 8);
 }
 
 int main(void) {

@@ -296,22 +296,22 @@ enum { ATTENTION, HEADINGS, LISTS, RESOLVERS };
 static resolver *const resolvers[RESOLVERS] = {lark_resolve_attention, lark_resolve_headings, lark_resolve_lists};
 static resolver2 *const resolvers2[RESOLVERS] = {lark_resolve_attention2, lark_resolve_headings2, lark_resolve_lists2};
 
-/* A resolver for a record as it was handed over, and lark_read. Form 2's options are looked at here. */
+/* A resolver for a record as it was handed over, and lark_read. In the old form the options that are answered are those that were given. */
 static inline struct lark_resolved resolve(int which, const uint8_t *record, size_t record_length, uint32_t options, uint8_t *out, size_t out_length,
                                            uint8_t *work, size_t work_length) {
     if (form == SECOND) return resolvers2[which](record, record_length, out, out_length, work, work_length);
     return resolvers[which](record, record_length, options, out, out_length, work, work_length);
 }
-static inline struct lark_reading read_record(const uint8_t *record, size_t record_length, uint32_t options, uint8_t *work, size_t work_length) {
-    struct lark_reading got;
-    struct lark_reading2 got2;
-    if (form == OLD) return lark_read(record, record_length, options, work, work_length);
-    got2 = lark_read2(record, record_length, work, work_length);
-    equal("options", got2.options, got2.number ? 0 : options);
-    got.number = got2.number;
-    got.place = got2.place;
-    got.document = got2.document;
-    got.events = got2.events;
+static inline struct lark_reading2 read_record(const uint8_t *record, size_t record_length, uint32_t options, uint8_t *work, size_t work_length) {
+    struct lark_reading old;
+    struct lark_reading2 got;
+    if (form == SECOND) return lark_read2(record, record_length, work, work_length);
+    old = lark_read(record, record_length, options, work, work_length);
+    got.number = old.number;
+    got.place = old.place;
+    got.options = old.number ? 0 : options;
+    got.document = old.document;
+    got.events = old.events;
     return got;
 }
 
@@ -327,11 +327,12 @@ static inline void output_is(struct slice out, const struct bytes *want) {
 }
 
 /* A record that was handed over is read. */
-static inline void reads_handed(const struct bytes *r, uint32_t options, size_t work_length, struct lark_reading want) {
+static inline void reads_handed(const struct bytes *r, uint32_t options, size_t work_length, struct lark_reading2 want) {
     struct slice in = lend_bytes(r->at, r->n), work = lend(work_length);
-    struct lark_reading got = read_record(in.p, in.n, options, work.p, work.n);
+    struct lark_reading2 got = read_record(in.p, in.n, options, work.p, work.n);
     equal("number", got.number, want.number);
     equal("place", got.place, want.place);
+    equal("options", got.options, want.options);
     equal("document", got.document, want.document);
     equal("events", got.events, want.events);
     same("the record", in.p, r->at, r->n);
@@ -341,9 +342,10 @@ static inline void reads_handed(const struct bytes *r, uint32_t options, size_t 
 }
 
 static inline void reads(const struct bytes *r, uint32_t options, size_t work_length, size_t number, size_t place, size_t document, size_t events) {
-    struct lark_reading want;
+    struct lark_reading2 want;
     want.number = number;
     want.place = handed_place(number, place);
+    want.options = number ? 0 : options;
     want.document = document;
     want.events = events;
     reads_handed(handed(r, options), options, work_length, want);

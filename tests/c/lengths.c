@@ -50,7 +50,7 @@ static void resolver_lengths(const char *name, int which, const struct bytes *bu
 static void read_lengths(void) {
     const struct bytes *r = handed(record("ab", "+0@0 -0@2"), 63);
     uint8_t *in = vast(r->at, r->n);
-    struct lark_reading got;
+    struct lark_reading2 got;
     begin("lark_read");
     got = read_record(in, OVER + r->n, 63, work, sizeof work);
     equal("number", got.number, 3);

@@ -264,7 +264,7 @@ static void number_5(void) {
 static void reused(void) {
     static const struct bytes *r;
     static uint8_t out[LARK_OUT2_BYTES], work[LARK_WORK_BYTES];
-    struct lark_reading got;
+    struct lark_reading2 got;
     struct lark_resolved done;
     size_t n, count = fronts[form] + 31;
     int i;

@@ -7,6 +7,8 @@
 
 #define ON_RECORD const uint8_t *record, size_t record_length, uint32_t options
 #define RESOLVER ON_RECORD, uint8_t *out, size_t out_length, uint8_t *work, size_t work_length
+#define READER2 const uint8_t *record, size_t record_length, uint8_t *work, size_t work_length
+#define RESOLVER2 const uint8_t *record, size_t record_length, uint8_t *out, size_t out_length, uint8_t *work, size_t work_length
 #define ON_LINE const uint8_t *line, size_t line_length, uint32_t options, size_t column
 #define WRAPPED(answer, call, ...) \
     struct answer __real_##call(__VA_ARGS__); \
@@ -16,6 +18,10 @@ WRAPPED(lark_reading, lark_read, ON_RECORD, uint8_t *work, size_t work_length);
 WRAPPED(lark_resolved, lark_resolve_attention, RESOLVER);
 WRAPPED(lark_resolved, lark_resolve_headings, RESOLVER);
 WRAPPED(lark_resolved, lark_resolve_lists, RESOLVER);
+WRAPPED(lark_reading2, lark_read2, READER2);
+WRAPPED(lark_resolved, lark_resolve_attention2, RESOLVER2);
+WRAPPED(lark_resolved, lark_resolve_headings2, RESOLVER2);
+WRAPPED(lark_resolved, lark_resolve_lists2, RESOLVER2);
 WRAPPED(lark_spaces, lark_space_or_tab, ON_LINE, size_t min, size_t max);
 WRAPPED(lark_item, lark_list_item, ON_LINE, uint32_t interrupting);
 WRAPPED(lark_going, lark_continuation, ON_LINE, size_t size, uint32_t blank, uint32_t mark);
@@ -296,6 +302,266 @@ struct lark_resolved __wrap_lark_resolve_lists(RESOLVER) {
 #endif
     return r;
 }
+
+/* --- form 2 --- */
+
+/* Bytes that may be changed, in place of a record of form 2: itself where it is longer than any that is changed here. */
+static inline uint8_t *copied(const uint8_t *record, size_t n) {
+    static uint8_t copy[100000];
+    if (n > sizeof copy) return (uint8_t *)(uintptr_t)record;
+    if (n) memcpy(copy, record, n);
+    return copy;
+}
+
+/* A record with a first count of 1, where `mask` has bits. */
+static inline const uint8_t *with_count(const uint8_t *record, size_t n, size_t mask) {
+    uint8_t *copy = copied(record, n);
+    if (n >= 4) lark_put_number(copy, (lark_number_at(copy) & ~mask) | (1 & mask));
+    return copy;
+}
+
+/* A record with other options: those of its bits that are in `kept`, and `more`. */
+static inline const uint8_t *with_options(const uint8_t *record, size_t n, unsigned kept, unsigned more) {
+    uint8_t *copy = copied(record, n);
+    if (n >= 5) copy[4] = (uint8_t)((copy[4] & kept) | more);
+    return copy;
+}
+
+/* The events of a record, or NULL where they do not fit it. */
+static inline const uint8_t *section_of(const uint8_t *record, size_t n) {
+    size_t d = n < 13 ? 0 : lark_number_at(record + 5);
+    if (n < 13 || d > n - 13 || lark_number_at(record + 9 + d) > (n - 13 - d) / 12) return NULL;
+    return record + 9 + d;
+}
+
+/* The number of the exit that closes event `i`, or of the enter that it closes, by walking; `i` where there is none. */
+static inline size_t walked(const uint8_t *section, size_t i) {
+    size_t open = 0, at = i, events = lark_number_at(section), kind = lark_event_at2(section, i).kind;
+    for (; at < events; at = kind == LARK_ENTER ? at + 1 : at - 1) {
+        open += lark_event_at2(section, at).kind == kind ? 1 : (size_t)-1;
+        if (open == 0) return at;
+    }
+    return i;
+}
+
+/* A record with true partners in its enters (`kind` 0) or its exits; or with those of their bytes that are in `mask`. */
+static inline const uint8_t *with_partners(const uint8_t *record, size_t n, size_t kind, size_t mask) {
+    const uint8_t *section = section_of(record, n);
+    uint8_t *copy = copied(record, n), *event;
+    size_t i;
+    for (i = 0; section && i < lark_number_at(section); i++) {
+        event = copy + (section - record) + 4 + 12 * i;
+        if (event[0] == kind) lark_put_number(event + 8, (walked(section, i) & mask) | (lark_number_at(event + 8) & ~mask));
+    }
+    return copy;
+}
+
+/* Where the old form has the event that stands at a place. */
+static inline size_t old_place(const uint8_t *record, size_t place) {
+    size_t d = lark_number_at(record + 5);
+    return 8 + d + (place - 13 - d) / 12 * 8;
+}
+
+/* Partners in a section: those of a name and a kind, or of all where these are 255, put as a number of so many bits. */
+static inline void put_partners(uint8_t *out, size_t events, size_t kind, size_t name, size_t mask) {
+    size_t i;
+    for (i = 0; i < events; i++) {
+        struct lark_event2 event = lark_event_at2(out, i);
+        if ((kind == 255 || event.kind == kind) && (name == 255 || event.name == name)) lark_put_number(out + 4 + 12 * i + 8, event.partner & mask);
+    }
+}
+
+/* Partners in a section by the numbers that they have in the record, for the events that the record has too. */
+static inline void as_in_record(uint8_t *out, size_t events, const uint8_t *record, size_t n) {
+    const uint8_t *section = section_of(record, n);
+    size_t i, j, count = lark_number_at(section);
+    for (i = j = 0; i < events; i++) {
+        size_t from = j;
+        while (j < count && memcmp(section + 4 + 12 * j, out + 4 + 12 * i, 8)) j++;
+        if (j < count)
+            lark_put_number(out + 4 + 12 * i + 8, lark_event_at2(section, j++).partner);
+        else
+            j = from;
+    }
+}
+
+/* The events of a section in 8 bytes each; what is behind them is as it was in the output. */
+static inline void narrowed(uint8_t *out, size_t events, const uint8_t *held) {
+    size_t i;
+    for (i = 0; i < events; i++) memmove(out + 4 + 8 * i, out + 4 + 12 * i, 8);
+    memcpy(out + 4 + 8 * events, held + 4 + 8 * events, 4 * events);
+}
+
+/* A resolver that asks for an output by the old width, and writes what has room in it. */
+typedef struct lark_resolved resolver2(RESOLVER2);
+static inline struct lark_resolved by_old_width(resolver2 *real, RESOLVER2) {
+    static uint8_t ample[LARK_OUT2_BYTES];
+    struct lark_resolved r = real(record, record_length, ample, sizeof ample, work, work_length);
+    size_t n = 4 + 12 * r.events;
+    if (r.number || out_length < 4 + 8 * r.events) return real(record, record_length, out, 0, work, work_length);
+    memcpy(out, ample, n < out_length ? n : out_length);
+    return r;
+}
+
+struct lark_reading2 __wrap_lark_read2(READER2) {
+    struct lark_reading2 r;
+#if WRONG == 120 /* record: in form 2 a byte past the record is read */
+    seen = record[record_length];
+#elif WRONG == 121 /* lengths: in form 2 the record's length is cut to 32 bits */
+    record_length = (uint32_t)record_length;
+#elif WRONG == 122 /* work: in form 2 the work memory's length is cut to 32 bits */
+    work_length = (uint32_t)work_length;
+#elif WRONG == 123 /* form2: the first count is not looked at */
+    record = with_count(record, record_length, 0xffffffff);
+#elif WRONG == 124 /* form2: of the first count only the lowest byte is looked at */
+    record = with_count(record, record_length, 0xffffff00);
+#elif WRONG == 125 /* form2: options over 63 are taken */
+    record = with_options(record, record_length, 63, 0);
+#elif WRONG == 126 /* form2: the option byte 64 is taken */
+    if (record_length > 4 && record[4] == 64) record = with_options(record, record_length, 63, 0);
+#elif WRONG == 127 /* form2: an enter's partner is not looked at */
+    record = with_partners(record, record_length, LARK_ENTER, 0xffffffff);
+#elif WRONG == 128 /* form2: an exit's partner is not looked at */
+    record = with_partners(record, record_length, LARK_EXIT, 0xffffffff);
+#elif WRONG == 129 /* form2: of an enter's partner only the lower half is looked at */
+    record = with_partners(record, record_length, LARK_ENTER, 0xffff0000);
+#elif WRONG == 130 /* form2: of an exit's partner the highest byte is not looked at */
+    record = with_partners(record, record_length, LARK_EXIT, 0xff000000);
+#endif
+    r = __real_lark_read2(record, record_length, work, work_length);
+#if WRONG == 131 /* record: in form 2 a byte of work memory is left when it is too short */
+    if (r.number == 1 && work_length) work[work_length - 1] = 7;
+#elif WRONG == 132 /* form2: options are answered as 0 */
+    r.options = 0;
+#elif WRONG == 133 /* form2: options are answered as 63 */
+    if (!r.number) r.options = 63;
+#elif WRONG == 134 /* form2: a refusal tells the options */
+    if (r.number > 2 && record_length > 4) r.options = record[4];
+#elif WRONG == 135 /* form2: another first count that runs past the record is 3 */
+    if (r.number == 2 && record_length < 4 + lark_number_at(record)) r.number = 3;
+#elif WRONG == 136 /* form2: a first count with no byte behind it is 2 */
+    if (r.number == 3 && record_length == 4) r.number = 2;
+#elif WRONG == 137 /* form2: the place of options over 63 is that of their byte */
+    if (r.number == 2 && lark_number_at(record) == 1) r.place = 4;
+#elif WRONG == 138 /* form2: places are counted from the document's count */
+    if (r.number > 2 && r.place >= 5) r.place -= 5;
+#elif WRONG == 139 /* form2: the place of an event is the old form's */
+    if (r.number == 5) r.place = old_place(record, r.place);
+#elif WRONG == 140 /* form2: events left open are refused at the last event */
+    if (r.number == 5 && r.place == record_length) r.place -= 12;
+#elif WRONG == 141 /* form2: an untrue partner is refused at the enter */
+    if (r.number == 5 && r.place < record_length && record[r.place] == LARK_EXIT) {
+        size_t d = lark_number_at(record + 5), i = (r.place - 13 - d) / 12, enter = walked(record + 9 + d, i);
+        if (enter < i && lark_event_at2(record + 9 + d, enter).name == lark_event_at2(record + 9 + d, i).name) r.place = 13 + d + 12 * enter;
+    }
+#elif WRONG == 142 /* form2: the partner of an event that is left open is looked at */
+    if (r.number == 5 && r.place == record_length && lark_event_at2(section_of(record, record_length), 0).partner > 8)
+        r.place = 13 + lark_number_at(record + 5);
+#endif
+    return r;
+}
+
+struct lark_resolved __wrap_lark_resolve_attention2(RESOLVER2) {
+    static uint8_t held[200000];
+    struct lark_resolved r;
+    if (out_length && out_length <= sizeof held) memcpy(held, out, out_length);
+#if WRONG == 143 /* attention: in form 2 the output's length is cut to 16 bits */
+    out_length = (uint16_t)out_length;
+#elif WRONG == 144 /* lengths: in form 2 the output's length is cut to 32 bits */
+    out_length = (uint32_t)out_length;
+#elif WRONG == 145 /* form2: attention goes by options 63, whatever the record has */
+    if (record_length > 4 && record[4] <= 63) record = with_options(record, record_length, 0, 63);
+#elif WRONG == 146 /* form2: attention goes by options 59, whatever the record has */
+    if (record_length > 4 && record[4] <= 63) record = with_options(record, record_length, 0, 59);
+#elif WRONG == 147 /* form2: attention takes options over 63 */
+    record = with_options(record, record_length, 63, 0);
+#elif WRONG == 148 /* form2: attention does not look at the first count */
+    record = with_count(record, record_length, 0xffffffff);
+#elif WRONG == 149 /* form2: attention takes untrue partners of enters */
+    record = with_partners(record, record_length, LARK_ENTER, 0xffffffff);
+#elif WRONG == 150 /* form2: attention refuses an output of just the right length */
+    if (out_length) out_length--;
+#elif WRONG == 151 /* form2: attention asks for an output by the old width */
+    return by_old_width(__real_lark_resolve_attention2, record, record_length, out, out_length, work, work_length);
+#endif
+    r = __real_lark_resolve_attention2(record, record_length, out, out_length, work, work_length);
+#if WRONG == 152 /* form2: attention leaves partners 0 */
+    put_partners(out, r.events, 255, 255, 0);
+#elif WRONG == 153 /* form2: attention leaves the partners of exits 0 */
+    put_partners(out, r.events, LARK_EXIT, 255, 0);
+#elif WRONG == 154 /* form2: attention leaves the partner of a group's enter 0 */
+    put_partners(out, r.events, LARK_ENTER, LARK_NAME_EMPHASIS, 0);
+#elif WRONG == 155 /* form2: attention numbers partners as the record does */
+    if (r.events) as_in_record(out, r.events, record, record_length);
+#elif WRONG == 156 /* attention: partners are cut to 12 bits */
+    put_partners(out, r.events, 255, 255, 0xfff);
+#elif WRONG == 157 /* form2: partners are cut to eight bits */
+    put_partners(out, r.events, 255, 255, 0xff);
+#elif WRONG == 158 /* form2: attention writes events of 8 bytes */
+    if (r.events) narrowed(out, r.events, held);
+#elif WRONG == 159 /* form2: attention writes one byte past the section */
+    if (!r.number && out_length > 4 + 12 * r.events) out[4 + 12 * r.events] = 0;
+#elif WRONG == 160 /* form2: a refusal writes the count of no events */
+    if (r.number && out_length >= 4) memset(out, 0, 4);
+#elif WRONG == 161 /* form2: a refusal for the output's length writes what has room */
+    if (r.number == 8 && out_length > 12) memset(out + 4, 0, 8);
+#elif WRONG == 162 /* attention: in form 2 the place of number 6 is the old form's */
+    if (r.number == 6) r.place = old_place(record, r.place);
+#elif WRONG == 163 /* form2: the last byte of a partner is not written */
+    if (r.events) out[4 + 12 * r.events - 1] = held[4 + 12 * r.events - 1];
+#elif WRONG == 164 /* attention: in form 2 a byte of work memory is left */
+    if (!r.number) work[LARK_WORK_BYTES - 1] = 7;
+#elif WRONG == 178 /* any: the two forms differ in what was tried */
+    if (r.groups) r.tried++;
+#elif WRONG == 179 /* any: a group's text has no partner in form 2 */
+    put_partners(out, r.events, 255, LARK_NAME_STRONG_TEXT, 0);
+#endif
+    return r;
+}
+
+struct lark_resolved __wrap_lark_resolve_headings2(RESOLVER2) {
+    struct lark_resolved r;
+#if WRONG == 165 /* form2: headings takes untrue partners of exits */
+    record = with_partners(record, record_length, LARK_EXIT, 0xffffffff);
+#elif WRONG == 166 /* form2: headings does not look at the first count */
+    record = with_count(record, record_length, 0xffffffff);
+#elif WRONG == 167 /* form2: headings asks for an output by the old width */
+    return by_old_width(__real_lark_resolve_headings2, record, record_length, out, out_length, work, work_length);
+#endif
+    r = __real_lark_resolve_headings2(record, record_length, out, out_length, work, work_length);
+#if WRONG == 168 /* form2: headings leaves the partners of a text 0 */
+    put_partners(out, r.events, 255, LARK_NAME_HEADING_ATX_TEXT, 0);
+#elif WRONG == 169 /* form2: headings numbers partners as the record does */
+    if (r.events) as_in_record(out, r.events, record, record_length);
+#elif WRONG == 170 /* form2: the place of number 6 is counted from the document's count */
+    if (r.number == 6) r.place -= 5;
+#elif WRONG == 171 /* headings: in form 2 one byte past the section is written */
+    if (!r.number && out_length > 4 + 12 * r.events) out[4 + 12 * r.events] = 0;
+#endif
+    return r;
+}
+
+struct lark_resolved __wrap_lark_resolve_lists2(RESOLVER2) {
+    struct lark_resolved r;
+#if WRONG == 172 /* form2: lists takes options over 63 */
+    record = with_options(record, record_length, 63, 0);
+#elif WRONG == 173 /* form2: lists asks for an output by the old width */
+    return by_old_width(__real_lark_resolve_lists2, record, record_length, out, out_length, work, work_length);
+#endif
+    r = __real_lark_resolve_lists2(record, record_length, out, out_length, work, work_length);
+#if WRONG == 174 /* form2: lists leaves the partner of a list's enter 0 */
+    put_partners(out, r.events, LARK_ENTER, LARK_NAME_LIST_UNORDERED, 0);
+#elif WRONG == 175 /* form2: lists numbers partners as the record does */
+    if (r.events) as_in_record(out, r.events, record, record_length);
+#elif WRONG == 176 /* form2: lists tells one event less */
+    if (r.events) r.events--;
+#elif WRONG == 177 /* lists: in form 2 a refusal clears the output */
+    if (r.number && out_length) memset(out, 0, out_length);
+#endif
+    return r;
+}
+
+/* --- lines --- */
 
 struct lark_spaces __wrap_lark_space_or_tab(ON_LINE, size_t min, size_t max) {
     struct lark_spaces r;
