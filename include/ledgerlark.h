@@ -51,7 +51,7 @@
  * call has written is read with lark_event_at(out, i), for each i under the answer's `events`.
  *
  * In form 2 it is struct lark_record2, lark_begin_record2, which is given the options too, lark_add_event2, which fills in the partners by itself,
- * LARK_RECORD2_BYTES and lark_event_at2.
+ * LARK_RECORD2_BYTES and lark_event_at2. What lark_heading writes is read with lark_event_at, whichever form the record has that it goes to.
  *
  * To hand a section on to another resolver, begin a record with the same document and add each event of the section. A resolver may write more
  * events than a record may have, and deeper ones, attention most of all; such a record is refused with 3 or 5. So attention comes last.
@@ -99,9 +99,9 @@
  * Each call needs an output and a work memory of its own; what is only read may be shared. A call that is never gone on with (longjmp out of a
  * handler, a thread that is killed) may leave its work memory unwiped.
  *
- * STACK. Under 4 KiB: at most 3,264 bytes were measured, for lark_resolve_attention, the caller's frame and memset's included, and 1,016 for any other
- * call. Where memset is bound lazily its very first call takes some KiB more, for the dynamic linker; -Wl,-z,now avoids that. docs/PERFORMANCE.md has
- * every call.
+ * STACK. Under 4 KiB: at most 3,408 bytes were measured, for lark_resolve_attention in either form, the caller's frame and memset's included, and 1,144
+ * for any other call. Where memset is bound lazily its very first call takes some KiB more, for the dynamic linker; -Wl,-z,now avoids that.
+ * docs/PERFORMANCE.md has every call.
  *
  * PLATFORM. The archive is for x86-64, with the calling convention of System V, in ELF: Linux. Its code is position independent and can be part
  * of a shared library. It needs `memset` and nothing else of a C library.
