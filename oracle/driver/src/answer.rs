@@ -2,6 +2,8 @@
 
 use std::fmt;
 
+use crate::forms::Form;
+
 #[derive(Clone, Copy, Debug, PartialEq, Eq, PartialOrd, Ord)]
 pub enum Call {
     Read,
@@ -31,9 +33,15 @@ impl Call {
         }
     }
 
+    /// Whether it is a record that the call takes, and not a line.
+    pub fn takes_record(self) -> bool {
+        matches!(self, Call::Read | Call::Attention | Call::Headings | Call::Lists)
+    }
+
     /// The names of the numbers in an answer.
-    fn fields(self) -> &'static [&'static str] {
+    fn fields(self, form: Form) -> &'static [&'static str] {
         match self {
+            Call::Read if form == Form::Second => &["number", "place", "options", "document", "events"],
             Call::Read => &["number", "place", "document", "events"],
             Call::Attention | Call::Headings | Call::Lists => &["number", "place", "events", "groups", "tried"],
             Call::SpaceOrTab => &["number", "place", "found", "taken", "left"],
@@ -51,8 +59,11 @@ pub const SIZE: usize = 5;
 #[derive(Clone, Debug)]
 pub struct Question {
     pub call: Call,
+    /// The form of the record; of a line the old one.
+    pub form: Form,
     /// The record or the line.
     pub input: Vec<u8>,
+    /// Beside a record of form 2 none are given: it has its own.
     pub options: u32,
     /// The column at which a line starts; of a record 0.
     pub column: usize,
@@ -61,10 +72,30 @@ pub struct Question {
 }
 
 impl Question {
-    /// A question on a record, or on a line that starts at column 0 and needs no more.
+    /// A question on a record of the old form, or on a line that starts at column 0 and needs no more.
     pub fn new(call: Call, input: Vec<u8>, options: u32) -> Question {
-        Question { call, input, options, column: 0, arguments: [0; 3] }
+        Question { call, form: Form::Old, input, options, column: 0, arguments: [0; 3] }
     }
+
+    /// The name of the call in the library.
+    pub fn name(&self) -> String {
+        name_in(self.form, self.call)
+    }
+
+    /// An answer to it in words.
+    pub fn show(&self, answer: &Answer) -> String {
+        let fields = self.call.fields(self.form);
+        let mut text: Vec<String> = fields.iter().zip(answer.numbers).map(|(field, value)| format!("{field} {value}")).collect();
+        if !answer.section.is_empty() {
+            text.push(show_section(&answer.section, self.form));
+        }
+        text.join(" ")
+    }
+}
+
+/// The name of a call on records of a form.
+pub fn name_in(form: Form, call: Call) -> String {
+    format!("{}{}", call.name(), if form == Form::Second { "2" } else { "" })
 }
 
 /// As many numbers as the longest answer has.
@@ -88,16 +119,18 @@ impl Answer {
     }
 }
 
-/// `+name@place` for an enter, `-name@place` for an exit.
-pub fn show_section(section: &[u8]) -> String {
+/// `+name@place` for an enter, `-name@place` for an exit, with its partner's number behind a slash where the form has it.
+fn show_section(section: &[u8], form: Form) -> String {
     if section.len() < 4 {
         return format!("{section:?}");
     }
+    let number = |bytes: &[u8]| u32::from_le_bytes([bytes[0], bytes[1], bytes[2], bytes[3]]);
     section[4..]
-        .chunks(8)
+        .chunks(form.width())
         .map(|e| match e {
-            [kind @ 0..=1, name, 0, 0, a, b, c, d] => {
-                format!("{}{}@{}", if *kind == 0 { '+' } else { '-' }, name, u32::from_le_bytes([*a, *b, *c, *d]))
+            [kind @ 0..=1, name, 0, 0, numbers @ ..] if e.len() == form.width() => {
+                let partner = numbers.get(4..8).map_or_else(String::new, |partner| format!("/{}", number(partner)));
+                format!("{}{}@{}{partner}", if *kind == 0 { '+' } else { '-' }, name, number(numbers))
             }
             other => format!("{other:?}"),
         })
@@ -105,19 +138,13 @@ pub fn show_section(section: &[u8]) -> String {
         .join(" ")
 }
 
-/// An answer in words.
-pub fn show_answer(call: Call, answer: &Answer) -> String {
-    let mut text: Vec<String> = call.fields().iter().zip(answer.numbers).map(|(field, value)| format!("{field} {value}")).collect();
-    if !answer.section.is_empty() {
-        text.push(show_section(&answer.section));
-    }
-    text.join(" ")
-}
-
 impl fmt::Display for Question {
     fn fmt(&self, f: &mut fmt::Formatter<'_>) -> fmt::Result {
-        write!(f, "{} options {}", self.call.name(), self.options)?;
-        if matches!(self.call, Call::SpaceOrTab | Call::ListItem | Call::Continuation | Call::Heading) {
+        write!(f, "{}", self.name())?;
+        if self.form == Form::Old {
+            write!(f, " options {}", self.options)?;
+        }
+        if !self.call.takes_record() {
             write!(f, " column {}", self.column)?;
         }
         match self.call {
@@ -126,17 +153,18 @@ impl fmt::Display for Question {
             Call::Continuation => write!(f, " size {} blank {} mark {}", self.arguments[0], self.arguments[1], self.arguments[2])?,
             _ => (),
         }
-        let input = &self.input;
-        let split = match self.call {
-            Call::Read | Call::Attention | Call::Headings | Call::Lists if input.len() >= 8 => {
-                let count = u32::from_le_bytes([input[0], input[1], input[2], input[3]]) as usize;
-                (count <= input.len() - 8).then_some(4 + count)
+        let (input, front) = (&self.input, self.form.front());
+        if !self.call.takes_record() {
+            return write!(f, " line \"{}\"", input.escape_ascii());
+        }
+        match self.form.events_at(input).filter(|at| *at <= input.len()) {
+            Some(at) => {
+                let (document, section) = (&input[front + 4..at - 4], &input[at - 4..]);
+                if front > 0 {
+                    write!(f, " first {:?}", &input[..front])?;
+                }
+                write!(f, " document \"{}\" events {}", document.escape_ascii(), show_section(section, self.form))
             }
-            Call::Read | Call::Attention | Call::Headings | Call::Lists => None,
-            _ => return write!(f, " line \"{}\"", input.escape_ascii()),
-        };
-        match split {
-            Some(at) => write!(f, " document \"{}\" events {}", input[4..at].escape_ascii(), show_section(&input[at..])),
             None => write!(f, " record {input:?}"),
         }
     }

@@ -3,9 +3,10 @@
 use std::fmt;
 use std::panic::{catch_unwind, AssertUnwindSafe};
 
-use crate::answer::{show_answer, Answer, Call, Question, SIZE};
+use crate::answer::{Answer, Call, Question, SIZE};
 use crate::content;
 use crate::domain;
+use crate::forms::{room_in_form_2, Form};
 use crate::library::{self, Lent, OUTPUT, WORK};
 use crate::paper;
 use crate::tally::{Difference, Source, Tally};
@@ -219,10 +220,6 @@ fn text_in(heading: &[Event]) -> &[Event] {
     &heading[first..end]
 }
 
-fn takes_record(call: Call) -> bool {
-    matches!(call, Call::Read | Call::Attention | Call::Headings | Call::Lists)
-}
-
 impl Bench {
     pub fn new() -> Bench {
         Bench {
@@ -240,7 +237,7 @@ impl Bench {
     /// What the crate says to a question that document 01 answers like this. `known` is its answer where it was seen at work.
     fn ask_crate(&self, question: &Question, paper: &Answer, known: Option<Answer>) -> Word {
         let settings = self.settings(question.options);
-        if takes_record(question.call) {
+        if question.call.takes_record() {
             let (document, before) = parts_of(&question.input);
             if let Some(reason) = domain::bytes_outside(document).or_else(|| domain::departs(question.call, document, &before)) {
                 return Word::Silent(reason);
@@ -260,7 +257,7 @@ impl Bench {
     }
 
     fn differ(&mut self, kind: &str, question: &Question, source: Source, ours: &str, theirs: &str, document: Option<Markdown>) {
-        let kind = format!("{}, {:?}: {}", question.call.name(), source, kind);
+        let kind = format!("{}, {:?}: {}", question.name(), source, kind);
         let mut text = format!("{question}\n    library: {ours}\n    {theirs}");
         if let Some(markdown) = document {
             text = format!("{markdown}\n    {text}");
@@ -270,25 +267,51 @@ impl Bench {
         self.tally.differ(kind, Difference { count: 1, input, options: question.options, text, again });
     }
 
-    /// Put a question with given buffers to the library and to document 01, and, if it is accepted, to the crate. `known` is the crate's answer
-    /// where it was seen at work, and `document` the Markdown it was at work on.
+    /// The library's answer, which is counted. What it did to the buffers that it may not is a difference.
+    fn ask_library(&mut self, question: &Question, source: Source, output: usize, work: usize, document: Option<Markdown>) -> Option<Answer> {
+        match library::answer(question, output, work, &mut self.lent) {
+            Ok(answer) => {
+                self.tally.count(question, source, &answer);
+                Some(answer)
+            }
+            Err(fault) => {
+                self.differ(fault, question, source, fault, "", document);
+                None
+            }
+        }
+    }
+
+    /// Put the same record to the same call of form 2, and hold its answer against that of the old form.
+    fn hold_form_2(&mut self, question: &Question, source: Source, output: usize, work: usize, old: &Answer, document: Option<Markdown>) {
+        let again = question.in_form_2();
+        let Some(ours) = self.ask_library(&again, source, room_in_form_2(output), work, document) else { return };
+        let wanted = old.in_form_2(question);
+        if ours != wanted {
+            let (us, it) = (again.show(&ours), again.show(&wanted));
+            self.differ("not as the old form", &again, source, &us, &format!("old form: {it}"), document);
+        }
+    }
+
+    /// Put a question with given buffers to the library and to document 01; a record of the old form to the call of form 2 too; and, if it is accepted, to
+    /// the crate. `known` is the crate's answer where it was seen at work, and `document` the Markdown it was at work on.
     fn put(&mut self, question: &Question, source: Source, output: usize, work: usize, known: Option<Answer>, document: Option<Markdown>) {
         let paper = paper::answer(question, output, work);
-        let ours = match library::answer(question, output, work, &mut self.lent) {
-            Ok(answer) => answer,
-            Err(fault) => return self.differ(fault, question, source, fault, "", document),
-        };
-        *self.tally.compared.entry((question.call, source)).or_default() += 1;
+        let Some(ours) = self.ask_library(question, source, output, work, document) else { return };
         if ours != paper {
-            let (us, it) = (show_answer(question.call, &ours), show_answer(question.call, &paper));
+            let (us, it) = (question.show(&ours), question.show(&paper));
             self.differ("not as document 01", question, source, &us, &format!("document 01: {it}"), document);
         }
+        if question.form == Form::Second {
+            return;
+        }
+        if question.call.takes_record() {
+            self.hold_form_2(question, source, output, work, &ours, document);
+        }
         if paper.numbers[0] != 0 {
-            *self.tally.refused.entry((question.call, paper.numbers[0])).or_default() += 1;
             if let Some(answer) = known.filter(|_| !matches!(paper.numbers[0], 7 | 8)) {
                 let cause = cause_of(question, paper.numbers[0], paper.numbers[1]);
                 let kind = format!("a record of the crate's own is refused with {}: {cause}", paper.numbers[0]);
-                let (us, it) = (show_answer(question.call, &ours), show_answer(question.call, &answer));
+                let (us, it) = (question.show(&ours), question.show(&answer));
                 self.differ(&kind, question, source, &us, &format!("crate: {it}"), document);
             }
             return;
@@ -299,14 +322,14 @@ impl Bench {
         if question.call == Call::Headings {
             self.hold_contents(question, source, &ours, document);
         }
-        if let Some(mut seen) = known.clone().filter(|_| !takes_record(question.call)) {
+        if let Some(mut seen) = known.clone().filter(|_| !question.call.takes_record()) {
             // The events of a document do not show an item's size and flag.
             if question.call == Call::ListItem {
                 seen.numbers[SIZE..SIZE + 2].copy_from_slice(&ours.numbers[SIZE..SIZE + 2]);
             }
             self.tally.read += 1;
             if seen != ours {
-                let (us, it) = (show_answer(question.call, &ours), show_answer(question.call, &seen));
+                let (us, it) = (question.show(&ours), question.show(&seen));
                 self.differ("not as the crate reads it in a document", question, source, &us, &format!("crate: {it}"), document);
             }
         }
@@ -336,7 +359,7 @@ impl Bench {
             Some((_, cause)) => cause,
             None => return,
         };
-        let (us, it) = (show_answer(question.call, ours), show_answer(question.call, theirs));
+        let (us, it) = (question.show(ours), question.show(theirs));
         let where_it_starts = if within > 0 { format!(", {within} columns into the tab") } else { String::new() };
         self.differ(kind, question, source, &us, &format!("crate{where_it_starts}: {it}"), document);
     }
@@ -344,7 +367,7 @@ impl Bench {
     /// A line that begins with a tab and starts between two stops may start within that tab: a container took its first columns. The library is not
     /// told; the crate is asked as it then stands, once for each column at which the tab can have begun.
     fn ask_within(&mut self, question: &Question, source: Source, ours: &Answer, document: Option<Markdown>) {
-        if takes_record(question.call) || question.input.first() != Some(&b'\t') {
+        if question.call.takes_record() || question.input.first() != Some(&b'\t') {
             return;
         }
         for within in 1..=question.column % 4 {
@@ -375,7 +398,7 @@ impl Bench {
             self.tally.contents_with_runs += u64::from(domain::has_run_at_end(heading));
             if text != Some(if content.is_empty() { &[] } else { &round }) {
                 let it = format!("standard: the content of \"{}\" is \"{}\"", line.escape_ascii(), line[content].escape_ascii());
-                return self.differ("not as the standard's content", question, source, &show_answer(question.call, ours), &it, document);
+                return self.differ("not as the standard's content", question, source, &question.show(ours), &it, document);
             }
         }
     }

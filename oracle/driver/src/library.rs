@@ -10,9 +10,13 @@
 mod ffi;
 
 use crate::answer::{Answer, Call, Numbers, Question};
+#[cfg(feature = "library")]
+use crate::forms::Form;
 
-/// Room for the largest section, and for lengths past it.
+/// Room for the largest section of the old form, and for lengths past it.
 pub const OUTPUT: usize = 4 + 8 * 8_000 + 64;
+/// The same of either form.
+const MOST: usize = 4 + 12 * 8_000 + 96;
 pub const WORK: usize = 65_536;
 const EXTRA: usize = 64;
 const GUARD: usize = 64;
@@ -27,37 +31,44 @@ pub struct Lent {
 
 impl Lent {
     pub fn new() -> Lent {
-        Lent { output: vec![PATTERN; OUTPUT + GUARD], work: vec![STALE; WORK + EXTRA + GUARD] }
+        Lent { output: vec![PATTERN; MOST + GUARD], work: vec![STALE; WORK + EXTRA + GUARD] }
     }
 }
 
 #[cfg(feature = "library")]
 fn numbers(question: &Question, output: &mut [u8], work: &mut [u8]) -> Numbers {
-    let Question { call, input, options, column, arguments: [a, b, m] } = question;
+    let Question { call, form, input, options, column, arguments: [a, b, m] } = question;
     let (options, column) = (*options, *column);
     let resolved = |r: ffi::Resolved| [r.number, r.place, r.events, r.groups, r.tried, 0, 0, 0];
-    match call {
-        Call::Read => {
+    match (call, form) {
+        (Call::Read, Form::Old) => {
             let r = ffi::read(input, options, work);
             [r.number, r.place, r.document, r.events, 0, 0, 0, 0]
         }
-        Call::Attention => resolved(ffi::resolve_attention(input, options, output, work)),
-        Call::Headings => resolved(ffi::resolve_headings(input, options, output, work)),
-        Call::Lists => resolved(ffi::resolve_lists(input, options, output, work)),
-        Call::SpaceOrTab => {
+        (Call::Read, Form::Second) => {
+            let r = ffi::read2(input, work);
+            [r.number, r.place, r.options, r.document, r.events, 0, 0, 0]
+        }
+        (Call::Attention, Form::Old) => resolved(ffi::resolve_attention(input, options, output, work)),
+        (Call::Attention, Form::Second) => resolved(ffi::resolve_attention2(input, output, work)),
+        (Call::Headings, Form::Old) => resolved(ffi::resolve_headings(input, options, output, work)),
+        (Call::Headings, Form::Second) => resolved(ffi::resolve_headings2(input, output, work)),
+        (Call::Lists, Form::Old) => resolved(ffi::resolve_lists(input, options, output, work)),
+        (Call::Lists, Form::Second) => resolved(ffi::resolve_lists2(input, output, work)),
+        (Call::SpaceOrTab, _) => {
             let r = ffi::space_or_tab(input, options, column, *a, *b);
             [r.number, r.place, r.found, r.taken, r.left, 0, 0, 0]
         }
-        Call::ListItem => {
+        (Call::ListItem, _) => {
             let r = ffi::list_item(input, options, column, *a != 0);
             [r.number, r.place, r.found, r.taken, r.left, r.size, r.blank, r.mark]
         }
-        Call::Continuation => {
+        (Call::Continuation, _) => {
             let mark = u8::try_from(*m).expect("a mark is one byte");
             let r = ffi::continuation(input, options, column, *a, *b != 0, mark);
             [r.number, r.place, r.found, r.taken, r.left, r.blank, 0, 0]
         }
-        Call::Heading => {
+        (Call::Heading, _) => {
             let r = ffi::heading(input, options, column, output);
             [r.number, r.place, r.found, r.events, 0, 0, 0, 0]
         }
@@ -80,9 +91,8 @@ fn all(bytes: &[u8], value: u8) -> bool {
 
 /// The library's answer, with an output and a work memory of these lengths; or what it did to the buffers that it may not.
 pub fn answer(question: &Question, output: usize, work: usize, lent: &mut Lent) -> Result<Answer, &'static str> {
-    let takes_work = matches!(question.call, Call::Read | Call::Attention | Call::Headings | Call::Lists);
     let writes = matches!(question.call, Call::Attention | Call::Headings | Call::Lists | Call::Heading);
-    let (output, work) = (if writes { output } else { 0 }, if takes_work { work } else { 0 });
+    let (output, work) = (if writes { output } else { 0 }, if question.call.takes_record() { work } else { 0 });
     lent.output[..output + GUARD].fill(PATTERN);
     lent.work[..work + GUARD].fill(STALE);
     let numbers = numbers(question, &mut lent.output[..output], &mut lent.work[..work]);
@@ -92,7 +102,7 @@ pub fn answer(question: &Question, output: usize, work: usize, lent: &mut Lent) 
         _ => 0,
     };
     let found = numbers[0] == 0 && writes && (question.call != Call::Heading || numbers[2] == 1);
-    let length = if found { 4 + 8 * events } else { 0 };
+    let length = if found { 4 + question.form.width() * events } else { 0 };
     if length > output {
         return Err("more events answered than the output has room for");
     }

@@ -1,5 +1,5 @@
 //! Holds the static library against the crate markdown 1.0.0, both against document 01 in plain Rust, and the library against the standard: the
-//! content of its headings' lines, and the examples of headings, tabs, list items and other blocks.
+//! content of its headings' lines, and the examples of headings, tabs, list items and other blocks. Every record is put to the calls of form 2 too.
 //!
 //! `oracle/run` builds and runs it. Arguments: `--markdown DIR` (as often as wanted) adds Markdown files and the standard's examples, `--scale N`
 //! divides the counts by N for a short run, `--differences FILE` names the list of known ones, `--store FILE` writes the stored list of the crate's
@@ -16,6 +16,7 @@ mod damage;
 mod departures;
 mod documents;
 mod domain;
+mod forms;
 mod library;
 mod lines;
 mod paper;
@@ -33,6 +34,7 @@ use answer::{Call, Question};
 use chance::Chance;
 use compare::{Bench, Markdown, BACK, BEGUN, BEHIND, CROSSED, FALLING, PANIC, UNPAIRED, WHOLE};
 use documents::Found;
+use forms::Form;
 use lines::Strings;
 use tally::{Source, Tally};
 
@@ -99,14 +101,12 @@ impl Run {
         if terminal {
             eprint!("\r{:80}\r", "");
         }
-        let before = self.tally.total();
+        let before = Form::ALL.map(|form| self.tally.total(form));
         tallies.into_inner().unwrap().into_iter().for_each(|tally| self.tally.add(tally));
         let kinds = self.tally.differences.len();
-        println!(
-            "{name}: {} compared, {:.0} s; kinds of difference so far: {kinds}",
-            self.tally.total() - before,
-            self.start.elapsed().as_secs_f64()
-        );
+        let [old, second] = [0, 1].map(|i| self.tally.total(Form::ALL[i]) - before[i]);
+        let beside = if second > 0 { format!(" and {second} in form 2") } else { String::new() };
+        println!("{name}: {old} compared{beside}, {:.0} s; kinds of difference so far: {kinds}", self.start.elapsed().as_secs_f64());
     }
 
     /// A count for this run.
@@ -396,6 +396,11 @@ fn damaged(run: &mut Run) {
         let (question, output, work) = damage::record(&mut Chance::new(7_000_000_000 + i as u64));
         bench.ask_lengths(&question, Source::Damaged, output, work);
     });
+    let many = run.some(1_000_000);
+    run.stage("damaged records of form 2", many, |bench, i| {
+        let (question, output, work) = damage::record_of_form_2(&mut Chance::new(18_000_000_000 + i as u64));
+        bench.ask_lengths(&question, Source::Damaged, output, work);
+    });
     let many = run.some(2_000_000);
     run.stage("damaged lines", many, |bench, i| {
         let (question, output) = damage::line(&mut Chance::new(8_000_000_000 + i as u64));
@@ -475,6 +480,7 @@ fn main() {
         };
         println!("{kind}: {} times, {note}; the smallest:\n    {}\n", difference.count, shrink(kind, difference).text);
     }
-    println!("{} comparisons, {} kinds of difference not listed, {:.0} s", run.tally.total(), unlisted, run.start.elapsed().as_secs_f64());
+    let [old, second] = Form::ALL.map(|form| run.tally.total(form));
+    println!("{old} comparisons and {second} in form 2, {unlisted} kinds of difference not listed, {:.0} s", run.start.elapsed().as_secs_f64());
     std::process::exit(i32::from(unlisted > 0));
 }

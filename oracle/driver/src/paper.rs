@@ -1,10 +1,11 @@
-//! Document 01 in plain Rust: every call as its paragraphs say it, with lists and searches and no thought of speed.
+//! Document 01 in plain Rust: every call as its paragraphs say it, on records of either form, with lists and searches and no thought of speed.
 //!
 //! It is code of its own, apart from both sides that are compared; whoever wrote it had read the crate's source. It says which refusal a record gets,
 //! which the crate cannot say, and how many candidates are tried, which the crate does not count.
 
 use crate::answer::{Answer, Call, Question};
 use crate::categories::{PUNCTUATION, SPACES};
+use crate::forms::{partners, Form};
 
 const WORK: usize = 65_536;
 const DOCUMENT: usize = 16_384;
@@ -21,8 +22,18 @@ struct Event {
 }
 
 struct Good<'a> {
+    form: Form,
+    /// Given beside the record, or read in it.
+    options: u32,
     document: &'a [u8],
     events: Vec<Event>,
+}
+
+impl Good<'_> {
+    /// The shape rule is broken by what enters at event `i`.
+    fn not_in_shape(&self, i: usize) -> Refused {
+        (6, self.form.front() + 8 + self.document.len() + self.form.width() * i)
+    }
 }
 
 type Refused = (usize, usize);
@@ -32,41 +43,55 @@ fn number_at(bytes: &[u8], at: usize) -> Option<usize> {
     Some(four.iter().rev().fold(0, |sum, byte| sum * 256 + *byte as usize))
 }
 
+/// The option byte of a record of form 2, which is all that its first section has.
+fn options_in(record: &[u8]) -> Result<u32, Refused> {
+    match (number_at(record, 0), record.get(4)) {
+        (Some(1), Some(options)) => Ok(u32::from(*options)),
+        (Some(1) | None, _) => Err((3, 0)),
+        (Some(_), _) => Err((2, 0)),
+    }
+}
+
 /// Numbers 1 to 5, lowest number first, and the earliest place within a number.
-fn check(record: &[u8], options: u32, work: usize) -> Result<Good<'_>, Refused> {
+fn check(record: &[u8], form: Form, options: u32, work: usize) -> Result<Good<'_>, Refused> {
     if work < WORK {
         return Err((1, 0));
     }
+    let options = if form == Form::Second { options_in(record)? } else { options };
     if options > 63 {
         return Err((2, 0));
     }
+    let (front, width) = (form.front(), form.width());
     let fits = |count: usize, limit: usize, end: usize| count <= limit && end <= record.len();
-    let bytes = number_at(record, 0).filter(|d| fits(*d, DOCUMENT, 4 + d)).ok_or((3, 0))?;
-    let start = 8 + bytes;
-    let count = number_at(record, 4 + bytes).filter(|e| fits(*e, EVENTS, start + 8 * e)).ok_or((3, 4 + bytes))?;
-    if record.len() > start + 8 * count {
-        return Err((3, start + 8 * count));
+    let bytes = number_at(record, front).filter(|d| fits(*d, DOCUMENT, front + 4 + d)).ok_or((3, front))?;
+    let start = front + 8 + bytes;
+    let count = number_at(record, start - 4).filter(|e| fits(*e, EVENTS, start + width * e)).ok_or((3, start - 4))?;
+    if record.len() > start + width * count {
+        return Err((3, start + width * count));
     }
-    let document = &record[4..4 + bytes];
+    let document = &record[front + 4..front + 4 + bytes];
     if let Some(offset) = document.iter().position(|byte| *byte == b'\r') {
-        return Err((4, 4 + offset));
+        return Err((4, front + 4 + offset));
     }
-    let mut open: Vec<u8> = vec![];
+    // The name of each open event, its number, and the number of its partner where the form has one.
+    let mut open: Vec<(u8, usize, Option<usize>)> = vec![];
     let mut events: Vec<Event> = vec![];
     for i in 0..count {
-        let here = (5, start + 8 * i);
-        let e = &record[start + 8 * i..start + 8 * i + 8];
-        let place = number_at(e, 4).unwrap();
+        let here = (5, start + width * i);
+        let e = &record[start + width * i..start + width * (i + 1)];
+        let (place, partner) = (number_at(e, 4).unwrap(), number_at(e, 8));
         if e[0] > 1 || e[1] > 24 || e[2] != 0 || e[3] != 0 || place > bytes || events.last().is_some_and(|before| place < before.place) {
             return Err(here);
         }
         let event = Event { exit: e[0] == 1, name: e[1], place };
         if event.exit {
-            if open.pop() != Some(event.name) {
+            let (name, enter, exit) = open.pop().ok_or(here)?;
+            let untrue = partner.is_some_and(|number| number != enter) || exit.is_some_and(|number| number != i);
+            if name != event.name || untrue {
                 return Err(here);
             }
         } else {
-            open.push(event.name);
+            open.push((event.name, i, partner));
             if open.len() > DEPTH {
                 return Err(here);
             }
@@ -76,7 +101,7 @@ fn check(record: &[u8], options: u32, work: usize) -> Result<Good<'_>, Refused> 
     if !open.is_empty() {
         return Err((5, record.len()));
     }
-    Ok(Good { document, events })
+    Ok(Good { form, options, document, events })
 }
 
 /// Whether the event at `i` is an enter of one of these names that is left by the next event.
@@ -183,7 +208,7 @@ impl Run {
     }
 }
 
-fn run_holds(good: &Good, i: usize, options: u32) -> bool {
+fn run_holds(good: &Good, i: usize) -> bool {
     if !is_leaf(&good.events, i, &[1]) {
         return false;
     }
@@ -197,10 +222,11 @@ fn run_holds(good: &Good, i: usize, options: u32) -> bool {
         b'~' => 2,
         _ => return false,
     };
-    options & option != 0 && good.document[from..to].iter().all(|byte| *byte == marker) && good.document.get(to) != Some(&marker)
+    good.options & option != 0 && good.document[from..to].iter().all(|byte| *byte == marker) && good.document.get(to) != Some(&marker)
 }
 
-fn runs_of(good: &Good, options: u32) -> Vec<Run> {
+fn runs_of(good: &Good) -> Vec<Run> {
+    let options = good.options;
     let mut stack = vec![];
     let mut runs = vec![];
     for (i, event) in good.events.iter().enumerate() {
@@ -283,14 +309,14 @@ fn put(out: &mut Vec<Event>, exit: bool, name: u8, place: usize) {
     out.push(Event { exit, name, place });
 }
 
-fn attention(good: &Good, options: u32) -> Result<(Vec<Event>, usize, usize), Refused> {
+fn attention(good: &Good) -> Result<(Vec<Event>, usize, usize), Refused> {
     for (i, event) in good.events.iter().enumerate() {
-        if event.name == 1 && !event.exit && !run_holds(good, i, options) {
-            return Err((6, 8 + good.document.len() + 8 * i));
+        if event.name == 1 && !event.exit && !run_holds(good, i) {
+            return Err(good.not_in_shape(i));
         }
     }
-    let mut runs = runs_of(good, options);
-    let (groups, tried) = match_runs(&mut runs, options);
+    let mut runs = runs_of(good);
+    let (groups, tried) = match_runs(&mut runs, good.options);
     let mut out = vec![];
     let mut next = runs.iter().peekable();
     let mut i = 0;
@@ -367,7 +393,7 @@ fn headings(good: &Good) -> Result<Vec<Event>, Refused> {
     let events = &good.events;
     let is_heading = |i: usize| events[i].name == 11 && !events[i].exit;
     if let Some(i) = (0..events.len()).find(|i| is_heading(*i) && !heading_holds(events, *i)) {
-        return Err((6, 8 + good.document.len() + 8 * i));
+        return Err(good.not_in_shape(i));
     }
     let mut out = vec![];
     let mut i = 0;
@@ -432,7 +458,7 @@ fn lists(good: &Good) -> Result<Vec<Event>, Refused> {
         let behind = i > 0 && events[i - 1].name == 15 && events[i - 1].exit;
         match mark_of(good, i) {
             Some(mark) if !behind => marks[i] = mark,
-            _ => return Err((6, 8 + good.document.len() + 8 * i)),
+            _ => return Err(good.not_in_shape(i)),
         }
     }
     // For each item, the sibling it joins: the nearest item before it with nothing between but whole 14, 21, 22, 23 holding no item.
@@ -640,45 +666,52 @@ fn heading(line: &[u8], options: u32, column: usize) -> Option<Vec<Event>> {
 
 // The calls
 
-fn section(events: &[Event]) -> Vec<u8> {
+fn section(events: &[Event], form: Form) -> Vec<u8> {
     let mut bytes = (events.len() as u32).to_le_bytes().to_vec();
-    for event in events {
+    for (event, partner) in events.iter().zip(partners(events.iter().map(|event| u8::from(event.exit)))) {
         bytes.extend_from_slice(&[u8::from(event.exit), event.name, 0, 0]);
         bytes.extend_from_slice(&(event.place as u32).to_le_bytes());
+        if form == Form::Second {
+            bytes.extend_from_slice(&(partner as u32).to_le_bytes());
+        }
     }
     bytes
 }
 
 /// Numbers 7 and 8.
-fn written(events: Vec<Event>, output: usize, answer: Answer) -> Answer {
+fn written(events: Vec<Event>, form: Form, output: usize, answer: Answer) -> Answer {
     if events.len() > RESULT {
         return Answer::refused(7, 0);
     }
-    if output < 4 + 8 * events.len() {
+    if output < 4 + form.width() * events.len() {
         return Answer::refused(8, 0);
     }
-    Answer { section: section(&events), ..answer }
+    Answer { section: section(&events, form), ..answer }
 }
 
 /// The answer to a question with an output and a work memory of these lengths.
 pub fn answer(question: &Question, output: usize, work: usize) -> Answer {
-    let Question { call, input, options, column, arguments } = question;
+    let Question { call, form, input, options, column, arguments } = question;
     let tried = || -> Result<Answer, Refused> {
         Ok(match call {
             Call::Read => {
-                let good = check(input, *options, work)?;
-                Answer::of(&[good.document.len(), good.events.len()])
+                let good = check(input, *form, *options, work)?;
+                let (document, events) = (good.document.len(), good.events.len());
+                match form {
+                    Form::Old => Answer::of(&[document, events]),
+                    Form::Second => Answer::of(&[good.options as usize, document, events]),
+                }
             }
             Call::Attention => {
-                let (events, groups, tried) = attention(&check(input, *options, work)?, *options)?;
+                let (events, groups, tried) = attention(&check(input, *form, *options, work)?)?;
                 let numbers = Answer::of(&[events.len(), groups, tried]);
-                written(events, output, numbers)
+                written(events, *form, output, numbers)
             }
             Call::Headings | Call::Lists => {
-                let good = check(input, *options, work)?;
+                let good = check(input, *form, *options, work)?;
                 let events = if *call == Call::Headings { headings(&good)? } else { lists(&good)? };
                 let numbers = Answer::of(&[events.len(), 0, 0]);
-                written(events, output, numbers)
+                written(events, *form, output, numbers)
             }
             Call::SpaceOrTab => {
                 let columns = columns_of(line_of(input, *options, *column)?, *column);
@@ -698,7 +731,7 @@ pub fn answer(question: &Question, output: usize, work: usize) -> Answer {
             Call::Heading => match heading(line_of(input, *options, *column)?, *options, *column) {
                 Some(events) => {
                     let numbers = Answer::of(&[1, events.len()]);
-                    written(events, output, numbers)
+                    written(events, *form, output, numbers)
                 }
                 None => Answer::default(),
             },
@@ -709,7 +742,7 @@ pub fn answer(question: &Question, output: usize, work: usize) -> Answer {
 
 #[cfg(test)]
 mod tests {
-    use super::{answer, class, class_after, class_before, Call, Class, Question, PUNCTUATION, SPACES};
+    use super::{answer, class, class_after, class_before, Answer, Call, Class, Form, Question, PUNCTUATION, SPACES, WORK};
 
     fn numbers(call: Call, line: &str, column: usize, arguments: [usize; 3]) -> [usize; 8] {
         answer(&Question { column, arguments, ..Question::new(call, line.into(), 59) }, 100, 0).numbers
@@ -751,6 +784,59 @@ mod tests {
             assert_eq!(numbers(call, "\r", 16_384, [0; 3])[..2], [4, 0]);
             assert_eq!(numbers(call, "\r", 16_385, [0; 3]), [2, 0, 0, 0, 0, 0, 0, 0]);
         }
+    }
+
+    /// Each refusal that form 2 has of its own, and the places of the others, on small records.
+    #[test]
+    fn form_2_by_hand() {
+        let read = |record: &[u8]| answer(&Question { form: Form::Second, ..Question::new(Call::Read, record.to_vec(), 0) }, 0, WORK).numbers;
+        let (first, document, none) = ([1, 0, 0, 0, 63], [1, 0, 0, 0, b'a'], [0; 4]);
+        let events = |count: u8, events: &[[u8; 3]]| {
+            let each = events.iter().flat_map(|[kind, place, partner]| [*kind, 0, 0, 0, *place, 0, 0, 0, *partner, 0, 0, 0]);
+            [count, 0, 0, 0].into_iter().chain(each).collect::<Vec<u8>>()
+        };
+        let with = |section: &[u8]| [&first[..], &document, section].concat();
+        for (record, refused) in [
+            // The first section: cut, of another count, cut behind its count, with an option too many.
+            (vec![1, 0, 0], (3, 0)),
+            (vec![2, 0, 0, 0], (2, 0)),
+            (vec![1, 0, 0, 1], (2, 0)),
+            (vec![1, 0, 0, 0], (3, 0)),
+            (vec![1, 0, 0, 0, 64], (2, 0)),
+            // The counts behind it, a byte too many, a carriage return.
+            (first.to_vec(), (3, 5)),
+            ([&first[..], &[2, 0, 0, 0, b'a']].concat(), (3, 5)),
+            (with(&[0; 3]), (3, 10)),
+            (with(&events(1, &[[0, 0, 0]])[..15]), (3, 10)),
+            (with(&[0; 5]), (3, 14)),
+            ([&first[..], &[2, 0, 0, 0, b'a', b'\r'], &none].concat(), (4, 10)),
+            // An event that is none, one left open whatever its number, and the numbers of a pair: the enter's, the exit's.
+            (with(&events(2, &[[0, 0, 1], [2, 0, 0]])), (5, 26)),
+            (with(&events(1, &[[0, 0, 9]])), (5, 26)),
+            (with(&events(2, &[[0, 0, 0], [1, 1, 0]])), (5, 26)),
+            (with(&events(2, &[[0, 0, 1], [1, 1, 1]])), (5, 26)),
+            // The exit that leaves another than it says, though some enter has that number; and an earlier fault behind a wrong number.
+            (with(&events(4, &[[0, 0, 2], [0, 0, 3], [1, 0, 0], [1, 0, 1]])), (5, 38)),
+            (with(&events(4, &[[0, 0, 2], [0, 0, 2], [2, 0, 1], [1, 0, 0]])), (5, 38)),
+        ] {
+            let [number, place, 0, 0, 0, ..] = read(&record) else { panic!("{record:?}") };
+            assert_eq!((number, place), refused, "{record:?}");
+        }
+        assert_eq!(read(&with(&events(4, &[[0, 0, 3], [0, 0, 2], [1, 0, 1], [1, 0, 0]]))), [0, 0, 63, 1, 4, 0, 0, 0]);
+        // All 32 bits of a number count.
+        let mut high = with(&events(2, &[[0, 0, 1], [1, 1, 0]]));
+        assert_eq!(read(&high)[0], 0);
+        high[25] = 1;
+        assert_eq!(read(&high)[..2], [5, 26]);
+        // What is written has room by its width, and its own numbers.
+        let heading = [[0, 11, 0, 5], [0, 12, 0, 2], [1, 12, 1, 1], [0, 0, 2, 4], [1, 0, 3, 3], [1, 11, 3, 0]];
+        let each = heading.iter().flat_map(|[kind, name, place, partner]| [*kind, *name, 0, 0, *place, 0, 0, 0, *partner, 0, 0, 0]);
+        let record = [&first[..], &[3, 0, 0, 0], b"# a", &[6, 0, 0, 0], &each.collect::<Vec<u8>>()].concat();
+        let asked = Question { form: Form::Second, ..Question::new(Call::Headings, record, 0) };
+        assert_eq!(answer(&asked, 4 + 12 * 8 - 1, WORK), Answer::refused(8, 0));
+        let written = answer(&asked, 4 + 12 * 8, WORK).section;
+        let numbers: Vec<u8> = written[4..].chunks(12).map(|event| event[8]).collect();
+        assert_eq!(numbers, [7, 2, 1, 6, 5, 4, 3, 0]);
     }
 
     /// Characters of each class, what is no character, and what stands beyond one.

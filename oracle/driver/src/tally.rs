@@ -1,7 +1,8 @@
 //! What was compared, what was not and why, and the smallest input of each kind of difference.
 
-use crate::answer::Call;
+use crate::answer::{name_in, Answer, Call, Question};
 use crate::domain::RUN_AT_END;
+use crate::forms::Form;
 use std::collections::BTreeMap;
 
 /// Where an input comes from.
@@ -30,11 +31,11 @@ pub struct Difference {
 
 #[derive(Default)]
 pub struct Tally {
-    pub compared: BTreeMap<(Call, Source), u64>,
+    compared: BTreeMap<(Form, Call, Source), u64>,
     /// How many of these the crate answered too.
     pub answered: BTreeMap<Call, u64>,
-    /// Refusals, which only document 01 can say.
-    pub refused: BTreeMap<(Call, usize), u64>,
+    /// Refusals, which the crate has none of.
+    refused: BTreeMap<(Form, Call, usize), u64>,
     pub skipped: BTreeMap<(Call, &'static str), u64>,
     /// How many headings were held against the standard's content, and how many of them the crate does not decide.
     pub contents: u64,
@@ -85,25 +86,46 @@ impl Tally {
         }
     }
 
-    pub fn total(&self) -> u64 {
-        self.compared.values().sum()
+    /// An answer of the library that is compared.
+    pub fn count(&mut self, question: &Question, source: Source, answer: &Answer) {
+        *self.compared.entry((question.form, question.call, source)).or_default() += 1;
+        if answer.numbers[0] != 0 {
+            *self.refused.entry((question.form, question.call, answer.numbers[0])).or_default() += 1;
+        }
+    }
+
+    /// How many answers were compared about records of a form; lines are counted with the old one.
+    pub fn total(&self, form: Form) -> u64 {
+        self.compared.iter().filter(|((of, ..), _)| *of == form).map(|(_, count)| count).sum()
+    }
+
+    /// How many answers of a call were compared, from each source and in all, as cells of a table.
+    fn cells(&self, form: Form, call: Call) -> String {
+        let counts = Source::ALL.map(|source| self.compared.get(&(form, call, source)).copied().unwrap_or(0));
+        let cells: Vec<String> = counts.iter().chain([&counts.iter().sum()]).map(u64::to_string).collect();
+        cells.join(" | ")
     }
 
     pub fn print(&self) {
         println!("| call | exhaustive | random | captured | damaged | in all | answered by the crate too | crate panics |");
         println!("|---|---|---|---|---|---|---|---|");
         for call in Call::ALL {
-            let counts: Vec<u64> = Source::ALL.iter().map(|source| self.compared.get(&(call, *source)).copied().unwrap_or(0)).collect();
             let panics: u64 = Source::ALL.iter().filter_map(|source| self.panics.get(&(call, *source))).sum();
-            let cells: Vec<String> = counts.iter().map(u64::to_string).collect();
             let answered = self.answered.get(&call).copied().unwrap_or(0);
-            println!("| {} | {} | {} | {answered} | {panics} |", call.name(), cells.join(" | "), counts.iter().sum::<u64>());
+            println!("| {} | {} | {answered} | {panics} |", call.name(), self.cells(Form::Old, call));
         }
-        println!("\nRefusals among them, by number: compared with document 01 alone.\n");
+        println!("\nForm 2: the same records once more, compared with the old form's answers; and records damaged in form 2, with document 01.\n");
+        println!("| call | exhaustive | random | captured | damaged | in all |\n|---|---|---|---|---|---|");
+        for call in Call::ALL.into_iter().filter(|call| call.takes_record()) {
+            println!("| {} | {} |", name_in(Form::Second, call), self.cells(Form::Second, call));
+        }
+        println!("\nRefusals among them, by number: compared with document 01, or with the old form.\n");
         println!("| call | 1 | 2 | 3 | 4 | 5 | 6 | 7 | 8 |\n|---|---|---|---|---|---|---|---|---|");
-        for call in Call::ALL {
-            let cells: Vec<String> = (1..=8).map(|number| self.refused.get(&(call, number)).copied().unwrap_or(0).to_string()).collect();
-            println!("| {} | {} |", call.name(), cells.join(" | "));
+        for (form, call) in Form::ALL.into_iter().flat_map(|form| Call::ALL.map(|call| (form, call))) {
+            if form == Form::Old || call.takes_record() {
+                let cells: Vec<String> = (1..=8).map(|number| self.refused.get(&(form, call, number)).copied().unwrap_or(0).to_string()).collect();
+                println!("| {} | {} |", name_in(form, call), cells.join(" | "));
+            }
         }
         let (contents, with_runs) = (self.contents, self.contents_with_runs);
         println!("\nHeadings held against the standard's content: {contents}, of them with {RUN_AT_END} {with_runs}.");
