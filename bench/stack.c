@@ -8,32 +8,19 @@
 #include <stdio.h>
 #include <string.h>
 
-enum { WORK = LARK_WORK_BYTES, OUT = LARK_OUT_BYTES, OPTIONS = 59, STACK = 1 << 18, PAINT = 0xa7, MOST = 4096 };
-static uint8_t document[LARK_MAX_DOCUMENT], events[8 * LARK_MAX_EVENTS], record[LARK_RECORD_BYTES], out[OUT], work[WORK], line[1024];
+#include "record.h"
+
+enum { WORK = LARK_WORK_BYTES, OUT = LARK_OUT2_BYTES, OPTIONS = 59, STACK = 1 << 18, PAINT = 0xa7, MOST = 4096 };
+static uint8_t first[LARK_RECORD_BYTES], other[LARK_RECORD2_BYTES], out[OUT], work[WORK], line[1024];
 static uint8_t stack[STACK] __attribute__((aligned(4096)));
-static size_t bytes, count, length;
+static struct lark_record record;
+static struct lark_record2 record2;
 static uint8_t *frame;
 static volatile size_t answered, refused;
 
-static void event(uint8_t kind, uint8_t name) {
-    uint8_t *at = events + 8 * count++;
-    at[0] = kind, at[1] = name, at[2] = at[3] = 0;
-    lark_put_number(at + 4, bytes);
-}
-static void text(const char *t) {
-    while (*t) document[bytes++] = (uint8_t)*t++;
-}
-static void pair(uint8_t name, const char *t) {
-    event(0, name);
-    text(t);
-    event(1, name);
-}
 static void close_record(void) {
-    lark_put_number(record, bytes);
-    memcpy(record + 4, document, bytes);
-    lark_put_number(record + 4 + bytes, count);
-    memcpy(record + 8 + bytes, events, 8 * count);
-    length = 8 + bytes + 8 * count;
+    record = in_old_form(first);
+    record2 = in_form_2(other, OPTIONS);
 }
 
 /* the records: 1,024 runs with groups; as many with characters of two to four bytes between; 62 levels of items; one long heading */
@@ -50,15 +37,15 @@ static void wide_runs(void) {
 }
 static void items(void) {
     bytes = count = 0;
-    for (int i = 0; i < 62; i++) event(0, 15), event(0, 16), pair(17, "-"), event(1, 16);
-    for (int i = 0; i < 62; i++) event(1, 15);
+    for (int i = 0; i < 62; i++) event(LARK_ENTER, 15), event(LARK_ENTER, 16), pair(17, "-"), event(LARK_EXIT, 16);
+    for (int i = 0; i < 62; i++) event(LARK_EXIT, 15);
     close_record();
 }
 static void headings(void) {
     bytes = count = 0;
-    event(0, 11), pair(12, "#");
+    event(LARK_ENTER, 11), pair(12, "#");
     for (int i = 0; i < 500; i++) pair(14, " "), pair(0, "a");
-    event(1, 11);
+    event(LARK_EXIT, 11);
     close_record();
 }
 static void words(void) {
@@ -76,10 +63,14 @@ static void blanks(void) {
 }
 
 static void nothing(void) { __asm__ volatile("" : : : "memory"); }
-static void attention(void) { refused = lark_resolve_attention(record, length, OPTIONS, out, OUT, work, WORK).number; }
-static void resolve_headings(void) { refused = lark_resolve_headings(record, length, OPTIONS, out, OUT, work, WORK).number; }
-static void lists(void) { refused = lark_resolve_lists(record, length, OPTIONS, out, OUT, work, WORK).number; }
-static void reads(void) { refused = lark_read(record, length, OPTIONS, work, WORK).number; }
+static void attention(void) { refused = lark_resolve_attention(record.bytes, record.length, OPTIONS, out, OUT, work, WORK).number; }
+static void resolve_headings(void) { refused = lark_resolve_headings(record.bytes, record.length, OPTIONS, out, OUT, work, WORK).number; }
+static void lists(void) { refused = lark_resolve_lists(record.bytes, record.length, OPTIONS, out, OUT, work, WORK).number; }
+static void reads(void) { refused = lark_read(record.bytes, record.length, OPTIONS, work, WORK).number; }
+static void attention2(void) { refused = lark_resolve_attention2(record2.bytes, record2.length, out, OUT, work, WORK).number; }
+static void resolve_headings2(void) { refused = lark_resolve_headings2(record2.bytes, record2.length, out, OUT, work, WORK).number; }
+static void lists2(void) { refused = lark_resolve_lists2(record2.bytes, record2.length, out, OUT, work, WORK).number; }
+static void reads2(void) { refused = lark_read2(record2.bytes, record2.length, work, WORK).number; }
 static void spaces(void) { answered = lark_space_or_tab(line, sizeof line, OPTIONS, 0, 0, 9999).found; }
 static void item(void) { answered = lark_list_item(line, sizeof line, OPTIONS, 0, 0).found; }
 static void going(void) { answered = lark_continuation(line, sizeof line, OPTIONS, 0, 2, 0, '-').found; }
@@ -114,6 +105,11 @@ int main(void) {
                  {"lark_resolve_attention", wide_runs, attention, 0},
                  {"lark_resolve_headings", headings, resolve_headings, 0},
                  {"lark_resolve_lists", items, lists, 0},
+                 {"lark_read2", runs, reads2, 0},
+                 {"lark_resolve_attention2, on ASCII", runs, attention2, 0},
+                 {"lark_resolve_attention2", wide_runs, attention2, 0},
+                 {"lark_resolve_headings2", headings, resolve_headings2, 0},
+                 {"lark_resolve_lists2", items, lists2, 0},
                  {"lark_space_or_tab", blanks, spaces, 1},
                  {"lark_list_item", digits, item, 1},
                  {"lark_continuation", blanks, going, 1},

@@ -5,6 +5,7 @@
 //!     bench stacks          the crate alone, on the records in which it compares many stacks of open events
 //!     bench call N SIDE C   record N resolved C times by SIDE, `lark` or `crate`, for a profiler
 //!     bench counted         the records whose instructions `bench/run` counts
+//!     bench records         every record, for bench/forms.c
 //!     bench costs F W C     the instructions to a call in the file F that callgrind left of C calls, and those of functions named with W
 //!
 //! What is timed of the crate is its resolver alone: the events are put back before each call, outside the timer, and nothing is checked,
@@ -19,6 +20,7 @@ mod lark;
 use std::cell::RefCell;
 use std::collections::HashMap;
 use std::hint::black_box;
+use std::io::{self, Write};
 use std::ops::RangeInclusive;
 use std::time::{Duration, Instant};
 
@@ -396,6 +398,25 @@ fn counted(case: &Case) -> bool {
     }
 }
 
+/// Every record: a line with its resolver, its length and its name, and the bytes behind. The records of one document have one name.
+fn records() -> io::Result<()> {
+    let mut out = io::stdout().lock();
+    for case in inputs::cases() {
+        let which = match case.which {
+            Resolver::Attention => "attention",
+            Resolver::Headings => "headings",
+            Resolver::Lists => "lists",
+        };
+        let size = if case.sort == Sort::Hostile { format!(", {} runs", case.runs()) } else { String::new() };
+        for part in &case.parts {
+            let record = write_record(&part.document, &part.events);
+            writeln!(out, "{which} {} {}{size}", record.len(), case.name)?;
+            out.write_all(&record)?;
+        }
+    }
+    Ok(())
+}
+
 /// The instructions that callgrind saw, and how many of them lie in functions with this word in their names: all of them, of so many calls.
 ///
 /// Its file names a function by a number, and says the name where the number first stands. A line that begins with a number is a cost of the
@@ -448,6 +469,7 @@ fn main() {
                 println!("{number}\t{}\t{}", case.runs(), case.name);
             }
         }
+        ["records"] => records().expect("the records can be written"),
         ["costs", file, word, calls] => {
             let text = std::fs::read_to_string(file).expect("a file of callgrind");
             let (all, those) = costs(&text, word, calls.parse().expect("a number"));
@@ -455,7 +477,7 @@ fn main() {
         }
         ["call", number, side, calls] => call(number.parse().expect("a number"), side, calls.parse().expect("a number")),
         _ => {
-            eprintln!("bench | cases | stacks | call N lark|crate CALLS | counted | costs FILE WORD CALLS");
+            eprintln!("bench | cases | stacks | call N lark|crate CALLS | counted | records | costs FILE WORD CALLS");
             std::process::exit(2);
         }
     }
