@@ -12,7 +12,7 @@ use Rattle.record.specs.Event.{event, bytesOf, eventAt, eventsBy}
 use Rattle.record.specs.Partners.{balanced, flatWith, flatLinked}
 use Rattle.record.specs.Stack.{nth}
 use Rattle.record.specs.declared.event.Event.{Event}
-use Rattle.record.proofs.Parts.{less, length-events, nth-event}
+use Rattle.record.proofs.Parts.{length-events, nth-event}
 use Rattle.record.proofs.ReadsBack.{put-number-reads-back}
 use Rattle.record.proofs.Splice.{sets-append}
 use Rattle.partners.specs.Fields.{Head}
@@ -147,20 +147,18 @@ module _ {d₀ : List ℕ} {at : ℕ} {es : List Event} {i : ℕ} {gs d : List �
 
 -- the loop
 
-pub record Widening (d₀ : List ℕ) (at n : ℕ) (d : List ℕ) (top left from to : ℕ) : Type 0 where
+pub record Widening (d₀ : List ℕ) (at n : ℕ) (d : List ℕ) (top left : ℕ) : Type 0 where
   pub room : at + 12 * n ≤ length d₀
   pub few : n < 4294967296
   pub balance : balanced (eventsBy 8 n d₀ at) ≡ true
   pub low : left ≤ n
-  pub source : from ≡ at + 8 * left
-  pub target : to ≡ at + 12 * left
   pub kept : length d ≡ length d₀
   pub gs : List ℕ
   pub walk : Backward (eventsBy 8 n d₀ at) left top gs
   pub memory : d ≡ sets d₀ (at + 12 * left) (flatWith (drop left (eventsBy 8 n d₀ at)) (drop left gs))
 
 pub begin : (d₀ : List ℕ) (at n : ℕ) → at + 12 * n ≤ length d₀ → n < 4294967296 → balanced (eventsBy 8 n d₀ at) ≡ true →
-    Widening d₀ at n d₀ 0 n (at + 8 * n) (at + 12 * n)
+    Widening d₀ at n d₀ 0 n
 begin d₀ at n r f b =
     let l : length (eventsBy 8 n d₀ at) ≡ n = length-events 8 n d₀ at in
     let none : drop n (eventsBy 8 n d₀ at) ≡ [] = ap (λ (k : ℕ). drop k (eventsBy 8 n d₀ at)) (sym l) ∙ drop-length (eventsBy 8 n d₀ at) in
@@ -169,8 +167,6 @@ begin d₀ at n r f b =
       few = f;
       balance = b;
       low = omega arith;
-      source = refl;
-      target = refl;
       kept = refl;
       gs = replicate n 0;
       walk = subst (λ (k : ℕ). Backward (eventsBy 8 n d₀ at) k 0 (replicate k 0)) l (start (eventsBy 8 n d₀ at));
@@ -182,16 +178,6 @@ begin d₀ at n r f b =
 
 before-and-one : (k : ℕ) → 0 < k → k ≡ k - 1 + 1
 before-and-one k h = omega arith
-
--- one event down
-lower : (w at k here : ℕ) → 0 < k → here ≡ at + w * k → here - w ≡ at + w * (k - 1)
-lower w at k here h e =
-    let l : w * k ≡ w + w * (k - 1) = less w k h in
-    omega arith
-
--- four bytes into an event of eight, from its end
-halfway : (here end : ℕ) → 8 ≤ end → here ≡ end - 8 → end - 4 ≡ here + 4
-halfway here end h e = omega arith
 
 -- kind and name as one number, in four bytes
 head-bytes : (kind name head : ℕ) → head ≡ kind + 256 * name → kind < 256 → name < 256 → u32Bytes head ≡ kind ∷ name ∷ 0 ∷ 0 ∷ []
@@ -208,7 +194,7 @@ head-bytes kind name head e k n =
     small : (x : ℕ) → x < 256 → x % 256 ≡ x
     small x h = omega arith
 
-module _ {d₀ : List ℕ} {at n : ℕ} {d : List ℕ} {top left from to : ℕ} (w : Widening d₀ at n d top left from to) (more : 0 < left) where
+module _ {d₀ : List ℕ} {at n : ℕ} {d : List ℕ} {top left : ℕ} (w : Widening d₀ at n d top left) (more : 0 < left) where
   -- memory and walk, where the event that comes next is the last of those that are left
   one-left : left ≡ left - 1 + 1
   one-left = before-and-one left more
@@ -260,27 +246,22 @@ module _ {d₀ : List ℕ} {at n : ℕ} {d : List ℕ} {top left from to : ℕ} 
         ∙ ap (λ (e : Event). bytesOf e ++ u32Bytes x) (sym known)
 
   -- the event that comes next
-  module _ {head : ℕ} (r : Head d (from - 8) head) where
-    stands : from - 8 ≡ at + 8 * (left - 1)
-    stands = lower 8 at left from more (w .source)
-
+  module _ {head : ℕ} (r : Head d (at + 8 * (left - 1)) head) where
     last : left - 1 < left
     last = omega arith
 
     next-kind : head % 256 ≡ nth (eventsBy 8 n d₀ at) (left - 1) .kind
-    next-kind = kind-of last stands r
+    next-kind = kind-of last refl r
 
-    module _ {place : ℕ} (p : place ≡ u32At d (from - 8 + 4)) where
-      moved : (x : ℕ) {d₁ : List ℕ} → Wrote d (to - 12) (u32Bytes head ++ (u32Bytes place ++ u32Bytes x)) d₁ →
+    module _ {place : ℕ} (p : place ≡ u32At d (at + 8 * (left - 1) + 4)) where
+      moved : (x : ℕ) {d₁ : List ℕ} → Wrote d (at + 12 * (left - 1)) (u32Bytes head ++ (u32Bytes place ++ u32Bytes x)) d₁ →
           Placed d₀ at (eventsBy 8 n d₀ at) (left - 1) (set (w .gs) (left - 1) x) d₁
       moved x {d₁} v =
-          let t : to - 12 ≡ at + 12 * (left - 1) = lower 12 at left to more (w .target) in
           let v′ : Wrote d (at + 12 * (left - 1)) (bytesOf (nth (eventsBy 8 n d₀ at) (left - 1)) ++ u32Bytes x) d₁ =
           record {
             same =
                 v .same
-                ∙ ap (λ (m : ℕ). sets d m (u32Bytes head ++ (u32Bytes place ++ u32Bytes x))) t
-                ∙ ap (λ (l : List ℕ). sets d (at + 12 * (left - 1)) l) (its-bytes last stands r refl p x);
+                ∙ ap (λ (l : List ℕ). sets d (at + 12 * (left - 1)) l) (its-bytes last refl r refl p x);
           } in
           placed-more placed several (w .walk .whole) x v′
 
@@ -292,9 +273,9 @@ module _ {d₀ : List ℕ} {at n : ℕ} {d : List ℕ} {top left from to : ℕ} 
       pub top-low : top < n
       top-low = omega (arith, top-inside (w .balance) walked several enters .1, length-events 8 n d₀ at)
 
-      pub on-enter : {place outer : ℕ} {d₁ d₂ : List ℕ} → place ≡ u32At d (from - 8 + 4) →
-          Wrote d (to - 12) (u32Bytes head ++ (u32Bytes place ++ u32Bytes top)) d₁ → outer ≡ u32At d₁ (at + 12 * top + 8) →
-          Wrote d₁ (at + 12 * top + 8) (u32Bytes (left - 1)) d₂ → Widening d₀ at n d₂ outer (left - 1) (from - 8) (to - 12)
+      pub on-enter : {place outer : ℕ} {d₁ d₂ : List ℕ} → place ≡ u32At d (at + 8 * (left - 1) + 4) →
+          Wrote d (at + 12 * (left - 1)) (u32Bytes head ++ (u32Bytes place ++ u32Bytes top)) d₁ → outer ≡ u32At d₁ (at + 12 * top + 8) →
+          Wrote d₁ (at + 12 * top + 8) (u32Bytes (left - 1)) d₂ → Widening d₀ at n d₂ outer (left - 1)
       on-enter {place} {outer} {d₁} {d₂} p v₁ o v₂ =
           let l : length (eventsBy 8 n d₀ at) ≡ n = length-events 8 n d₀ at in
           let ends = top-inside (w .balance) walked several enters in
@@ -308,8 +289,6 @@ module _ {d₀ : List ℕ} {at n : ℕ} {d : List ℕ} {top left from to : ℕ} 
             few = w .few;
             balance = w .balance;
             low = omega (arith, w .low);
-            source = stands;
-            target = lower 12 at left to more (w .target);
             kept = m₂ .kept;
             gs = _;
             walk =
@@ -330,8 +309,8 @@ module _ {d₀ : List ℕ} {at n : ℕ} {d : List ℕ} {top left from to : ℕ} 
       pub one-before : 0 < left - 1
       one-before = not-first (eventsBy 8 n d₀ at) (w .balance) (left - 1) several exits
 
-      pub on-exit : {place : ℕ} {d₁ : List ℕ} → place ≡ u32At d (from - 8 + 4) →
-          Wrote d (to - 12) (u32Bytes head ++ (u32Bytes place ++ u32Bytes top)) d₁ → Widening d₀ at n d₁ (left - 1) (left - 1) (from - 8) (to - 12)
+      pub on-exit : {place : ℕ} {d₁ : List ℕ} → place ≡ u32At d (at + 8 * (left - 1) + 4) →
+          Wrote d (at + 12 * (left - 1)) (u32Bytes head ++ (u32Bytes place ++ u32Bytes top)) d₁ → Widening d₀ at n d₁ (left - 1) (left - 1)
       on-exit {place} {d₁} p v =
           let m = moved p top v in
           record {
@@ -339,8 +318,6 @@ module _ {d₀ : List ℕ} {at n : ℕ} {d : List ℕ} {top left from to : ℕ} 
             few = w .few;
             balance = w .balance;
             low = omega (arith, w .low);
-            source = stands;
-            target = lower 12 at left to more (w .target);
             kept = m .kept;
             gs = _;
             walk = passed-exit (w .balance) walked several exits;
@@ -348,17 +325,17 @@ module _ {d₀ : List ℕ} {at n : ℕ} {d : List ℕ} {top left from to : ℕ} 
           }
 
       -- with its enter right before it
-      pub on-both : {enter place begin : ℕ} {d₁ d₂ : List ℕ} → Head d (from - 8 - 8) enter → enter % 256 ≡ 0 → place ≡ u32At d (from - 8 + 4) →
-          begin ≡ u32At d (from - 8 - 4) → Wrote d (to - 12) (u32Bytes head ++ (u32Bytes place ++ u32Bytes (left - 1 - 1))) d₁ →
-          Wrote d₁ (to - 12 - 12) (u32Bytes enter ++ (u32Bytes begin ++ u32Bytes (left - 1))) d₂ →
-          Widening d₀ at n d₂ top (left - 1 - 1) (from - 8 - 8) (to - 12 - 12)
+      pub on-both : {enter place begin : ℕ} {d₁ d₂ : List ℕ} → Head d (at + 8 * (left - 1) - 8) enter → enter % 256 ≡ 0 → place ≡ u32At d (at + 8 * (left - 1) + 4) →
+          begin ≡ u32At d (at + 8 * (left - 1) - 4) → Wrote d (at + 12 * (left - 1)) (u32Bytes head ++ (u32Bytes place ++ u32Bytes (left - 1 - 1))) d₁ →
+          Wrote d₁ (at + 12 * (left - 1) - 12) (u32Bytes enter ++ (u32Bytes begin ++ u32Bytes (left - 1))) d₂ →
+          Widening d₀ at n d₂ top (left - 1 - 1)
       on-both {enter} {place} {begin} {d₁} {d₂} r₂ z₂ p p₂ v₁ v₂ =
           let b : 0 < left - 1 = one-before in
           let l : length (eventsBy 8 n d₀ at) ≡ n = length-events 8 n d₀ at in
-          let q₂ : from - 8 - 4 ≡ from - 8 - 8 + 4 = halfway (from - 8 - 8) (from - 8) (omega (arith, stands)) refl in
-          let s₂ : from - 8 - 8 ≡ at + 8 * (left - 1 - 1) = lower 8 at (left - 1) (from - 8) b stands in
+          let q₂ : at + 8 * (left - 1) - 4 ≡ at + 8 * (left - 1) - 8 + 4 = omega arith in
+          let s₂ : at + 8 * (left - 1) - 8 ≡ at + 8 * (left - 1 - 1) = omega arith in
           let fewer : left - 1 - 1 < left = omega arith in
-          let t₂ : to - 12 - 12 ≡ at + 12 * (left - 1 - 1) = lower 12 at (left - 1) (to - 12) b (lower 12 at left to more (w .target)) in
+          let t₂ : at + 12 * (left - 1) - 12 ≡ at + 12 * (left - 1 - 1) = omega arith in
           let e : left - 1 ≡ left - 1 - 1 + 1 = before-and-one (left - 1) b in
           let m₁ = moved p (left - 1 - 1) v₁ in
           let m₁′ = subst (λ (k : ℕ). Placed d₀ at (eventsBy 8 n d₀ at) k (set (w .gs) (left - 1) (left - 1 - 1)) d₁) e m₁ in
@@ -376,18 +353,16 @@ module _ {d₀ : List ℕ} {at n : ℕ} {d : List ℕ} {top left from to : ℕ} 
             few = w .few;
             balance = w .balance;
             low = omega (arith, w .low);
-            source = s₂;
-            target = t₂;
             kept = m₂ .kept;
             gs = _;
             walk = passed-both (w .balance) e walked several exits (sym (kind-of fewer s₂ r₂) ∙ z₂);
             memory = m₂ .memory;
           }
 
-pub widened : {d₀ : List ℕ} {at n : ℕ} {d : List ℕ} {top left from to : ℕ} → Widening d₀ at n d top left from to → left ≤ 0 →
+pub widened : {d₀ : List ℕ} {at n : ℕ} {d : List ℕ} {top left : ℕ} → Widening d₀ at n d top left → left ≤ 0 →
     Wrote d₀ at (flatLinked (eventsBy 8 n d₀ at)) d
 unfolding flatLinked
-widened {d₀} {at} {n} {d} {top} {left} {from} {to} w h =
+widened {d₀} {at} {n} {d} {top} {left} w h =
     let z : left ≡ 0 = omega arith in
     let t : at + 12 * 0 ≡ at = omega arith in
     let b : Backward (eventsBy 8 n d₀ at) 0 top (w .gs) = subst (λ (k : ℕ). Backward (eventsBy 8 n d₀ at) k top (w .gs)) z (w .walk) in

@@ -46,12 +46,10 @@ pub fn widen(out: &mut [u8], at: usize, n: usize)
 {
     let mut top = 0;
     let mut left = n;
-    let mut from = at + 8 * n;
-    let mut to = at + 12 * n;
     while left > 0 {
         left -= 1;
-        from -= 8;
-        to -= 12;
+        let from = at + 8 * left;
+        let to = at + 12 * left;
         let head = head_at(out, from);
         let place = u32_at(out, from + 4);
         if head % 256 == 0 {
@@ -67,8 +65,6 @@ pub fn widen(out: &mut [u8], at: usize, n: usize)
                 put_linked(out, to, head, place, left - 1);
                 put_linked(out, to - 12, enter, begin, left);
                 left -= 1;
-                from -= 8;
-                to -= 12;
             } else {
                 put_linked(out, to, head, place, top);
                 top = left;

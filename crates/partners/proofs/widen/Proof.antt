@@ -12,10 +12,16 @@ use Rattle.record.proofs.bytes.put_u32.Reads as put-u32-reads
 use Rattle.record.proofs.bytes.u32_at.Reads as u32-at-reads
 
 abbrev Inv-loop : tie.InvT-loop
-Inv-loop out₀ at n top₀ left₀ from₀ to₀ out top left from to = Widening out₀ at n out top left from to
+Inv-loop out₀ at n top₀ left₀ out top left = Widening out₀ at n out top left
 
 abbrev μ-loop : tie.MeasureT-loop
-μ-loop out₀ at n top₀ left₀ from₀ to₀ out top left from to = left
+μ-loop out₀ at n top₀ left₀ out top left = left
+
+loop-holds : tie.Need-loop-holds Inv-loop μ-loop
+loop-holds c = begin _ _ _ (search needs) (search needs) (search needs)
+
+sub-left : tie.Need-sub-left Inv-loop μ-loop
+sub-left c = search needs
 
 mul-from : tie.Need-mul-from Inv-loop μ-loop
 mul-from c = search needs
@@ -28,18 +34,6 @@ mul-to c = search needs
 
 add-to : tie.Need-add-to Inv-loop μ-loop
 add-to c = search needs
-
-loop-holds : tie.Need-loop-holds Inv-loop μ-loop
-loop-holds c = begin _ _ _ (search needs) (search needs) (search needs)
-
-sub-left : tie.Need-sub-left Inv-loop μ-loop
-sub-left c = search needs
-
-sub-from : tie.Need-sub-from Inv-loop μ-loop
-sub-from c = search needs
-
-sub-to : tie.Need-sub-to Inv-loop μ-loop
-sub-to c = search needs
 
 head-at-requires : tie.Need-head-at-requires Inv-loop μ-loop
 head-at-requires c κs = search needs
@@ -130,16 +124,6 @@ sub-left-2 c =
     let h = one-before (c .before .before .before .before .before .before .before .before .before .before .before .before .before .before .before .before .before .before .before .loop .inv) (c .before .before .before .before .before .before .before .before .before .before .before .before .before .before .before .before .before .before .loop-test .taken) (c .before .before .before .before .before .before .before .before .before .before .before .before .before .before .before .before .head-at .ensures) (c .before .before .before .before .before .before .before .before .before .before .before .before .before .if1 .left) in
     search needs
 
-sub-from-2 : tie.Need-sub-from-2 Inv-loop μ-loop
-sub-from-2 c =
-    let h = one-before (c .before .before .before .before .before .before .before .before .before .before .before .before .before .before .before .before .before .before .before .loop .inv) (c .before .before .before .before .before .before .before .before .before .before .before .before .before .before .before .before .before .before .loop-test .taken) (c .before .before .before .before .before .before .before .before .before .before .before .before .before .before .before .before .head-at .ensures) (c .before .before .before .before .before .before .before .before .before .before .before .before .before .if1 .left) in
-    search needs
-
-sub-to-2 : tie.Need-sub-to-2 Inv-loop μ-loop
-sub-to-2 c =
-    let h = one-before (c .before .before .before .before .before .before .before .before .before .before .before .before .before .before .before .before .before .before .before .loop .inv) (c .before .before .before .before .before .before .before .before .before .before .before .before .before .before .before .before .before .before .loop-test .taken) (c .before .before .before .before .before .before .before .before .before .before .before .before .before .before .before .before .head-at .ensures) (c .before .before .before .before .before .before .before .before .before .before .before .before .before .if1 .left) in
-    search needs
-
 loop-less-2 : tie.Need-loop-less-2 Inv-loop μ-loop
 loop-less-2 c = search needs
 
@@ -185,14 +169,12 @@ widen-spec =
     (tie.spec
     Inv-loop
     μ-loop
+    loop-holds
+    sub-left
     mul-from
     add-from
     mul-to
     add-to
-    loop-holds
-    sub-left
-    sub-from
-    sub-to
     head-at-requires
     add-u32-at
     u32-at-requires
@@ -213,8 +195,6 @@ widen-spec =
     sub-put-linked-2
     put-linked-requires-3
     sub-left-2
-    sub-from-2
-    sub-to-2
     loop-less-2
     loop-again-2
     put-linked-requires-4
