@@ -1,6 +1,6 @@
 /* Two calls beside each other on every record that bench/ has: the families of bench/families.h, and the driver's records, in the file that is named as the
- * argument (`bench records` writes it). They are those of form 2 and of the old form, in one archive; or, with OLDER defined, those of the old form before a
- * change and after it, in two archives, the older with its names prefixed `older_` (bench/renamed does that).
+ * argument (`bench records` writes it). They are those of form 2 and of the old form, in one archive; or, with TWO_ARCHIVES defined, those of the old form
+ * before a change and after it, in two archives, the older with its names prefixed `older_` (bench/renamed does that).
  *
  * The two take turns, call by call, and each figure is the least of many; all records take their turn in each of several rounds. Both have to answer the same
  * and to write the same events. The wipe of 65,536 bytes is in all figures. The records of one document have their times added up. The last line says where
@@ -21,7 +21,7 @@
 
 /* So often the two are called on a record in one round: at most CALLS times, and once LEAST are made no longer than TURN, in nanoseconds. */
 enum { OPTIONS = 59, ROWS = 1024, CALLS = 200, LEAST = 5 };
-#ifdef OLDER
+#ifdef TWO_ARCHIVES
 extern __typeof__(lark_resolve_attention) older_lark_resolve_attention, older_lark_resolve_headings, older_lark_resolve_lists;
 extern __typeof__(lark_read) older_lark_read;
 enum { ROUNDS = 5, TURN = 1000000, WIDTH = 8 };
@@ -126,7 +126,7 @@ static int add_from(const char *file) {
         } \
         } \
     }
-#ifdef OLDER
+#ifdef TWO_ARCHIVES
 TIMED(call_first, older_, , old, OPTIONS, )
 TIMED(call_second, , , old, OPTIONS, )
 #else
