@@ -157,8 +157,7 @@ pub record Widening (d₀ : List ℕ) (at n : ℕ) (d : List ℕ) (top left : �
   pub walk : Backward (eventsBy 8 n d₀ at) left top gs
   pub memory : d ≡ sets d₀ (at + 12 * left) (flatWith (drop left (eventsBy 8 n d₀ at)) (drop left gs))
 
-pub begin : (d₀ : List ℕ) (at n : ℕ) → at + 12 * n ≤ length d₀ → n < 4294967296 → balanced (eventsBy 8 n d₀ at) ≡ true →
-    Widening d₀ at n d₀ 0 n
+pub begin : (d₀ : List ℕ) (at n : ℕ) → at + 12 * n ≤ length d₀ → n < 4294967296 → balanced (eventsBy 8 n d₀ at) ≡ true → Widening d₀ at n d₀ 0 n
 begin d₀ at n r f b =
     let l : length (eventsBy 8 n d₀ at) ≡ n = length-events 8 n d₀ at in
     let none : drop n (eventsBy 8 n d₀ at) ≡ [] = ap (λ (k : ℕ). drop k (eventsBy 8 n d₀ at)) (sym l) ∙ drop-length (eventsBy 8 n d₀ at) in
@@ -325,8 +324,9 @@ module _ {d₀ : List ℕ} {at n : ℕ} {d : List ℕ} {top left : ℕ} (w : Wid
           }
 
       -- with its enter right before it
-      pub on-both : {enter place begin : ℕ} {d₁ d₂ : List ℕ} → Head d (at + 8 * (left - 1) - 8) enter → enter % 256 ≡ 0 → place ≡ u32At d (at + 8 * (left - 1) + 4) →
-          begin ≡ u32At d (at + 8 * (left - 1) - 4) → Wrote d (at + 12 * (left - 1)) (u32Bytes head ++ (u32Bytes place ++ u32Bytes (left - 1 - 1))) d₁ →
+      pub on-both : {enter place begin : ℕ} {d₁ d₂ : List ℕ} → Head d (at + 8 * (left - 1) - 8) enter → enter % 256 ≡ 0 →
+          place ≡ u32At d (at + 8 * (left - 1) + 4) → begin ≡ u32At d (at + 8 * (left - 1) - 4) →
+          Wrote d (at + 12 * (left - 1)) (u32Bytes head ++ (u32Bytes place ++ u32Bytes (left - 1 - 1))) d₁ →
           Wrote d₁ (at + 12 * (left - 1) - 12) (u32Bytes enter ++ (u32Bytes begin ++ u32Bytes (left - 1))) d₂ →
           Widening d₀ at n d₂ top (left - 1 - 1)
       on-both {enter} {place} {begin} {d₁} {d₂} r₂ z₂ p p₂ v₁ v₂ =
