@@ -131,9 +131,9 @@
 extern "C" {
 #endif
 
-#define LARK_VERSION "0.6.0"
+#define LARK_VERSION "0.7.0"
 #define LARK_VERSION_MAJOR 0
-#define LARK_VERSION_MINOR 6
+#define LARK_VERSION_MINOR 7
 #define LARK_VERSION_PATCH 0
 
 /* Limits. */

@@ -5,6 +5,7 @@ use native.Mathlib.Omega.{arith}
 use mathlib.Core.Path.{_≡_, refl, sym, ap, _∙_}
 use mathlib.Core.Bool.{Bool, true, false}
 use mathlib.Core.List.{List}
+use mathlib.Core.Logic.{_⊎_, inl, inr}
 use lib.ListN.{length}
 use lib.Dec.{ltb}
 use Rattle.record.specs.Check.{admitted, refuse}
@@ -64,11 +65,12 @@ read-in-both options document es work₁ work₂ r₁ r₂ work₁′ work₂′
 
 -- what two calls come to
 data Come (d e : ℕ) : Outcome → Outcome → Type 0 where
-  refused-alike : (n p₁ p₂ : ℕ) → 0 < n → Alike d e (refuse n p₁) (refuse n p₂) → Come d e (refusing n p₁) (refusing n p₂)
+  refused-alike : (n p₁ p₂ : ℕ) → 0 < n → n < 8 → Alike d e (refuse n p₁) (refuse n p₂) → Come d e (refusing n p₁) (refusing n p₂)
   misshapen : (k : ℕ) → Come d e (refusing 6 (8 + d + 8 * k)) (refusing 6 (13 + d + 12 * k))
   over-many : Come d e (refusing 7 0) (refusing 7 0)
-  no-room : (o : Outcome) → Come d e (refusing 8 0) o
-  no-room-there : (o : Outcome) → Come d e o (refusing 8 0)
+  no-room : Come d e (refusing 8 0) (refusing 8 0)
+  no-room-in-old : (rs : List Event) → Come d e (refusing 8 0) (accepted rs)
+  no-room-in-second : (rs : List Event) → Come d e (accepted rs) (refusing 8 0)
   both-accepted : (rs : List Event) → Come d e (accepted rs) (accepted rs)
 
 settle : (d e : ℕ) (m : Resolution) (outs₁ outs₂ : ℕ) → Come d e (settled old d m outs₁) (settled second d m outs₂)
@@ -79,20 +81,21 @@ settle d e (gives rs) outs₁ outs₂ = go (ltb 8000 (length rs)) (ltb outs₁ (
     go : (many short₁ short₂ : Bool) →
         Come d e (choose many (refusing 7 0) (choose short₁ (refusing 8 0) (accepted rs))) (choose many (refusing 7 0) (choose short₂ (refusing 8 0) (accepted rs)))
     go true short₁ short₂ = over-many
-    go false true short₂ = no-room _
-    go false false true = no-room-there _
+    go false true true = no-room
+    go false true false = no-room-in-old rs
+    go false false true = no-room-in-second rs
     go false false false = both-accepted rs
 
 come : (d e : ℕ) (a₁ a₂ : Reading) → Alike d e a₁ a₂ → (m : Resolution) (outs₁ outs₂ : ℕ) →
     Come d e (outcome old a₁ (λ x y. m) outs₁) (outcome second a₂ (λ x y. m) outs₂)
 come d e a₁ a₂ both-good m outs₁ outs₂ = settle d e m outs₁ outs₂
-come d e a₁ a₂ the-memory m outs₁ outs₂ = refused-alike 1 0 0 (omega arith) the-memory
-come d e a₁ a₂ the-options m outs₁ outs₂ = refused-alike 2 0 0 (omega arith) the-options
-come d e a₁ a₂ the-document-count m outs₁ outs₂ = refused-alike 3 0 5 (omega arith) the-document-count
-come d e a₁ a₂ the-event-count m outs₁ outs₂ = refused-alike 3 (4 + d) (9 + d) (omega arith) the-event-count
-come d e a₁ a₂ (a-return k h) m outs₁ outs₂ = refused-alike 4 (4 + k) (9 + k) (omega arith) (a-return k h)
-come d e a₁ a₂ (an-event k h) m outs₁ outs₂ = refused-alike 5 (8 + d + 8 * k) (13 + d + 12 * k) (omega arith) (an-event k h)
-come d e a₁ a₂ the-end m outs₁ outs₂ = refused-alike 5 (8 + d + 8 * e) (13 + d + 12 * e) (omega arith) the-end
+come d e a₁ a₂ the-memory m outs₁ outs₂ = refused-alike 1 0 0 (omega arith) (omega arith) the-memory
+come d e a₁ a₂ the-options m outs₁ outs₂ = refused-alike 2 0 0 (omega arith) (omega arith) the-options
+come d e a₁ a₂ the-document-count m outs₁ outs₂ = refused-alike 3 0 5 (omega arith) (omega arith) the-document-count
+come d e a₁ a₂ the-event-count m outs₁ outs₂ = refused-alike 3 (4 + d) (9 + d) (omega arith) (omega arith) the-event-count
+come d e a₁ a₂ (a-return k h) m outs₁ outs₂ = refused-alike 4 (4 + k) (9 + k) (omega arith) (omega arith) (a-return k h)
+come d e a₁ a₂ (an-event k h) m outs₁ outs₂ = refused-alike 5 (8 + d + 8 * k) (13 + d + 12 * k) (omega arith) (omega arith) (an-event k h)
+come d e a₁ a₂ the-end m outs₁ outs₂ = refused-alike 5 (8 + d + 8 * e) (13 + d + 12 * e) (omega arith) (omega arith) the-end
 
 abbrev number : LarkResolved → ℕ
 number r = r .number
@@ -103,23 +106,51 @@ module _ (d e groups tried : ℕ) (a₁ a₂ : Outcome → LarkResolved) (R₁ :
   refused-so n p₁ p₂ x = rw (R₁ .of-refused n p₁, R₂ .of-refused n p₂) x
 
   answered : (o₁ o₂ : Outcome) → Come d e o₁ o₂ → (number (a₁ o₁) ≡ 8 → ⊥) → (number (a₂ o₂) ≡ 8 → ⊥) → SameAnswer d e (a₁ o₁) (a₂ o₂)
-  answered o₁ o₂ (refused-alike n p₁ p₂ h x) l₁ l₂ = refused-so n p₁ p₂ (by-check n p₁ p₂ x)
+  answered o₁ o₂ (refused-alike n p₁ p₂ h h′ x) l₁ l₂ = refused-so n p₁ p₂ (by-check n p₁ p₂ x)
   answered o₁ o₂ (misshapen k) l₁ l₂ = refused-so 6 (8 + d + 8 * k) (13 + d + 12 * k) (by-shape k)
   answered o₁ o₂ over-many l₁ l₂ = refused-so 7 0 0 too-many
-  answered o₁ o₂ (no-room o) l₁ l₂ = absurd (l₁ (ap number (R₁ .of-refused 8 0)))
-  answered o₁ o₂ (no-room-there o) l₁ l₂ = absurd (l₂ (ap number (R₂ .of-refused 8 0)))
+  answered o₁ o₂ no-room l₁ l₂ = absurd (l₁ (ap number (R₁ .of-refused 8 0)))
+  answered o₁ o₂ (no-room-in-old rs) l₁ l₂ = absurd (l₁ (ap number (R₁ .of-refused 8 0)))
+  answered o₁ o₂ (no-room-in-second rs) l₁ l₂ = absurd (l₂ (ap number (R₂ .of-refused 8 0)))
   answered o₁ o₂ (both-accepted rs) l₁ l₂ = rw (R₁ .of-accepted rs, R₂ .of-accepted rs) (both-resolved (length rs) groups tried)
+
+  -- a refusal with another number than 8
+  no-eight : {a : Outcome → LarkResolved} → Reads groups tried a → (n p : ℕ) → n < 8 → number (a (refusing n p)) ≡ 8 → ⊥
+  no-eight reads n p h z = let e : number (refusal n p) ≡ 8 = sym (ap number (reads .of-refused n p)) ∙ z in omega arith
+
+  zero-number : {a : Outcome → LarkResolved} → Reads groups tried a → (rs : List Event) → number (a (accepted rs)) ≡ 0
+  zero-number reads rs = ap number (reads .of-accepted rs)
+
+  -- where one answers 8
+  eight-in-old : (o₁ o₂ : Outcome) → Come d e o₁ o₂ → number (a₁ o₁) ≡ 8 → (number (a₂ o₂) ≡ 8) ⊎ (number (a₂ o₂) ≡ 0)
+  eight-in-old o₁ o₂ (refused-alike n p₁ p₂ h h′ x) z = absurd (no-eight R₁ n p₁ h′ z)
+  eight-in-old o₁ o₂ (misshapen k) z = absurd (no-eight R₁ 6 (8 + d + 8 * k) (omega arith) z)
+  eight-in-old o₁ o₂ over-many z = absurd (no-eight R₁ 7 0 (omega arith) z)
+  eight-in-old o₁ o₂ no-room z = inl (ap number (R₂ .of-refused 8 0))
+  eight-in-old o₁ o₂ (no-room-in-old rs) z = inr (zero-number R₂ rs)
+  eight-in-old o₁ o₂ (no-room-in-second rs) z = inl (ap number (R₂ .of-refused 8 0))
+  eight-in-old o₁ o₂ (both-accepted rs) z = inr (zero-number R₂ rs)
+
+  eight-in-second : (o₁ o₂ : Outcome) → Come d e o₁ o₂ → number (a₂ o₂) ≡ 8 → (number (a₁ o₁) ≡ 8) ⊎ (number (a₁ o₁) ≡ 0)
+  eight-in-second o₁ o₂ (refused-alike n p₁ p₂ h h′ x) z = absurd (no-eight R₂ n p₂ h′ z)
+  eight-in-second o₁ o₂ (misshapen k) z = absurd (no-eight R₂ 6 (13 + d + 12 * k) (omega arith) z)
+  eight-in-second o₁ o₂ over-many z = absurd (no-eight R₂ 7 0 (omega arith) z)
+  eight-in-second o₁ o₂ no-room z = inl (ap number (R₁ .of-refused 8 0))
+  eight-in-second o₁ o₂ (no-room-in-old rs) z = inl (ap number (R₁ .of-refused 8 0))
+  eight-in-second o₁ o₂ (no-room-in-second rs) z = inr (zero-number R₁ rs)
+  eight-in-second o₁ o₂ (both-accepted rs) z = inr (zero-number R₁ rs)
 
   no-zero : {a : Outcome → LarkResolved} → Reads groups tried a → (n p : ℕ) → 0 < n → number (a (refusing n p)) ≡ 0 → ⊥
   no-zero reads n p h z = let e : number (refusal n p) ≡ 0 = sym (ap number (reads .of-refused n p)) ∙ z in omega arith
 
   wrote : (out₁ out₂ out₁′ out₂′ : List ℕ) (o₁ o₂ : Outcome) → Come d e o₁ o₂ → out₁′ ≡ onto (bytesWritten old o₁) out₁ → out₂′ ≡ onto (bytesWritten second o₂) out₂ →
       number (a₁ o₁) ≡ 0 → number (a₂ o₂) ≡ 0 → SameEvents out₁ out₂ out₁′ out₂′
-  wrote out₁ out₂ out₁′ out₂′ o₁ o₂ (refused-alike n p₁ p₂ h x) w₁ w₂ z₁ z₂ = absurd (no-zero R₁ n p₁ h z₁)
+  wrote out₁ out₂ out₁′ out₂′ o₁ o₂ (refused-alike n p₁ p₂ h h′ x) w₁ w₂ z₁ z₂ = absurd (no-zero R₁ n p₁ h z₁)
   wrote out₁ out₂ out₁′ out₂′ o₁ o₂ (misshapen k) w₁ w₂ z₁ z₂ = absurd (no-zero R₁ 6 (8 + d + 8 * k) (omega arith) z₁)
   wrote out₁ out₂ out₁′ out₂′ o₁ o₂ over-many w₁ w₂ z₁ z₂ = absurd (no-zero R₁ 7 0 (omega arith) z₁)
-  wrote out₁ out₂ out₁′ out₂′ o₁ o₂ (no-room o) w₁ w₂ z₁ z₂ = absurd (no-zero R₁ 8 0 (omega arith) z₁)
-  wrote out₁ out₂ out₁′ out₂′ o₁ o₂ (no-room-there o) w₁ w₂ z₁ z₂ = absurd (no-zero R₂ 8 0 (omega arith) z₂)
+  wrote out₁ out₂ out₁′ out₂′ o₁ o₂ no-room w₁ w₂ z₁ z₂ = absurd (no-zero R₁ 8 0 (omega arith) z₁)
+  wrote out₁ out₂ out₁′ out₂′ o₁ o₂ (no-room-in-old rs) w₁ w₂ z₁ z₂ = absurd (no-zero R₁ 8 0 (omega arith) z₁)
+  wrote out₁ out₂ out₁′ out₂′ o₁ o₂ (no-room-in-second rs) w₁ w₂ z₁ z₂ = absurd (no-zero R₂ 8 0 (omega arith) z₂)
   wrote out₁ out₂ out₁′ out₂′ o₁ o₂ (both-accepted rs) w₁ w₂ z₁ z₂ = record { events = rs; in-old = w₁; in-second = w₂ }
 
 -- the three resolvers, once: each looks at the options, the document and the events, and at nothing else of the record
@@ -137,6 +168,8 @@ in-both resolve groups tried a₁ a₂ R₁ R₂ options document es out₁ out�
       answers = λ l₁ l₂.
           rw (p .answer, q .answer)
           (answered (length document) (length es) groups tried a₁ a₂ R₁ R₂ o₁ o₂ c (rw (p .answer) at l₁) (rw (q .answer) at l₂));
+      no-room-in-old = λ z. rw (q .answer) (eight-in-old (length document) (length es) groups tried a₁ a₂ R₁ R₂ o₁ o₂ c (rw (p .answer) at z));
+      no-room-in-second = λ z. rw (p .answer) (eight-in-second (length document) (length es) groups tried a₁ a₂ R₁ R₂ o₁ o₂ c (rw (q .answer) at z));
       written = λ z₁ z₂.
           wrote (length document) (length es) groups tried a₁ a₂ R₁ R₂ out₁ out₂ out₁′ out₂′ o₁ o₂ c (p .output) (q .output) (rw (p .answer) at z₁)
           (rw (q .answer) at z₂);

@@ -106,7 +106,7 @@ spaces-whole (Taken k left) h = absurd (omega arith)
 spaces-whole TooFew h = absurd (omega arith)
 spaces-whole (SpacesRefused x) h = refl
 
-pub spaces-claim : (s : List ℕ) (options column min max : ℕ) → SpacesClaim s options column min max
+pub spaces-claim : SpacesClaim
 spaces-claim s options column min max =
     let a = spacesOf s options column min max in
     claimed (λ (x : LarkSpaces). x .number) (λ (x : LarkSpaces). x .place) spacesRefusal larkSpaces SpacesRefused (Row s options column)
@@ -139,7 +139,7 @@ item-whole (Item taken left held) h = absurd (omega arith)
 item-whole NotItem h = absurd (omega arith)
 item-whole (StartRefused x) h = refl
 
-pub item-claim : (s : List ℕ) (options column interrupting : ℕ) → ItemClaim s options column interrupting
+pub item-claim : ItemClaim
 item-claim s options column interrupting =
     let a = startOf s options column (flagged interrupting) in
     claimed (λ (x : LarkItem). x .number) (λ (x : LarkItem). x .place) itemRefusal larkItem StartRefused (Row s options column)
@@ -172,7 +172,7 @@ going-whole (Goes taken left held) h = absurd (omega arith)
 going-whole (Stops held) h = absurd (omega arith)
 going-whole (GoingRefused x) h = refl
 
-pub going-claim : (s : List ℕ) (options column size blank mark : ℕ) → GoingClaim s options column size blank mark
+pub going-claim : GoingClaim
 going-claim s options column size blank mark =
     let a = goingOf s options column (containerOf size blank mark) in
     claimed (λ (x : LarkGoing). x .number) (λ (x : LarkGoing). x .place) goingRefusal larkGoing GoingRefused (Row s options column)
@@ -327,7 +327,7 @@ within s options column outs =
     (choose (isHeading (lineOf s) options column) (headed (sized old (headingEvents (lineOf s)) outs)) (nothing NotHeading)) outs
     (within-line (isHeading (lineOf s) options column) (sized old (headingEvents (lineOf s)) outs) outs (within-sized (headingEvents (lineOf s)) outs))
 
-pub heading-claim : (s : List ℕ) (options column : ℕ) → HeadingClaim s options column
+pub heading-claim : HeadingClaim
 heading-claim s options column =
     record {
       unique = λ out r₁ r₂ o₁ o₂ p q. (p .answer ∙ sym (q .answer), p .output ∙ sym (q .output));

@@ -12,7 +12,7 @@ use Rattle.record.specs.Handed.{formOf, optionsOf}
 use Rattle.record.specs.Choice.{choose}
 use Rattle.record.specs.Event.{sectionBytes, sectionAt, sectionAtIn, documentIn, eventsIn}
 use Rattle.record.specs.Check.{admitted}
-use Rattle.record.specs.Rows.{documentCountIn, eventCountIn}
+use Rattle.record.specs.Rows.{Row, documentCountIn, eventCountIn}
 use Rattle.record.specs.Sound.{sound}
 use Rattle.record.specs.ReadsBack.{Holdable, AreBytes}
 use Rattle.partners.specs.Laws.{partnerOf}
@@ -44,12 +44,13 @@ use Rattle.atx.specs.declared.Headed.{Headed}
 use Rattle.atx.specs.declared.Headed.the-variants.{Heading, NotHeading, Refused}
 use Rattle.atx.proofs.Covering.{heading-lawful}
 use Rattle.ledgerlark.specs.Answers.{larkReading, larkReading2, larkHeaded, HeadedAs}
+use Rattle.ledgerlark.specs.declared.resolve.LarkReading2.{LarkReading2}
 use Rattle.ledgerlark.specs.declared.resolve.LarkResolved.{LarkResolved}
 use Rattle.ledgerlark.specs.declared.line.LarkHeaded.{LarkHeaded}
 use Rattle.claims.specs.Records.{docOf, Accepts}
 use Rattle.claims.specs.Lines.{headedFound}
-use Rattle.claims.specs.ReadsBack.{ReaderAccepts, ReadAgainInEither, ResolvedReadsBack, AttentionReadsBack, HeadingsReadBack, ListsReadBack, HeadingReadsBack}
-use Rattle.claims.proofs.Records.{at-most, seam, no-row-sound, attention-claim, headings-claim, lists-claim}
+use Rattle.claims.specs.ReadsBack.{ReaderAccepts, ReadAgainInEither, IsRecord, AcceptedIsRecord, AcceptedIsRecord2, ResolvedReadsBack, AttentionReadsBack, HeadingsReadBack, ListsReadBack, HeadingReadsBack}
+use Rattle.claims.proofs.Records.{at-most, seam, no-row-sound, reading-claim, reading2-claim, attention-claim, headings-claim, lists-claim}
 use Rattle.claims.proofs.Lines.{heading-claim}
 use Rattle.claims.proofs.Accepted.{accepted-attention, accepted-headings, accepted-lists}
 
@@ -85,6 +86,24 @@ again document es holds h options o ho =
           ∙ ap (λ (n : ℕ). eventsIn (formOf h) s (length document) n) e
           ∙ t .its-events;
     }
+
+-- a record that is admitted is the bytes of what is read from it
+is-record : (h : Handed) (s : List ℕ) (works : ℕ) → AreBytes s → ((n p : ℕ) → Row h s works n p → ⊥) → IsRecord h (optionsOf h s) s
+is-record h s works b none =
+    let good = exactly h s works .accepted none in
+    let memory = admission h s works (documentCountIn (formOf h) s) (eventCountIn (formOf h) s) good .memory in
+    let w = good-is-rewritten h s (documentCountIn (formOf h) s) (eventCountIn (formOf h) s) b (enough-work h s works memory ∙ good) in
+    record { same = w .same; holdable = w .holdable }
+
+pub accepted-is-record : AcceptedIsRecord
+accepted-is-record s options work r work′ p z b =
+    is-record (Old options) s (length work) b (reading-claim s options .exactly work r work′ p .none-holds z)
+
+pub accepted-is-record2 : AcceptedIsRecord2
+accepted-is-record2 s work r work′ p z b =
+    let c = reading2-claim s in
+    let e : r .options ≡ optionsOf Second s = ap (λ (x : LarkReading2). x .options) (c .accepts work r work′ p z) in
+    rw e (is-record Second s (length work) b (c .exactly work r work′ p .none-holds z))
 
 -- the front of the record and the section of the output, as they stand
 in-memory : (h : Handed) (s : List ℕ) (works d e : ℕ) (es : List Event) (out out′ : List ℕ) (n : ℕ) → AreBytes s → admitted h s works ≡ Good d e →

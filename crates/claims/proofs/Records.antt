@@ -124,13 +124,13 @@ reads-claim {A} number place refusal reads R h s =
     told-so : (works : ℕ) (r : A) → r ≡ reads (admitted h s works) → Told number place refusal (Row h s works) r
     told-so = read-exactly number place refusal reads R h s
 
-pub read-claim : (s : List ℕ) (options : ℕ) → ReadingClaim s options
-read-claim s options =
+pub reading-claim : ReadingClaim
+reading-claim s options =
     reads-claim _ _ readRefusal larkReading (record { of-refused = λ n p. refl; of-good = λ d e. refl; its-number = λ n p. refl; its-place = λ n p. refl })
     (Old options) s
 
-pub read2-claim : (s : List ℕ) → Reading2Claim s
-read2-claim s =
+pub reading2-claim : Reading2Claim
+reading2-claim s =
     reads-claim _ _ read2Refusal (larkReading2 (optionsOf Second s))
     (record { of-refused = λ n p. refl; of-good = λ d e. refl; its-number = λ n p. refl; its-place = λ n p. refl }) Second s
 
@@ -273,7 +273,7 @@ claimed comes answers h s Offends resolve groups tried reads e x =
         let k : r .number ≡ y .number = ap (λ (v : LarkResolved). v .number) (a .answer ∙ ap answers c ∙ reads .of-refused (y .number) (y .place)) in
         absurd (omega arith)
 
-pub attention-claim : (profile : Profile) (h : Handed) (s : List ℕ) → AttentionClaim profile h s
+pub attention-claim : AttentionClaim
 unfolding attentionCall.outcomeOf
 attention-claim profile h s =
     claimed (attentionCall.outcomeOf profile h s) (λ (o : Outcome). larkAttention (attentionCall.answerOf profile h s o)) h s
@@ -282,7 +282,7 @@ attention-claim profile h s =
     (λ outs works. refl)
     (λ outs works. attention-exactly-resolved profile h s works outs)
 
-pub headings-claim : (h : Handed) (s : List ℕ) → HeadingsClaim h s
+pub headings-claim : HeadingsClaim
 unfolding headingsCall.outcomeOf
 headings-claim h s =
     claimed (headingsCall.outcomeOf h s) (λ (o : Outcome). larkHeadings (headingsCall.answerOf o)) h s (HeadingOffends (allEvents h s))
@@ -291,7 +291,7 @@ headings-claim h s =
     (λ outs works. refl)
     (λ outs works. headings-exactly-resolved h s works outs)
 
-pub lists-claim : (h : Handed) (s : List ℕ) → ListsClaim h s
+pub lists-claim : ListsClaim
 unfolding listsCall.outcomeOf
 lists-claim h s =
     claimed (listsCall.outcomeOf h s) (λ (o : Outcome). larkLists (listsCall.answerOf o)) h s (ItemOffends (docOf h s) (allEvents h s))

@@ -6,6 +6,7 @@
 use Prim.Native.Nat.{ℕ, _+_, _*_}
 use mathlib.Core.Path.{_≡_}
 use mathlib.Core.List.{List}
+use mathlib.Core.Logic.{_⊎_}
 use lib.ListN.{length}
 use Rattle.record.specs.Check.{refuse}
 use Rattle.record.specs.Form.{old, second}
@@ -49,9 +50,12 @@ pub record SameEvents (out₁ out₂ out₁′ out₂′ : List ℕ) : Type 0 wh
   pub in-old : out₁′ ≡ onto (sectionIn old events) out₁
   pub in-second : out₂′ ≡ onto (sectionIn second events) out₂
 
--- number 8 alone goes by the width: with 4 + 12 × its events, a section of form 2 may not fit where one of the old form does
+-- number 8 alone goes by the width: with 4 + 12 × its events, a section of form 2 may not fit where one of the old form does. Where it is given in one form,
+-- the other gives it too or accepts
 pub record SameInBoth (d e : ℕ) (out₁ out₂ : List ℕ) (r₁ r₂ : LarkResolved) (out₁′ out₂′ : List ℕ) : Type 0 where
   pub answers : (r₁ .number ≡ 8 → ⊥) → (r₂ .number ≡ 8 → ⊥) → SameAnswer d e r₁ r₂
+  pub no-room-in-old : r₁ .number ≡ 8 → (r₂ .number ≡ 8) ⊎ (r₂ .number ≡ 0)
+  pub no-room-in-second : r₂ .number ≡ 8 → (r₁ .number ≡ 8) ⊎ (r₁ .number ≡ 0)
   pub written : r₁ .number ≡ 0 → r₂ .number ≡ 0 → SameEvents out₁ out₂ out₁′ out₂′
 
 -- of one of the three resolvers: `As` is its promise

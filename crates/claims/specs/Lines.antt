@@ -53,8 +53,9 @@ spacesFound (Taken n left) = record { number = 0; place = 0; found = 1; taken = 
 spacesFound TooFew = spacesRefusal 0 0
 spacesFound (SpacesRefused r) = spacesRefusal (r .number) (r .place)
 
-abbrev pub SpacesClaim : List ℕ → ℕ → ℕ → ℕ → ℕ → Type 0
-SpacesClaim s options column min max =
+abbrev pub SpacesClaim : Type 0
+SpacesClaim =
+    (s : List ℕ) (options column min max : ℕ) →
     LineClaim (λ (x : LarkSpaces). x .number) (λ (x : LarkSpaces). x .place) spacesRefusal (SpacesAs s options column min max) (Row s options column)
     (spacesFound (spacesIn (lineOf s) column min max))
 
@@ -70,8 +71,9 @@ itemFound (Item n left held) =
 itemFound NotItem = itemRefusal 0 0
 itemFound (StartRefused r) = itemRefusal (r .number) (r .place)
 
-abbrev pub ItemClaim : List ℕ → ℕ → ℕ → ℕ → Type 0
-ItemClaim s options column interrupting =
+abbrev pub ItemClaim : Type 0
+ItemClaim =
+    (s : List ℕ) (options column interrupting : ℕ) →
     LineClaim (λ (x : LarkItem). x .number) (λ (x : LarkItem). x .place) itemRefusal (ItemAs s options column interrupting) (Row s options column)
     (itemFound (startIn (lineOf s) options column (flagged interrupting)))
 
@@ -86,8 +88,9 @@ goingFound (Goes n left held) = record { number = 0; place = 0; found = 1; taken
 goingFound (Stops held) = record { number = 0; place = 0; found = 0; taken = 0; left = 0; blank = flag (held .blank) }
 goingFound (GoingRefused r) = goingRefusal (r .number) (r .place)
 
-abbrev pub GoingClaim : List ℕ → ℕ → ℕ → ℕ → ℕ → ℕ → Type 0
-GoingClaim s options column size blank mark =
+abbrev pub GoingClaim : Type 0
+GoingClaim =
+    (s : List ℕ) (options column size blank mark : ℕ) →
     LineClaim (λ (x : LarkGoing). x .number) (λ (x : LarkGoing). x .place) goingRefusal (GoingAs s options column size blank mark) (Row s options column)
     (goingFound (goingIn (lineOf s) column (containerOf size blank mark)))
 
@@ -123,7 +126,8 @@ pub record WritingClaim (As : List ℕ → LarkHeaded → List ℕ → Type 0) (
   pub fits : (out : List ℕ) → length (bytes (length out)) ≤ length out
   pub only-a-heading-writes : (out : List ℕ) (r : LarkHeaded) (out′ : List ℕ) → As out r out′ → r .found ≡ 0 → out′ ≡ out
 
-abbrev pub HeadingClaim : List ℕ → ℕ → ℕ → Type 0
-HeadingClaim s options column =
+abbrev pub HeadingClaim : Type 0
+HeadingClaim =
+    (s : List ℕ) (options column : ℕ) →
     WritingClaim (HeadedAs s options column) (λ outs. headedOf s options column outs .bytes) (WritingRow s options column)
     (headedFound (headingFound (lineOf s) options column)) (choose (isHeading (lineOf s) options column) (sectionBytes (headingEvents (lineOf s))) [])

@@ -13,7 +13,7 @@ use Rattle.record.specs.Handed.{formOf, optionsOf}
 use Rattle.record.specs.Partners.{recordIn}
 use Rattle.record.specs.Sound.{OpenAtMost}
 use Rattle.record.specs.Rows.{documentCountIn}
-use Rattle.record.specs.ReadsBack.{AreBytes}
+use Rattle.record.specs.ReadsBack.{AreBytes, Holdable}
 use Rattle.record.specs.Outcome.{Resolution, gives}
 use Rattle.record.specs.declared.event.Event.{Event}
 use Rattle.record.specs.declared.form.Handed.{Handed}
@@ -41,6 +41,22 @@ ReaderAccepts (Old options) s d e =
 ReaderAccepts Second s d e =
     (work : List ℕ) (r : LarkReading2) (work′ : List ℕ) → 65536 ≤ length work → Read2As s work r work′ →
     r ≡ record { number = 0; place = 0; options = optionsOf Second s; document = d; events = e }
+
+-- the other way: a record that its reader accepts is the bytes of its options, its document and its events, and these a record may hold. That its numbers are
+-- bytes is so in lent memory
+pub record IsRecord (h : Handed) (options : ℕ) (s : List ℕ) : Type 0 where
+  pub same : s ≡ recordIn (formOf h) options (docOf h s) (allEvents h s)
+  pub holdable : Holdable (docOf h s) (allEvents h s)
+
+abbrev pub AcceptedIsRecord : Type 0
+AcceptedIsRecord =
+    (s : List ℕ) (options : ℕ) (work : List ℕ) (r : LarkReading) (work′ : List ℕ) → ReadAs s options work r work′ → r .number ≡ 0 → AreBytes s →
+    IsRecord (Old options) options s
+
+-- in form 2 the options are those that are answered
+abbrev pub AcceptedIsRecord2 : Type 0
+AcceptedIsRecord2 =
+    (s work : List ℕ) (r : LarkReading2) (work′ : List ℕ) → Read2As s work r work′ → r .number ≡ 0 → AreBytes s → IsRecord Second (r .options) s
 
 -- the record made of options, a document and events is accepted by its form's reader, and is read as these
 pub record ReadAgain (h : Handed) (options : ℕ) (document : List ℕ) (es : List Event) : Type 0 where

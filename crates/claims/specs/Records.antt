@@ -7,7 +7,7 @@
 use Prim.Native.Nat.{ℕ, _<_, _≤_}
 use mathlib.Core.Path.{_≡_}
 use mathlib.Core.List.{List}
-use lib.ListN.{length, take, drop, replicate}
+use lib.ListN.{length, getD, take, drop, replicate}
 use Rattle.record.specs.Event.{documentIn, eventsIn}
 use Rattle.record.specs.Form.{old, second}
 use Rattle.record.specs.Handed.{formOf, optionsOf}
@@ -67,16 +67,18 @@ pub record ReadClaim {A : Type 0} (h : Handed) (s : List ℕ) (number place : A 
   pub wiped : (work : List ℕ) (r : A) (work′ : List ℕ) → As work r work′ → work′ ≡ replicate (length work) 0
 
 -- lark_read
-abbrev pub ReadingClaim : List ℕ → ℕ → Type 0
-ReadingClaim s options =
+abbrev pub ReadingClaim : Type 0
+ReadingClaim =
+    (s : List ℕ) (options : ℕ) →
     ReadClaim (Old options) s (λ (x : LarkReading). x .number) (λ (x : LarkReading). x .place) readRefusal
     (record { number = 0; place = 0; document = documentCountIn old s; events = eventCountIn old s }) (ReadAs s options)
 
--- lark_read2: the options beside the counts, as they stand in the record
-abbrev pub Reading2Claim : List ℕ → Type 0
-Reading2Claim s =
+-- lark_read2: beside the counts the options, the byte that stands behind the first count
+abbrev pub Reading2Claim : Type 0
+Reading2Claim =
+    (s : List ℕ) →
     ReadClaim Second s (λ (x : LarkReading2). x .number) (λ (x : LarkReading2). x .place) read2Refusal
-    (record { number = 0; place = 0; options = optionsOf Second s; document = documentCountIn second s; events = eventCountIn second s }) (Read2As s)
+    (record { number = 0; place = 0; options = getD s 4 0; document = documentCountIn second s; events = eventCountIn second s }) (Read2As s)
 
 -- every call that writes, once
 
@@ -123,20 +125,23 @@ pub record Claim (h : Handed) (s : List ℕ) (Offends : ℕ → Type 0) (made : 
   pub wiped : (out work : List ℕ) (r : LarkResolved) (out′ work′ : List ℕ) → As out work r out′ work′ → work′ ≡ replicate (length work) 0
 
 -- lark_resolve_attention and lark_resolve_attention2, over any profile: what offends is a run; the groups and the candidates tried are the plain rule's
-abbrev pub AttentionClaim : Profile → Handed → List ℕ → Type 0
-AttentionClaim profile h s =
+abbrev pub AttentionClaim : Type 0
+AttentionClaim =
+    (profile : Profile) (h : Handed) (s : List ℕ) →
     Claim h s (RunOffends (docOf h s) (optionsOf h s) (allEvents h s)) (attention profile (optionsOf h s) (docOf h s) (allEvents h s))
     (length (outcome profile (optionsOf h s) (docOf h s) (allEvents h s) .groups)) (outcome profile (optionsOf h s) (docOf h s) (allEvents h s) .tried)
     (AttentionAs profile h s) (λ outs works. bytesWritten (formOf h) (attentionCall.outcomeOf profile h s outs works))
 
 -- lark_resolve_headings and lark_resolve_headings2: what offends is a heading
-abbrev pub HeadingsClaim : Handed → List ℕ → Type 0
-HeadingsClaim h s =
+abbrev pub HeadingsClaim : Type 0
+HeadingsClaim =
+    (h : Handed) (s : List ℕ) →
     Claim h s (HeadingOffends (allEvents h s)) (headings (allEvents h s)) 0 0 (HeadingsAs h s)
     (λ outs works. bytesWritten (formOf h) (headingsCall.outcomeOf h s outs works))
 
 -- lark_resolve_lists and lark_resolve_lists2: what offends is an item
-abbrev pub ListsClaim : Handed → List ℕ → Type 0
-ListsClaim h s =
+abbrev pub ListsClaim : Type 0
+ListsClaim =
+    (h : Handed) (s : List ℕ) →
     Claim h s (ItemOffends (docOf h s) (allEvents h s)) (lists (docOf h s) (allEvents h s)) 0 0 (ListsAs h s)
     (λ outs works. bytesWritten (formOf h) (listsCall.outcomeOf h s outs works))

@@ -36,20 +36,20 @@ one-pair-old : sectionIn old (enter 0 0 ∷ exit 0 1 ∷ [])
 unfolding flat sectionBytes sectionIn choose
 one-pair-old = refl
 
--- a record of `a` and that pair, with options 5: the count 1, the option byte, the document, the section. `mate` is what the exit says of its partner
-abbrev one-record : ℕ → List ℕ
-one-record mate =
-    (1 ∷ 0 ∷ 0 ∷ 0 ∷ 5 ∷ [])
+-- a record of `a` and that pair, with any options: the count 1, the option byte, the document, the section. `mate` is what the exit says of its partner
+abbrev one-record : ℕ → ℕ → List ℕ
+one-record options mate =
+    (1 ∷ 0 ∷ 0 ∷ 0 ∷ options ∷ [])
     ++ ((1 ∷ 0 ∷ 0 ∷ 0 ∷ 97 ∷ [])
     ++ ((2 ∷ 0 ∷ 0 ∷ 0 ∷ [])
     ++ ((0 ∷ 0 ∷ 0 ∷ 0 ∷ 0 ∷ 0 ∷ 0 ∷ 0 ∷ 1 ∷ 0 ∷ 0 ∷ 0 ∷ [])
     ++ (1 ∷ 0 ∷ 0 ∷ 0 ∷ 1 ∷ 0 ∷ 0 ∷ 0 ∷ u32Bytes mate))))
 
-record-second : recordIn second 5 (97 ∷ []) (enter 0 0 ∷ exit 0 1 ∷ []) ≡ one-record 0
+record-second : (options : ℕ) → recordIn second options (97 ∷ []) (enter 0 0 ∷ exit 0 1 ∷ []) ≡ one-record options 0
 unfolding closing partnersFrom flatWith flatLinked sectionIn frontIn recordIn after choose
-record-second = refl
+record-second options = refl
 
 -- it is good, and with an untrue number refused at the exit, event 1: 13 + 1 + 12
-checked-second : (admitted Second (one-record 0) 65536 ≡ Good 1 2) × (admitted Second (one-record 1) 65536 ≡ refuse 5 26)
+checked-second : (admitted Second (one-record 5 0) 65536 ≡ Good 1 2) × (admitted Second (one-record 5 1) 65536 ≡ refuse 5 26)
 unfolding admitted fronted checkedIn countAt eventCountOf endOf insideOf firstReturn allStoredAt judge paired truly formed placed fitsOpen after choose and
 checked-second = (refl, refl)

@@ -8,7 +8,7 @@ use mathlib.Core.Bool.{true}
 use mathlib.Core.List.{List}
 use lib.ListN.{length, getD}
 use Rattle.record.specs.Bytes.{u32At}
-use Rattle.record.specs.Form.{old, placeIn, mateIn, Known}
+use Rattle.record.specs.Form.{placeIn, mateIn, Known}
 use Rattle.record.specs.declared.form.Form.{Form}
 use Rattle.record.specs.Event.{storedAt, eventAt, eventsIn}
 use Rattle.record.specs.Stack.{innermostOf, openAt}
@@ -31,7 +31,3 @@ pub record GoodIn (f : Form) (s : List ℕ) (d e : ℕ) : Type 0 where
   -- where events carry partner numbers, an exit and its enter carry each other's
   pub true-pairs : 12 ≤ f .width → (k : ℕ) → k < e → (eventAt s (placeIn f d k) .kind ≡ 0 → ⊥) →
       (mateIn f s d k ≡ innermostOf (openAt (eventsIn f s d e) k)) × (mateIn f s d (innermostOf (openAt (eventsIn f s d e) k)) ≡ k)
-
--- of the old form
-abbrev pub GoodRecord : List ℕ → ℕ → ℕ → Type 0
-GoodRecord s d e = GoodIn old s d e
