@@ -14,7 +14,7 @@ use Rattle.record.specs.Stack.{nth}
 use Rattle.record.specs.declared.event.Event.{Event}
 use Rattle.record.proofs.Parts.{length-events, nth-event}
 use Rattle.record.proofs.ReadsBack.{put-number-reads-back}
-use Rattle.record.proofs.Splice.{sets-append}
+use Rattle.record.proofs.Splice.{sets-append, head-bytes}
 use Rattle.partners.specs.Fields.{Head}
 use Rattle.partners.proofs.Sets.{word-same, get-below, sets-apart, sets-over}
 use Rattle.partners.proofs.Walk.{drop-next}
@@ -177,21 +177,6 @@ begin d₀ at n r f b =
 
 before-and-one : (k : ℕ) → 0 < k → k ≡ k - 1 + 1
 before-and-one k h = omega arith
-
--- kind and name as one number, in four bytes
-head-bytes : (kind name head : ℕ) → head ≡ kind + 256 * name → kind < 256 → name < 256 → u32Bytes head ≡ kind ∷ name ∷ 0 ∷ 0 ∷ []
-head-bytes kind name head e k n =
-    let a : head % 256 ≡ kind = omega arith in
-    let r : head / 256 ≡ name = omega arith in
-    let b : head / 256 % 256 ≡ name = ap (λ (x : ℕ). x % 256) r ∙ small name n in
-    let t : head / 65536 ≡ 0 = omega arith in
-    let u : head / 16777216 ≡ 0 = omega arith in
-    let c : head / 65536 % 256 ≡ 0 = ap (λ (x : ℕ). x % 256) t in
-    let f : head / 16777216 % 256 ≡ 0 = ap (λ (x : ℕ). x % 256) u in
-    rw (a, b, c, f)
-  where
-    small : (x : ℕ) → x < 256 → x % 256 ≡ x
-    small x h = omega arith
 
 module _ {d₀ : List ℕ} {at n : ℕ} {d : List ℕ} {top left : ℕ} (w : Widening d₀ at n d top left) (more : 0 < left) where
   -- memory and walk, where the event that comes next is the last of those that are left

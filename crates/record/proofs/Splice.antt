@@ -1,18 +1,19 @@
 -- Laws of `sets d i xs`, the list d with xs stored from index i on: the form of contract for a write into a lent buffer.
 --     sets-append    two writes, one after the other, are one
---     wrote-then     a write at the end of what was written so far; wrote-none, wrote-length, wrote-front
+--     wrote-then     a write at the end of what was written so far; wrote-event, wrote-none, wrote-length, wrote-front
 --     copy-turn      a turn of a loop that copies s, byte by byte, from index at on
 --     sets-front     a write from the start is xs, then what was behind it
 -- Assumes nothing.
 use mathlib.Core.Path.{_≡_, refl, sym, ap, _∙_, subst}
 use mathlib.Core.List.{List, [], _∷_, _++_, append-nil}
-use Prim.Native.Nat.{ℕ, suc, _+_, _≤_, _<_}
+use Prim.Native.Nat.{ℕ, suc, _+_, _*_, _/_, _%_, _≤_, _<_}
 use native.Mathlib.Numerals.{add-one}
 use native.Mathlib.Omega.{arith}
 use native.Mathlib.Nat.{add-zero, zero-add, add-suc, suc-add}
 use lib.ListN.{length, getD, set, take, drop, replicate, drop-of-length-le}
 use borrow.Author.Fill.{fill-more}
-use Rattle.record.specs.Bytes.{Wrote}
+use Rattle.record.specs.Bytes.{u32Bytes, Wrote}
+use Rattle.record.specs.Event.{eventBytes}
 use lib.Seq.{sets, length-sets, sets-eq, take-suc, length-take-le}
 
 pub sets-append : (d : List ℕ) (i : ℕ) (xs ys : List ℕ) → sets d i (xs ++ ys) ≡ sets (sets d i xs) (i + length xs) ys
@@ -34,6 +35,27 @@ sets-front d xs h =
 pub wrote-then : {d d₁ d₂ : List ℕ} {at j : ℕ} {xs ys : List ℕ} → Wrote d at xs d₁ → Wrote d₁ j ys d₂ → j ≡ at + length xs → Wrote d at (xs ++ ys) d₂
 wrote-then {d} {d₁} {d₂} {at} {j} {xs} {ys} w v e =
     record { same = v .same ∙ ap (λ (l : List ℕ). sets l j ys) (w .same) ∙ sets-then d at j xs ys e }
+
+-- kind and name as one number, in four bytes
+pub head-bytes : (kind name head : ℕ) → head ≡ kind + 256 * name → kind < 256 → name < 256 → u32Bytes head ≡ kind ∷ name ∷ 0 ∷ 0 ∷ []
+head-bytes kind name head e k n =
+    let a : head % 256 ≡ kind = omega arith in
+    let r : head / 256 ≡ name = omega arith in
+    let b : head / 256 % 256 ≡ name = ap (λ (x : ℕ). x % 256) r ∙ small name n in
+    let t : head / 65536 ≡ 0 = omega arith in
+    let u : head / 16777216 ≡ 0 = omega arith in
+    let c : head / 65536 % 256 ≡ 0 = ap (λ (x : ℕ). x % 256) t in
+    let f : head / 16777216 % 256 ≡ 0 = ap (λ (x : ℕ). x % 256) u in
+    rw (a, b, c, f)
+  where
+    small : (x : ℕ) → x < 256 → x % 256 ≡ x
+    small x h = omega arith
+
+-- an event's bytes: that number, and behind it the place
+pub wrote-event : {d d₁ d₂ : List ℕ} {at j : ℕ} (head kind name place : ℕ) → Wrote d at (u32Bytes head) d₁ → Wrote d₁ j (u32Bytes place) d₂ → j ≡ at + 4 →
+    head ≡ kind + 256 * name → kind < 256 → name < 256 → Wrote d at (eventBytes kind name place) d₂
+wrote-event {d} {d₁} {at = at} head kind name place w v j e k n =
+    wrote-then (subst (λ (xs : List ℕ). Wrote d at xs d₁) (head-bytes kind name head e k n) w) v j
 
 -- nothing is written
 pub wrote-none : (d : List ℕ) (at : ℕ) → Wrote d at [] d

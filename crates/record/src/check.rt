@@ -2,6 +2,7 @@
 
 use crate::blocks::find;
 use crate::bytes::u32_at;
+use crate::bytes::wide;
 use crate::form::Handed;
 use crate::limits::ENTER;
 use crate::limits::EXIT;
@@ -79,16 +80,11 @@ pub fn well_formed(s: &[u8], d: usize, last: usize, at: usize) -> bool
     requires { ⌜ at + 8 ≤ length (now s) ⌝ }
     ensures { λ r. ⌜ r ≡ formed (storedAt (now (s .entry)) at) d last ⌝ }
 {
-    if s[at + 2] != 0 {
-        return false;
-    }
-    if s[at + 3] != 0 {
-        return false;
-    }
     if s[at] > EXIT {
         return false;
     }
-    if s[at + 1] > LAST_NAME {
+    // The name and behind it the two bytes that have to be zero, as one number: one look at the three.
+    if u32_at(s, at) / 256 > wide(LAST_NAME) {
         return false;
     }
     let place = u32_at(s, at + 4);

@@ -2,6 +2,7 @@
 
 use crate::bytes::put_u32;
 use crate::bytes::u32_at;
+use crate::bytes::wide;
 ghost use mathlib.Core.Path.{_≡_};
 ghost use Prim.Native.Nat.{_+_, _*_, _≤_, _<_};
 ghost use lib.ListN.{length};
@@ -27,15 +28,12 @@ pub fn event_at(s: &[u8], at: usize) -> Event
     }
 }
 
-// An event's eight bytes, at a place of an output.
+// An event's eight bytes, at a place of an output. Kind and name go as one number: two stores of four bytes, and not four of a byte and one.
 pub fn put_event(out: &mut [u8], at: usize, kind: u8, name: u8, place: usize)
     requires { ⌜ at + 8 ≤ length (now out) ⌝ }
     ensures { λ _. ⌜ Wrote (now (out .entry)) at (eventBytes kind name place) (now (out .exit)) ⌝ }
 {
-    out[at] = kind;
-    out[at + 1] = name;
-    out[at + 2] = 0;
-    out[at + 3] = 0;
+    put_u32(out, at, wide(kind) + 256 * wide(name));
     put_u32(out, at + 4, place);
 }
 

@@ -1,71 +1,55 @@
-use borrow.Author.Needs.{needs}
+-- `record::event::put_event` meets its contract: two writes, the second behind the first.
+-- Assumes nothing.
 use native.Mathlib.Omega.{arith}
-use native.Mathlib.Numerals.{add-one, add-two, add-three, add-four}
-use lib.ListN.{length-set}
-use mathlib.Core.Path.{_∙_}
+use Rattle.record.proofs.Splice.{wrote-event}
+use borrow.Author.Needs.{needs}
 use Rattle.record.proofs.event.put_event.Statement.{statement}
 use Rattle.record.proofs.event.put_event.Tie as tie
 use Rattle.record.proofs.event.put_event.Reads as reads
 use Rattle.record.proofs.event.put_event.Lts as lts
 use Rattle.record.proofs.bytes.put_u32.Reads as put-u32-reads
+use Rattle.record.proofs.bytes.wide.Reads as wide-reads
 
--- src/lib.rt:25:5
-slice-write-out : tie.Need-slice-write-out
-slice-write-out c = search needs
+wide-requires : tie.Need-wide-requires
+wide-requires c κs = search needs
 
--- src/lib.rt:26:9
-add-out : tie.Need-add-out
-add-out c = search needs
+wide-requires-2 : tie.Need-wide-requires-2
+wide-requires-2 c κs = search needs
 
--- src/lib.rt:26:5
-slice-write-out-2 : tie.Need-slice-write-out-2
-slice-write-out-2 c = simp length-set (omega arith)
+mul-put-u32 : tie.Need-mul-put-u32
+mul-put-u32 c = search needs
 
--- src/lib.rt:27:9
-add-out-2 : tie.Need-add-out-2
-add-out-2 c = search needs
-
--- src/lib.rt:27:5
-slice-write-out-3 : tie.Need-slice-write-out-3
-slice-write-out-3 c = simp length-set (omega arith)
-
--- src/lib.rt:28:9
-add-out-3 : tie.Need-add-out-3
-add-out-3 c = search needs
-
--- src/lib.rt:28:5
-slice-write-out-4 : tie.Need-slice-write-out-4
-slice-write-out-4 c = simp length-set (omega arith)
-
--- src/lib.rt:29:18
 add-put-u32 : tie.Need-add-put-u32
 add-put-u32 c = search needs
 
--- src/lib.rt:29:5
 put-u32-requires : tie.Need-put-u32-requires
-put-u32-requires c κs = simp length-set (omega arith)
+put-u32-requires c κs = search needs
 
--- src/lib.rt:21:1
+add-put-u32-2 : tie.Need-add-put-u32-2
+add-put-u32-2 c = search needs
+
+put-u32-requires-2 : tie.Need-put-u32-requires-2
+put-u32-requires-2 c κs = search needs
+
 same-length : tie.Need-same-length
-same-length c = c .before .before .put-u32 .kept .0 ∙ simp length-set
+same-length c = search needs
 
--- src/lib.rt:21:1
 returns : tie.Need-returns
 returns c =
-    record { same = c .before .before .put-u32 .ensures .same ∙ simp (add-one, add-two, add-three, add-four) }
+    let b = c .before .before .before .before .before .before in
+    wrote-event _ _ _ _ (b .put-u32 .ensures) (c .before .before .put-u322 .ensures) (omega arith) (omega (arith, b .before .before .wide .ensures .0, b .before .wide2 .ensures .0))
+    (omega (arith, b .before .before .wide .ensures .0, b .before .before .wide .ensures .1)) (omega (arith, b .before .wide2 .ensures .0, b .before .wide2 .ensures .1))
 
 pub put-event-spec : {M : Type 1} → statement M
 put-event-spec =
     tie.close
     (tie.spec
-    slice-write-out
-    add-out
-    slice-write-out-2
-    add-out-2
-    slice-write-out-3
-    add-out-3
-    slice-write-out-4
+    wide-requires
+    wide-requires-2
+    mul-put-u32
     add-put-u32
     put-u32-requires
+    add-put-u32-2
+    put-u32-requires-2
     same-length
     returns)
