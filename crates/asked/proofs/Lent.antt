@@ -1,24 +1,28 @@
--- What `asked::made` goes by: the events of a record that is lent in part, its first bytes, as the check reads them, and all from the events' count on,
--- as `finish` does.
+-- What `asked::made` goes by: the events of a record's parts that are lent to the check, its first bytes, are sound, and can be put by a pen.
 -- Assumes nothing.
 use mathlib.Core.Path.{_≡_, refl, sym, ap, _∙_}
 use mathlib.Core.Bool.{true}
-use mathlib.Core.List.{List, []}
+use mathlib.Core.List.{List}
 use Prim.Native.Nat.{ℕ, zero, suc, _+_, _*_, _-_, _≤_, _<_}
 use native.Mathlib.Omega.{arith}
-use lib.ListN.{length, getD, take, drop, length-drop}
-use lib.Seq.{getD-take, getD-drop, length-take-le, take-all}
+use lib.ListN.{length, getD, take, drop}
+use lib.Seq.{getD-take, length-take-le}
 use Rattle.record.specs.Check.{checkedIn}
 use Rattle.record.specs.Event.{eventAt, eventsBy, eventsIn}
 use Rattle.record.specs.Form.{form, Known}
 use Rattle.record.specs.Good.{GoodIn}
 use Rattle.record.specs.Handed.{formOf}
+use Rattle.record.specs.Partners.{balanced}
 use Rattle.record.specs.Sound.{sound}
 use Rattle.record.specs.declared.check.Reading.the-variants.{Good}
 use Rattle.record.specs.declared.form.Form.{Form}
 use Rattle.record.specs.declared.form.Handed.{Handed}
-use Rattle.record.proofs.Depth.{sound-deeper}
 use Rattle.record.proofs.Good.{good-record, form-known}
+use Rattle.record.proofs.Parts.{length-events}
+use Rattle.partners.specs.Pen.{Fits}
+use Rattle.partners.specs.declared.Pen.{Pen}
+use Rattle.partners.proofs.Laws.{sound-balanced}
+use Rattle.partners.proofs.Pens.{start, all-fit}
 
 -- n events of eight bytes have the same bytes in one list from `at` on as in another from `k` on
 Same : ℕ → List ℕ → ℕ → List ℕ → ℕ → Type 0
@@ -49,36 +53,39 @@ same-events (suc n) s at t k h =
     )
 
 -- what the check finds good in a record's first bytes, whose events have eight bytes, are few sound events over a small document
-first-judged : (f : Form) (rec : List ℕ) (n d e : ℕ) → Known f → n ≤ length rec → checkedIn (form (f .front) 8) (take n rec) ≡ Good d e →
-    (d ≤ 16384) × (e ≤ 2048) × (sound 8000 d (eventsBy 8 e rec (8 + f .front + d)) ≡ true)
+pub record Judged (f : Form) (parts : List ℕ) (d e : ℕ) : Type 0 where
+  pub small : d ≤ 16384
+  pub few : e ≤ 2048
+  pub whole : 8 + f .front + d + 8 * e ≤ length parts
+  pub sound-events : sound 64 d (eventsBy 8 e parts (8 + f .front + d)) ≡ true
+
+first-judged : (f : Form) (parts : List ℕ) (n d e : ℕ) → Known f → n ≤ length parts → checkedIn (form (f .front) 8) (take n parts) ≡ Good d e → Judged f parts d e
 unfolding eventsIn Same
-first-judged f rec n d e k l q =
+first-judged f parts n d e k l q =
     let known : Known (form (f .front) 8) = record { wide = omega arith; slim = omega arith; near = k .near } in
-    let g : GoodIn (form (f .front) 8) (take n rec) d e = good-record (form (f .front) 8) (take n rec) d e known q in
-    let whole : length (take n rec) ≡ 8 + f .front + d + 8 * e = g .whole in
-    let long : length (take n rec) ≡ n = length-take-le n rec l in
-    let same : eventsBy 8 e (take n rec) (8 + f .front + d) ≡ eventsBy 8 e rec (8 + f .front + d) =
-    same-events e (take n rec) (8 + f .front + d) rec (8 + f .front + d) (λ i h. getD-take n rec (8 + f .front + d + i) 0 (omega arith)) in
-    let there : sound 8000 d (eventsBy 8 e (take n rec) (8 + f .front + d)) ≡ true = sound-deeper 64 8000 d 0 [] _ (omega arith) (g .sound-events) in
-    (g .small, g .few, rw same at there)
+    let g : GoodIn (form (f .front) 8) (take n parts) d e = good-record (form (f .front) 8) (take n parts) d e known q in
+    let whole : length (take n parts) ≡ 8 + f .front + d + 8 * e = g .whole in
+    let long : length (take n parts) ≡ n = length-take-le n parts l in
+    let same : eventsBy 8 e (take n parts) (8 + f .front + d) ≡ eventsBy 8 e parts (8 + f .front + d) =
+    same-events e (take n parts) (8 + f .front + d) parts (8 + f .front + d) (λ i h. getD-take n parts (8 + f .front + d + i) 0 (omega arith)) in
+    record { small = g .small; few = g .few; whole = omega arith; sound-events = rw same at (g .sound-events) }
 
 -- the same of a part from 0 on
-pub judged : (f : Form) (rec : List ℕ) (n d e : ℕ) → Known f → n ≤ length rec → Good d e ≡ checkedIn (form (f .front) 8) (take (n - 0) (drop 0 rec)) →
-    (d ≤ 16384) × (e ≤ 2048) × (sound 8000 d (eventsBy 8 e rec (8 + f .front + d)) ≡ true)
-judged f rec n d e k l q =
+pub judged : (f : Form) (parts : List ℕ) (n d e : ℕ) → Known f → n ≤ length parts → Good d e ≡ checkedIn (form (f .front) 8) (take (n - 0) (drop 0 parts)) →
+    Judged f parts d e
+judged f parts n d e k l q =
     let z : n - 0 ≡ n = omega arith in
-    first-judged f rec n d e k l (sym (rw z at q))
+    first-judged f parts n d e k l (sym (rw z at q))
 
--- and those stand in what is lent from their count on
-pub lent-sound : (rec : List ℕ) (front d e : ℕ) → sound 8000 d (eventsBy 8 e rec (8 + front + d)) ≡ true →
-    sound 8000 d (eventsBy 8 e (take (length rec - (4 + front + d)) (drop (4 + front + d) rec)) 4) ≡ true
-unfolding Same
-lent-sound rec front d e s =
-    let all : take (length rec - (4 + front + d)) (drop (4 + front + d) rec) ≡ drop (4 + front + d) rec =
-    take-all (length rec - (4 + front + d)) (drop (4 + front + d) rec) (omega (arith, length-drop (4 + front + d) rec)) in
-    let same : eventsBy 8 e (drop (4 + front + d) rec) 4 ≡ eventsBy 8 e rec (8 + front + d) =
-    same-events e (drop (4 + front + d) rec) 4 rec (8 + front + d) (λ i h. getD-drop (4 + front + d) rec (4 + i) 0 ∙ ap (λ (m : ℕ). getD rec m 0) (omega arith)) in
-    rw (all, same) s
+-- these events are put into what is lent of the record from their count on
+pub events-fit : (f : Form) (lent parts : List ℕ) (d e first : ℕ) {p : Pen} → Known f → e ≤ 2048 → first ≡ 4 + f .front + d + 4 → 4 + f .width * e ≤ length lent →
+    sound 64 d (eventsBy 8 e parts (8 + f .front + d)) ≡ true → p ≡ record { at = 4; width = f .width; number = 0; held = 12 + 12 * e } →
+    Fits lent p (eventsBy 8 e parts first)
+events-fit f lent parts d e first k few there room s q =
+    let at : first ≡ 8 + f .front + d = omega arith in
+    let b : balanced (eventsBy 8 e parts first) ≡ true =
+    ap (λ (m : ℕ). balanced (eventsBy 8 e parts m)) at ∙ sound-balanced 64 d (eventsBy 8 e parts (8 + f .front + d)) s in
+    all-fit (start (f .width) e lent (eventsBy 8 e parts first) q (length-events 8 e parts first) (omega arith) b (k .wide) room)
 
 -- the form of a record that is handed over is known
 pub known-of : (h : Handed) (f : Form) → f ≡ formOf h → Known f

@@ -1,11 +1,13 @@
 // The record of a text and of a section's events, which were given beside it or were made of it, in the form in which it is handed over.
 //
-// A section is written side by side, eight bytes to an event, and so are the record's events at first. The record is judged like that, since only
-// sound events have partners; where events of the form carry these, they are then moved apart and linked.
+// A section is written side by side, eight bytes to an event. The record is first made and judged with its events like that, since only sound events have
+// partners; a good one is then made once more, with its events put as the form has them.
 
 use crate::input::RECORD_ROOM;
 use crate::input::TEXT_ROOM;
-use partners::finish;
+use crate::input::memory;
+use partners::begin;
+use partners::copy;
 use record::bytes::put_u32;
 use record::check::Reading;
 use record::check::Refusal;
@@ -19,7 +21,7 @@ use terminal::events::place_in;
 use terminal::words::copy_in;
 ghost use mathlib.Core.Path.{_≡_};
 ghost use mathlib.Core.Bool.{true};
-ghost use Prim.Native.Nat.{_+_, _≤_};
+ghost use Prim.Native.Nat.{_+_, _*_, _≤_};
 ghost use lib.ListN.{length};
 ghost use Rattle.record.specs.Event.{eventsBy};
 ghost use Rattle.record.specs.Form.{Known};
@@ -75,9 +77,9 @@ fn put_parts(
     behind + size
 }
 
-// Makes the events of a good record, which stand as they are written, those of its form; its length.
-fn finish_events(rec: &mut [u8], form: Form, d: usize, events: usize) -> usize
-    requires { ⌜ Known form × (d ≤ 16384) × (events ≤ 2048) × (sound 8000 d (eventsBy 8 events (now rec) (8 + form .front + d)) ≡ true) ⌝ }
+// Writes the record whose parts, with its events as they are written, are found good; its length.
+fn put_good(parts: &[u8], form: Form, d: usize, events: usize, rec: &mut [u8]) -> usize
+    requires { ⌜ Known form × (d ≤ 16384) × (events ≤ 2048) × (8 + form .front + d + 8 * events ≤ length (now parts)) × (sound 64 d (eventsBy 8 events (now parts) (8 + form .front + d)) ≡ true) ⌝ }
     ensures { λ r. ⌜ r ≤ length (now (rec .exit)) ⌝ }
 {
     let end = place_of(form, d, events);
@@ -85,17 +87,21 @@ fn finish_events(rec: &mut [u8], form: Form, d: usize, events: usize) -> usize
         return 0;
     }
     let behind = 4 + form.front + d;
-    finish(&mut rec[behind..], form, d, events);
+    let first = behind + 4;
+    copy_in(&parts[0..behind], rec, 0);
+    put_u32(rec, behind, events);
+    let pen = begin(form, events);
+    copy(&mut rec[behind..], pen, parts, first, WRITTEN, events);
     end
 }
 
-// Judges a record of so many bytes whose events stand as they are written, and makes it one of its form.
-fn judge(rec: &mut [u8], n: usize, form: Form) -> Made
-    requires { ⌜ Known form × (form .front ≤ n) × (n ≤ length (now rec)) ⌝ }
+// Judges a record's parts of so many bytes, with its events as they are written, and writes the record.
+fn judge(parts: &[u8], n: usize, form: Form, rec: &mut [u8]) -> Made
+    requires { ⌜ Known form × (form .front ≤ n) × (n ≤ length (now parts)) ⌝ }
 {
-    match check(&rec[0..n], form.front, WRITTEN) {
+    match check(&parts[0..n], form.front, WRITTEN) {
         Reading::Good { document, events } => {
-            return Made::Bytes(finish_events(rec, form, document, events));
+            return Made::Bytes(put_good(parts, form, document, events, rec));
         }
         Reading::Refused(refusal) => {
             return Made::Refused(refusal);
@@ -122,6 +128,7 @@ pub fn put_record(
         return Made::Bytes(0);
     }
     let form = form_of(handed);
-    let n = put_parts(text, section, events, form, options, rec);
-    judge(rec, n, form)
+    let mut parts = memory();
+    let n = put_parts(text, section, events, form, options, &mut parts);
+    judge(&parts, n, form, rec)
 }

@@ -9,15 +9,16 @@ use lib.ListN.{length}
 use borrow.Author.Tests.{lt-ltb, le-ltb}
 use Rattle.record.specs.Choice.{choose}
 use Rattle.record.specs.Bytes.{Wrote, u32Bytes}
-use Rattle.record.specs.Event.{documentIn, eventsIn, eventsBy, flat, sectionBytes}
+use Rattle.record.specs.Event.{documentIn, eventsIn}
 use Rattle.record.specs.Outcome.{Outcome, accepted, refusing, sized, onto, bytesWritten}
+use Rattle.record.specs.Partners.{balanced}
 use Rattle.record.specs.Sound.{sound}
 use Rattle.record.specs.declared.event.Event.{Event}
 use Rattle.record.specs.declared.form.Form.{Form}
-use Rattle.record.proofs.Parts.{spread-out, length-document}
-use Rattle.record.proofs.Sections.{section}
-use Rattle.partners.specs.Finished.{Finished}
-use Rattle.partners.proofs.Finished.{section-sound, section-finished}
+use Rattle.record.proofs.Parts.{length-document}
+use Rattle.partners.specs.Pen.{Filled}
+use Rattle.partners.proofs.Laws.{sound-balanced}
+use Rattle.partners.proofs.Pens.{filled-section}
 use Rattle.runs.specs.Rule.{Profile}
 use Rattle.runs.specs.Plain.{Group}
 use Rattle.runs.specs.Runs.{runsOf}
@@ -70,14 +71,6 @@ module _ {profile : Profile} {f : Form} {s : List ℕ} {d e options n groups tri
       let q = output-sound profile options (documentIn f s d) (eventsIn f s d e) 64 (accepted-record options (m .good) (m .none-offends)) 8000 few in
       rw l at q
 
-  -- room for it, in an output of `outs` bytes
-  pub writer-room : (emptied outs : ℕ) → emptied ≡ emptiedFrom n w 0 → 4 + 8 * (e - 2 * emptied + 8 * groups) ≤ outs →
-      4 + 8 * length (writtenOf f s d e w groups) ≤ outs
-  writer-room emptied outs c l =
-      let k : e - 2 * emptied + 8 * groups ≡ length (output profile options (documentIn f s d) (eventsIn f s d e)) =
-      ap (λ (x : ℕ). e - 2 * x + 8 * groups) c ∙ size-same m in
-      rw written-same (omega arith)
-
   -- the number that the code has
   module _ (emptied size : ℕ) (counted : emptied ≡ emptiedFrom n w 0) (sum : size ≡ e - 2 * emptied + 8 * groups) where
     pub size-is : size ≡ length (output profile options (documentIn f s d) (eventsIn f s d e))
@@ -108,33 +101,30 @@ module _ {profile : Profile} {f : Form} {s : List ℕ} {d e options n groups tri
           output = unwritten f _ 8 0 out q;
         }
 
-    -- the section as it is written first, of a good record, can be finished
-    module _ (width : ℕ) (wide : 8 ≤ width) (out out₁ out₂ : List ℕ) (few : size ≤ 8000) (l : 4 + width * size ≤ length out) (a : Wrote out 0 (u32Bytes size) out₁)
-        (b : Wrote out₁ 4 (flat (writtenOf f s d e w groups)) out₂) where
-      old-section : out₂ ≡ onto (sectionBytes (output profile options (documentIn f s d) (eventsIn f s d e))) out
-      old-section =
-          section (output profile options (documentIn f s d) (eventsIn f s d e)) size (sym size-is) (spread-out width size 4 (length out) wide l) a (rw written-same at b)
+    -- what the writer asks
+    few-events : size ≤ 8000 → length (output profile options (documentIn f s d) (eventsIn f s d e)) ≤ 8000
+    few-events h = let k = size-is in omega arith
 
-      few-events : length (output profile options (documentIn f s d) (eventsIn f s d e)) ≤ 8000
-      few-events = let k = size-is in omega arith
+    pub writer-count : length (writtenOf f s d e w groups) ≡ size
+    writer-count = ap length written-same ∙ sym size-is
 
-      pub finishes : sound 8000 d (eventsBy 8 size out₂ 4) ≡ true
-      finishes =
-          section-sound 8000 d size (output profile options (documentIn f s d) (eventsIn f s d e)) out out₂ (sym size-is) few (output-is-sound few-events) (m .good .small) old-section
+    pub writer-balance : size ≤ 8000 → balanced (writtenOf f s d e w groups) ≡ true
+    writer-balance h =
+        ap balanced written-same
+        ∙ sound-balanced 8000 d (output profile options (documentIn f s d) (eventsIn f s d e)) (output-is-sound (few-events h))
 
-    pub ended-written : (out out₁ out₂ out₃ : List ℕ) → size ≤ 8000 → 4 + f .width * size ≤ length out → Wrote out 0 (u32Bytes size) out₁ →
-        Wrote out₁ 4 (flat (writtenOf f s d e w groups)) out₂ → Finished f size out₂ out₃ → Ended profile f s d e options out (Events size) out₃
-    ended-written out out₁ out₂ out₃ h l a b x =
-        let wide = m .good .known .wide in
-        let few = few-events (f .width) wide out out₁ out₂ h l a b in
-        let q : resultOf profile f s d e options (length out) ≡ accepted (output profile options (documentIn f s d) (eventsIn f s d e)) =
-        sized-fits f _ _ few (omega (arith, same-room)) in
+    pub ended-written : (out out₁ out₂ : List ℕ) → size ≤ 8000 → 4 + f .width * size ≤ length out → Wrote out 0 (u32Bytes size) out₁ →
+        Filled (f .width) out₁ (writtenOf f s d e w groups) out₂ → Ended profile f s d e options out (Events size) out₂
+    ended-written out out₁ out₂ h l a b =
+        let result : List Event = output profile options (documentIn f s d) (eventsIn f s d e) in
+        let q : resultOf profile f s d e options (length out) ≡ accepted result = sized-fits f _ _ (few-events h) (omega (arith, same-room)) in
+        let a′ : Wrote out 0 (u32Bytes (length result)) out₁ = rw size-is at a in
+        let b′ : Filled (f .width) out₁ result out₂ = rw written-same at b in
         record {
           events = λ x z. let y : size ≡ x = cc in (q, sym y ∙ size-is);
           long = λ z. let y : _≡_ {A = ℕ} 0 1 = cc in absurd (omega arith);
           short = λ z. let y : _≡_ {A = ℕ} 0 1 = cc in absurd (omega arith);
           output =
-              section-finished f 8000 d size (output profile options (documentIn f s d) (eventsIn f s d e)) out out₂ out₃ (sym size-is) h (output-is-sound few) (m .good .small) l
-              (old-section (f .width) wide out out₁ out₂ h l a b) x
+              filled-section f result out out₁ out₂ (m .good .known .wide) (omega (arith, same-room)) a′ b′
               ∙ ap (λ (o : Outcome). onto (bytesWritten f o) out) (sym q);
         }

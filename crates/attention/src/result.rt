@@ -1,6 +1,5 @@
 // The end of a call, once the groups are found: how many events come out, whether they fit, and the section written.
 
-use partners::finish;
 use record::bytes::put_u32;
 use record::form::Form;
 use record::limits::MAX_RESULT;
@@ -61,7 +60,6 @@ pub fn write_result(
         return Written::Short;
     }
     put_u32(out, 0, size);
-    write_events(out, s, form, d, e, w, groups, n);
-    finish(out, form, d, size);
+    write_events(out, s, form, d, e, w, groups, n, size);
     Written::Events(size)
 }

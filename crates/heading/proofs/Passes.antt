@@ -2,24 +2,26 @@
 -- Assumes nothing.
 use mathlib.Core.Path.{_≡_, refl, sym, ap, _∙_}
 use mathlib.Core.Bool.{Bool, true, false}
-use mathlib.Core.List.{List, [], _∷_, _++_}
+use mathlib.Core.List.{List, [], _∷_, _++_, append-nil, append-assoc}
 use Prim.Native.Nat.{ℕ, zero, suc, _+_, _*_, _-_, _≤_, _<_}
 use native.Mathlib.Omega.{arith}
 use lib.ListN.{length, take, drop, length-append, take-append-drop}
 use lib.Seq.{length-take-le}
 use Rattle.record.specs.Choice.{choose, and}
-use Rattle.record.specs.Bytes.{Wrote}
-use Rattle.record.specs.Event.{flat, eventAt, eventsBy}
+use Rattle.record.specs.Bytes.{u32At}
+use Rattle.record.specs.Event.{event, eventAt, eventsBy}
 use Rattle.record.specs.Outcome.{Resolution, offends, gives}
+use Rattle.record.specs.Partners.{balanced}
 use Rattle.record.specs.declared.event.Event.{Event}
 use Rattle.record.proofs.Bools.{and-right}
-use Rattle.record.proofs.Splice.{wrote-then, wrote-none, wrote-length}
 use Rattle.record.proofs.Parts.{length-events, drop-events, events-cons, events-none}
-use Rattle.record.proofs.Sections.{length-flat, flat-append}
+use Rattle.partners.specs.Pen.{At, Fits, Put, Filled}
+use Rattle.partners.specs.declared.Pen.{Pen}
+use Rattle.partners.proofs.Pens.{put-none, put-then, fits-first, fits-then, start, all-fit, all-put, filled}
 use Rattle.heading.specs.Headings.{isOf, beforeFirst, innerOf, leaves, shaped, withText, resolvedFrom, offending, earliest, headings}
 use Rattle.heading.specs.Steps.{judgedOf}
 use Rattle.heading.specs.declared.judge.Judged.the-variants.{Offends, Sized}
-use Rattle.heading.proofs.Lists.{events-take}
+use Rattle.heading.proofs.Lists.{events-take, next-room}
 use Rattle.heading.proofs.Seeking.{before-le}
 use Rattle.heading.proofs.Leaves.{first-leaf, rest-leaves, leaf-apart}
 
@@ -197,86 +199,110 @@ judging-done {s} {from} {w} {e} {at} {i} {size} v h =
     let c : size ≡ length r = omega (arith, v .count, b) in
     ap (λ (m : ℕ). Sized m) c ∙ ap judgedOf (sym a ∙ v .same (gives r))
 
--- the second pass: what is written so far, with what is left behind it, is the whole
-pub record Writing (s : List ℕ) (from w e : ℕ) (out₀ : List ℕ) (to at i : ℕ) (out : List ℕ) (next : ℕ) : Type 0 where
+-- the second pass: what is put so far, with what is left behind it, is the whole
+pub record Writing (s : List ℕ) (from w e : ℕ) (out₀ : List ℕ) (p₀ : Pen) (at i : ℕ) (out : List ℕ) (p : Pen) : Type 0 where
+  pub begun : At w out₀ (resolvedFrom 0 (eventsBy w e s from)) 0 out₀ p₀
   pub place : at ≡ from + w * i
   pub low : i ≤ e
   pub fine : earliest i (eventsBy w (e - i) s at) (gives (resolvedFrom 0 (eventsBy w e s from))) ≡ gives (resolvedFrom 0 (eventsBy w e s from))
-  pub room : next + 8 * length (resolvedFrom 0 (eventsBy w (e - i) s at)) ≡ to + 8 * length (resolvedFrom 0 (eventsBy w e s from))
-  pub kept : length out ≡ length out₀
-  pub same : (d : List ℕ) → Wrote out next (flat (resolvedFrom 0 (eventsBy w (e - i) s at))) d → Wrote out₀ to (flat (resolvedFrom 0 (eventsBy w e s from))) d
+  pub done : List Event
+  pub split : resolvedFrom 0 (eventsBy w e s from) ≡ done ++ resolvedFrom 0 (eventsBy w (e - i) s at)
+  pub put : Put out₀ p₀ done out p
 
-pub writing-start : (s : List ℕ) (from w e : ℕ) (out : List ℕ) (to : ℕ) → headings (eventsBy w e s from) ≡ gives (resolvedFrom 0 (eventsBy w e s from)) →
-    Writing s from w e out to from 0 out to
+pub writing-start : (s : List ℕ) (from w e n : ℕ) (out : List ℕ) {p : Pen} → p ≡ record { at = 4; width = w; number = 0; held = 12 + 12 * n } →
+    8 ≤ w → n ≤ 8000 → length (resolvedFrom 0 (eventsBy w e s from)) ≡ n → balanced (resolvedFrom 0 (eventsBy w e s from)) ≡ true →
+    headings (eventsBy w e s from) ≡ gives (resolvedFrom 0 (eventsBy w e s from)) → 4 + w * n ≤ length out → Writing s from w e out p from 0 out p
 unfolding headings
-writing-start s from w e out to h =
+writing-start s from w e n out {p} q wide few long bal h room =
     let k : e - 0 ≡ e = omega arith in
     record {
+      begun = start w n out (resolvedFrom 0 (eventsBy w e s from)) q long few bal wide room;
       place = omega arith;
       low = omega arith;
       fine = rw k h;
-      room = rw k;
-      kept = refl;
-      same = λ d x. rw k at x;
+      done = [];
+      split = rw k;
+      put = put-none out p;
     }
 
-module _ {s : List ℕ} {from w e : ℕ} {out₀ : List ℕ} {to at i : ℕ} {out : List ℕ} {next : ℕ} (v : Writing s from w e out₀ to at i out next) (l : i < e) where
-  one-more : (r : List Event) → resolvedFrom 0 (eventsBy w (e - i) s at) ≡ eventAt s at ∷ r → {d₁ d : List ℕ} →
-      Wrote out next (flat (eventsBy w 1 s at)) d₁ → Wrote d₁ (next + 8) (flat r) d → Wrote out₀ to (flat (resolvedFrom 0 (eventsBy w e s from))) d
-  unfolding flat eventsBy
-  one-more r q {d₁} {d} w₁ w₂ = v .same d (rw q (wrote-then w₁ w₂ refl))
+module _ {s : List ℕ} {from w e : ℕ} {out₀ : List ℕ} {p₀ : Pen} {at i : ℕ} {out : List ℕ} {p : Pen} (v : Writing s from w e out₀ p₀ at i out p) where
+  rest-fits : Fits out p (resolvedFrom 0 (eventsBy w (e - i) s at))
+  rest-fits =
+      let a : Fits out₀ p₀ (resolvedFrom 0 (eventsBy w e s from)) = all-fit (v .begun) in
+      let f : Fits out₀ p₀ (v .done ++ resolvedFrom 0 (eventsBy w (e - i) s at)) = rw (v .split) at a in
+      fits-then (v .done) (resolvedFrom 0 (eventsBy w (e - i) s at)) (v .put) f
 
-  pub writing-fits : next + 8 ≤ to + 8 * length (resolvedFrom 0 (eventsBy w e s from))
-  writing-fits = go (isOf 0 11 (eventAt s at)) refl
-    where
-      go : (b : Bool) → isOf 0 11 (eventAt s at) ≡ b → next + 8 ≤ to + 8 * length (resolvedFrom 0 (eventsBy w e s from))
-      go true q = omega (arith, v .room, ap length (resolved-here s at w i e (beforeFirst (isOf 1 11) (eventsBy w (e - i - 1) s (at + w))) l q refl (omega (arith, before-le (isOf 1 11) (eventsBy w (e - i - 1) s (at + w)), length-events w (e - i - 1) s (at + w)))))
-      go false q = omega (arith, v .room, ap length (resolved-other s at w i e l q))
+  pub writing-done : e ≤ i → Filled w out₀ (resolvedFrom 0 (eventsBy w e s from)) out
+  unfolding resolvedFrom
+  writing-done h =
+      let z : v .done ≡ resolvedFrom 0 (eventsBy w e s from) = sym (v .split ∙ rw (nothing-left s at w i e h) (append-nil (v .done))) in
+      filled {p = p} (all-put (v .begun) (rw (← z) (v .put)))
 
-  pub writing-other : {d₁ : List ℕ} → isOf 0 11 (eventAt s at) ≡ false → Wrote out next (flat (eventsBy w 1 s at)) d₁ →
-      Writing s from w e out₀ to (at + w) (i + 1) d₁ (next + 8)
-  writing-other {d₁} q w₁ =
-      record {
-        place = omega (arith, v .place);
-        low = omega arith;
-        fine = sym (passed-other s at w i e l q (gives (resolvedFrom 0 (eventsBy w e s from)))) ∙ v .fine;
-        room = omega (arith, v .room, ap length (resolved-other s at w i e l q));
-        kept = wrote-length w₁ ∙ v .kept;
-        same = λ d w₂. one-more (resolvedFrom 0 (eventsBy w (e - (i + 1)) s (at + w))) (resolved-other s at w i e l q) w₁ w₂;
-      }
+  -- where more is put, it is the whole with what is left then
+  split-after : (fs r : List Event) → resolvedFrom 0 (eventsBy w (e - i) s at) ≡ fs ++ r → resolvedFrom 0 (eventsBy w e s from) ≡ (v .done ++ fs) ++ r
+  split-after fs r q = v .split ∙ ap (λ (es : List Event). v .done ++ es) q ∙ sym (append-assoc (v .done) fs r)
 
-  module _ (n : ℕ) (q : isOf 0 11 (eventAt s at) ≡ true) (en : n ≡ beforeFirst (isOf 1 11) (eventsBy w (e - i - 1) s (at + w))) (ln : n ≤ e - i - 1) where
-    pub writing-shaped : shaped (eventsBy w n s (at + w)) ≡ true
-    writing-shaped =
+  module _ (l : i < e) where
+    pub writing-room : from + w * e ≤ length s → at + w + w * (e - i - 1) ≤ length s
+    writing-room r = omega (arith, v .place, next-room w e i from (length s) r l)
+
+    pub writing-shaped : (n : ℕ) → isOf 0 11 (eventAt s at) ≡ true → n ≡ beforeFirst (isOf 1 11) (eventsBy w (e - i - 1) s (at + w)) → n ≤ e - i - 1 →
+        shaped (eventsBy w n s (at + w)) ≡ true
+    writing-shaped n q en ln =
         let r : List Event = resolvedFrom 0 (eventsBy w e s from) in
         ap shaped (sym (inner s at w i e n l q en ln))
         ∙ heading-shaped (eventAt s at) (eventsBy w (e - i - 1) s (at + w)) q i r (ap (λ (es : List Event). earliest i es (gives r)) (sym (first s at w i e n l q en ln)) ∙ v .fine)
 
-    sizes : length (resolvedFrom 0 (eventsBy w (e - i) s at))
-        ≡ 1 + length (withText (eventsBy w n s (at + w))) + length (resolvedFrom 0 (eventsBy w (e - (i + (1 + n))) s (at + w + w * n)))
-    sizes =
-        omega
-        (arith, ap length (resolved-here s at w i e n l q en ln), length-append (withText (eventsBy w n s (at + w))) (resolvedFrom 0 (eventsBy w (e - (i + (1 + n))) s (at + w + w * n))))
+    next-fits : (r : List Event) → resolvedFrom 0 (eventsBy w (e - i) s at) ≡ eventAt s at ∷ r → Fits out p (eventAt s at ∷ [])
+    next-fits r q =
+        let f : Fits out p (eventAt s at ∷ r) = rw q at rest-fits in
+        fits-first (eventAt s at ∷ []) r f
 
-    pub writing-room : next + 8 + 8 * length (withText (eventsBy w n s (at + w))) ≤ to + 8 * length (resolvedFrom 0 (eventsBy w e s from))
-    writing-room = omega (arith, v .room, sizes)
+    -- an event is put as the code has read it
+    module _ {place : ℕ} (u : place ≡ u32At s (at + 4)) where
+      pub writing-fits : Fits out p (event (eventAt s at .kind) (eventAt s at .name) place ∷ [])
+      writing-fits = rw u (go (isOf 0 11 (eventAt s at)) refl)
+        where
+          go : (b : Bool) → isOf 0 11 (eventAt s at) ≡ b → Fits out p (eventAt s at ∷ [])
+          go true q =
+              let n : ℕ = beforeFirst (isOf 1 11) (eventsBy w (e - i - 1) s (at + w)) in
+              let ln : n ≤ e - i - 1 = omega (arith, before-le (isOf 1 11) (eventsBy w (e - i - 1) s (at + w)), length-events w (e - i - 1) s (at + w)) in
+              next-fits (withText (eventsBy w n s (at + w)) ++ resolvedFrom 0 (eventsBy w (e - (i + (1 + n))) s (at + w + w * n))) (resolved-here s at w i e n l q refl ln)
+          go false q = next-fits (resolvedFrom 0 (eventsBy w (e - (i + 1)) s (at + w))) (resolved-other s at w i e l q)
 
-    pub writing-heading : {d₁ d₂ : List ℕ} (next′ : ℕ) → Wrote out next (flat (eventsBy w 1 s at)) d₁ → Wrote d₁ (next + 8) (flat (withText (eventsBy w n s (at + w)))) d₂ →
-        next′ ≡ next + 8 + 8 * length (withText (eventsBy w n s (at + w))) → Writing s from w e out₀ to (at + w + w * n) (i + (1 + n)) d₂ next′
-    writing-heading {d₁} {d₂} next′ w₁ w₂ en′ =
-        let f = length-flat (withText (eventsBy w n s (at + w))) in
-        let r : List Event = resolvedFrom 0 (eventsBy w (e - (i + (1 + n))) s (at + w + w * n)) in
-        record {
-          place = omega (arith, v .place);
-          low = omega arith;
-          fine = sym (passed-here s at w i e n l q en ln (gives (resolvedFrom 0 (eventsBy w e s from))) writing-shaped) ∙ v .fine;
-          room = omega (arith, v .room, sizes, en′);
-          kept = wrote-length w₂ ∙ wrote-length w₁ ∙ v .kept;
-          same = λ d w₃. one-more (withText (eventsBy w n s (at + w)) ++ r) (resolved-here s at w i e n l q en ln) w₁ (rw (flat-append (withText (eventsBy w n s (at + w))) r) (wrote-then w₂ w₃ (omega (arith, en′, f))));
-        }
+      module _ {d₁ : List ℕ} {p₁ : Pen} (w₁ : Put out p (event (eventAt s at .kind) (eventAt s at .name) place ∷ []) d₁ p₁) where
+        one-put : Put out p (eventAt s at ∷ []) d₁ p₁
+        one-put = rw u at w₁
 
-pub writing-done : {s : List ℕ} {from w e : ℕ} {out₀ : List ℕ} {to at i : ℕ} {out : List ℕ} {next : ℕ} → Writing s from w e out₀ to at i out next → e ≤ i →
-    Wrote out₀ to (flat (resolvedFrom 0 (eventsBy w e s from))) out
-unfolding resolvedFrom flat
-writing-done {s} {from} {w} {e} {out₀} {to} {at} {i} {out} {next} v h =
-    v .same out (rw (nothing-left s at w i e h) (wrote-none out next))
+        pub writing-other : isOf 0 11 (eventAt s at) ≡ false → Writing s from w e out₀ p₀ (at + w) (i + 1) d₁ p₁
+        writing-other q =
+            record {
+              begun = v .begun;
+              place = omega (arith, v .place);
+              low = omega arith;
+              fine = sym (passed-other s at w i e l q (gives (resolvedFrom 0 (eventsBy w e s from)))) ∙ v .fine;
+              done = v .done ++ (eventAt s at ∷ []);
+              split = split-after (eventAt s at ∷ []) (resolvedFrom 0 (eventsBy w (e - (i + 1)) s (at + w))) (resolved-other s at w i e l q);
+              put = put-then (v .done) (eventAt s at ∷ []) (v .put) one-put;
+            }
+
+        module _ (n : ℕ) (q : isOf 0 11 (eventAt s at) ≡ true) (en : n ≡ beforeFirst (isOf 1 11) (eventsBy w (e - i - 1) s (at + w))) (ln : n ≤ e - i - 1) where
+          pub writing-inner : Fits d₁ p₁ (withText (eventsBy w n s (at + w)))
+          writing-inner =
+              let r : List Event = resolvedFrom 0 (eventsBy w (e - (i + (1 + n))) s (at + w + w * n)) in
+              let f : Fits out p (eventAt s at ∷ (withText (eventsBy w n s (at + w)) ++ r)) = rw (resolved-here s at w i e n l q en ln) at rest-fits in
+              fits-first (withText (eventsBy w n s (at + w))) r (fits-then (eventAt s at ∷ []) (withText (eventsBy w n s (at + w)) ++ r) one-put f)
+
+          pub writing-heading : {d₂ : List ℕ} {p₂ : Pen} → Put d₁ p₁ (withText (eventsBy w n s (at + w))) d₂ p₂ →
+              Writing s from w e out₀ p₀ (at + w + w * n) (i + (1 + n)) d₂ p₂
+          writing-heading w₂ =
+              let fs : List Event = eventAt s at ∷ withText (eventsBy w n s (at + w)) in
+              record {
+                begun = v .begun;
+                place = omega (arith, v .place);
+                low = omega arith;
+                fine = sym (passed-here s at w i e n l q en ln (gives (resolvedFrom 0 (eventsBy w e s from))) (writing-shaped n q en ln)) ∙ v .fine;
+                done = v .done ++ fs;
+                split = split-after fs (resolvedFrom 0 (eventsBy w (e - (i + (1 + n))) s (at + w + w * n))) (resolved-here s at w i e n l q en ln);
+                put = put-then (v .done) fs (v .put) (put-then (eventAt s at ∷ []) (withText (eventsBy w n s (at + w))) one-put w₂);
+              }

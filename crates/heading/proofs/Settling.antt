@@ -2,16 +2,16 @@
 -- Assumes nothing.
 use mathlib.Core.Path.{_≡_, refl, sym, ap}
 use mathlib.Core.Bool.{true}
-use mathlib.Core.List.{List, []}
+use mathlib.Core.List.{List}
 use Prim.Native.Nat.{ℕ, _+_, _*_, _≤_, _<_}
-use native.Mathlib.Omega.{arith}
 use lib.ListN.{length}
 use Rattle.record.specs.Bytes.{Wrote, u32Bytes}
 use Rattle.record.specs.Form.{placeIn}
 use Rattle.record.specs.Handed.{formOf}
-use Rattle.record.specs.Event.{flat, eventsBy, eventsIn, sectionBytes}
+use Rattle.record.specs.Event.{eventsIn}
 use Rattle.record.specs.Check.{admitted}
 use Rattle.record.specs.Outcome.{settled, onto}
+use Rattle.record.specs.Partners.{balanced, sectionIn}
 use Rattle.record.specs.Promise.{Answered}
 use Rattle.record.specs.Sound.{sound}
 use Rattle.record.specs.declared.event.Event.{Event}
@@ -19,12 +19,10 @@ use Rattle.record.specs.declared.form.Form.{Form}
 use Rattle.record.specs.declared.form.Handed.{Handed}
 use Rattle.record.specs.declared.check.Refusal.{Refusal}
 use Rattle.record.specs.declared.check.Reading.the-variants.{Good, Refused}
-use Rattle.record.proofs.Depth.{sound-deeper}
-use Rattle.record.proofs.Parts.{spread-out}
-use Rattle.record.proofs.Sections.{section}
 use Rattle.record.proofs.Output.{onto-none}
-use Rattle.partners.specs.Finished.{Finished}
-use Rattle.partners.proofs.Finished.{section-sound}
+use Rattle.partners.specs.Pen.{Filled}
+use Rattle.partners.proofs.Laws.{sound-balanced}
+use Rattle.partners.proofs.Pens.{filled-section}
 use Rattle.partners.proofs.Settled as settledCases
 use Rattle.partners.proofs.Settled.{offended}
 use Rattle.heading.specs.Headings.{resolvedFrom, headings}
@@ -36,18 +34,9 @@ use Rattle.heading.specs.declared.resolve.Answer.the-variants as answers
 use Rattle.heading.proofs.Judging.{offends-is, sized-is}
 use Rattle.heading.proofs.Resound.{resolved-sound}
 
--- what is written, of a good record, is sound, one event deeper at most: so it can be finished in any form, for which there is room
-module _ (es : List Event) (d : ℕ) (out : List ℕ) (n : ℕ) (q : Sized n ≡ judgedOf (headings es)) (small : d ≤ 16384) (good : sound 64 d es ≡ true) (few : n ≤ 8000)
-    (width : ℕ) (wide : 8 ≤ width) (room : 4 + width * n ≤ length out) {d₁ d₂ : List ℕ} (w : Wrote out 0 (u32Bytes n) d₁)
-    (v : Wrote d₁ 4 (flat (resolvedFrom 0 es)) d₂) where
-  sound-result : sound 8000 d (resolvedFrom 0 es) ≡ true
-  sound-result = sound-deeper 65 8000 d 0 [] (resolvedFrom 0 es) (omega arith) (resolved-sound es (resolvedFrom 0 es) 64 d good (sized-is es n q .0))
-
-  old-section : d₂ ≡ onto (sectionBytes (resolvedFrom 0 es)) out
-  old-section = section (resolvedFrom 0 es) n (sym (sized-is es n q .1)) (spread-out width n 4 (length out) wide room) w v
-
-  pub finishes : sound 8000 d (eventsBy 8 n d₂ 4) ≡ true
-  finishes = section-sound 8000 d n (resolvedFrom 0 es) out d₂ (sym (sized-is es n q .1)) few sound-result small old-section
+-- what is written, of a good record, is sound, one event deeper at most: so every enter has its exit
+pub result-balanced : (es : List Event) (d n : ℕ) → Sized n ≡ judgedOf (headings es) → sound 64 d es ≡ true → balanced (resolvedFrom 0 es) ≡ true
+result-balanced es d n q good = sound-balanced 65 d (resolvedFrom 0 es) (resolved-sound es (resolvedFrom 0 es) 64 d good (sized-is es n q .0))
 
 -- the four ways out, of a form, after a document of d bytes and with whatever events
 module _ (f : Form) (es : List Event) (d : ℕ) (out : List ℕ) where
@@ -63,14 +52,12 @@ module _ (f : Form) (es : List Event) (d : ℕ) (out : List ℕ) where
         Answered f (settled f d (headings es) (length out)) answerOf out (answers.Refused (record { number = 8; place = 0 })) out
     too-short few h = let g = sized-is es n q in settledCases.too-short f d (headings es) answerOf out _ (resolvedFrom 0 es) (g .0) n (sym (g .1)) few h refl
 
-    pub resolved : d ≤ 16384 → sound 64 d es ≡ true → n ≤ 8000 → 8 ≤ f .width → 4 + f .width * n ≤ length out →
-        {d₁ d₂ d₃ : List ℕ} → Wrote out 0 (u32Bytes n) d₁ → Wrote d₁ 4 (flat (resolvedFrom 0 es)) d₂ → Finished f n d₂ d₃ →
-        Answered f (settled f d (headings es) (length out)) answerOf out (answers.Resolved n) d₃
-    resolved small good few wide room {d₁} {d₂} {d₃} w v x =
+    pub resolved : n ≤ 8000 → 8 ≤ f .width → 4 + f .width * n ≤ length out → {d₁ d₂ : List ℕ} → Wrote out 0 (u32Bytes n) d₁ →
+        Filled (f .width) d₁ (resolvedFrom 0 es) d₂ → Answered f (settled f d (headings es) (length out)) answerOf out (answers.Resolved n) d₂
+    resolved few wide room {d₁} {d₂} w v =
         let g = sized-is es n q in
-        let sound-so = sound-result es d out n q small good few (f .width) wide room w v in
-        let before = old-section es d out n q small good few (f .width) wide room w v in
-        settledCases.written f d (headings es) answerOf out _ (resolvedFrom 0 es) (g .0) n (sym (g .1)) few room small sound-so before x (ap (λ (k : ℕ). answers.Resolved k) (g .1))
+        let o : d₂ ≡ onto (sectionIn f (resolvedFrom 0 es)) out = filled-section f (resolvedFrom 0 es) out d₁ d₂ wide (rw (← g .1) room) (rw (← g .1) w) v in
+        settledCases.written f d (headings es) answerOf out _ (resolvedFrom 0 es) (g .0) n (sym (g .1)) few room o (ap (λ (k : ℕ). answers.Resolved k) (g .1))
 
 -- the check's two ways on
 pub not-admitted : (h : Handed) (s : List ℕ) (works : ℕ) (out : List ℕ) (r : Refusal) → Refused r ≡ admitted h s works →

@@ -1,7 +1,7 @@
 -- The text rule against its definition: where a text begins and ends, its four events, and what a heading's inner events become, with a text or
 -- without.
 -- Assumes nothing.
-use mathlib.Core.Path.{_≡_, refl, sym, ap, _∙_}
+use mathlib.Core.Path.{_≡_, sym, ap, _∙_}
 use mathlib.Core.Bool.{true}
 use mathlib.Core.List.{List, _∷_, [], _++_, reverse, reverse-append}
 use Prim.Native.Nat.{ℕ, _+_, _*_, _-_, _≤_, _<_}
@@ -10,13 +10,14 @@ use lib.ListN.{length, getD, take, drop, length-append}
 use lib.Dec.{eqb}
 use borrow.Author.Tests.{eq-eqb, ne-eqb}
 use Rattle.record.specs.Choice.{choose}
-use Rattle.record.specs.Bytes.{Wrote, u32At}
-use Rattle.record.specs.Event.{eventBytes, flat, eventAt, eventsBy}
+use Rattle.record.specs.Bytes.{u32At}
+use Rattle.record.specs.Event.{enter, exit, eventAt, eventsBy}
 use Rattle.record.specs.Stack.{nth}
 use Rattle.record.specs.declared.event.Event.{Event}
-use Rattle.record.proofs.Splice.{wrote-then}
 use Rattle.record.proofs.Parts.{less, further, event-room, length-events, drop-events, nth-event, events-cons}
-use Rattle.record.proofs.Sections.{length-flat, flat-append}
+use Rattle.partners.specs.Pen.{Fits, Put}
+use Rattle.partners.specs.declared.Pen.{Pen}
+use Rattle.partners.proofs.Pens.{put-then, fits-first, fits-then}
 use Rattle.heading.specs.Headings.{beforeFirst, throughLast, startsWith, shaped, throughOpening, isDataOrRun, beforeText, toLast, beforeClosing, withoutClosing, textEvents, throughText, textRound, withText}
 use Rattle.heading.specs.Shape.{Shape, bare, spaced}
 use Rattle.heading.specs.Steps.{Ends}
@@ -128,20 +129,37 @@ ends s from w n opened skipped last unclosed kept eo lo es ls el ll ec lc ek lk 
       whole = omega arith;
     }
 
--- four events, one after the other
-pub rounded : {d d₁ d₂ d₃ d₄ : List ℕ} (to from end : ℕ)
-    → Wrote d to (eventBytes 0 13 from) d₁
-    → Wrote d₁ (to + 8) (eventBytes 0 0 from) d₂
-    → Wrote d₂ (to + 8 + 8) (eventBytes 1 0 end) d₃
-    → Wrote d₃ (to + 8 + 8 + 8) (eventBytes 1 13 end) d₄
-    → Wrote d to (flat (textRound from end)) d₄
-unfolding flat
-rounded to from end w₁ w₂ w₃ w₄ = wrote-then (wrote-then (wrote-then w₁ w₂ refl) w₃ (omega arith)) w₄ (omega arith)
+-- four events, one after the other: each finds its place, and together they are a text's
+module _ {d : List ℕ} {p : Pen} (from end : ℕ) (f : Fits d p (textRound from end)) where
+  pub first-fits : Fits d p (enter 13 from ∷ [])
+  first-fits = fits-first (enter 13 from ∷ []) (enter 0 from ∷ exit 0 end ∷ exit 13 end ∷ []) f
 
--- with its two places by other names
-pub placed : {d d′ : List ℕ} {to from from′ end end′ : ℕ} → from ≡ from′ → end ≡ end′ → Wrote d to (flat (textRound from end)) d′ →
-    Wrote d to (flat (textRound from′ end′)) d′
-placed p q w = rw (p, q) at w
+  module _ {d₁ : List ℕ} {p₁ : Pen} (w₁ : Put d p (enter 13 from ∷ []) d₁ p₁) where
+    others : Fits d₁ p₁ (enter 0 from ∷ exit 0 end ∷ exit 13 end ∷ [])
+    others = fits-then (enter 13 from ∷ []) (enter 0 from ∷ exit 0 end ∷ exit 13 end ∷ []) w₁ f
+
+    pub second-fits : Fits d₁ p₁ (enter 0 from ∷ [])
+    second-fits = fits-first (enter 0 from ∷ []) (exit 0 end ∷ exit 13 end ∷ []) others
+
+    module _ {d₂ : List ℕ} {p₂ : Pen} (w₂ : Put d₁ p₁ (enter 0 from ∷ []) d₂ p₂) where
+      exits : Fits d₂ p₂ (exit 0 end ∷ exit 13 end ∷ [])
+      exits = fits-then (enter 0 from ∷ []) (exit 0 end ∷ exit 13 end ∷ []) w₂ others
+
+      pub third-fits : Fits d₂ p₂ (exit 0 end ∷ [])
+      third-fits = fits-first (exit 0 end ∷ []) (exit 13 end ∷ []) exits
+
+      pub fourth-fits : {d₃ : List ℕ} {p₃ : Pen} → Put d₂ p₂ (exit 0 end ∷ []) d₃ p₃ → Fits d₃ p₃ (exit 13 end ∷ [])
+      fourth-fits w₃ = fits-then (exit 0 end ∷ []) (exit 13 end ∷ []) w₃ exits
+
+pub rounded : {d d₁ d₂ d₃ d₄ : List ℕ} {p p₁ p₂ p₃ p₄ : Pen} (from end : ℕ)
+    → Put d p (enter 13 from ∷ []) d₁ p₁
+    → Put d₁ p₁ (enter 0 from ∷ []) d₂ p₂
+    → Put d₂ p₂ (exit 0 end ∷ []) d₃ p₃
+    → Put d₃ p₃ (exit 13 end ∷ []) d₄ p₄
+    → Put d p (textRound from end) d₄ p₄
+rounded from end w₁ w₂ w₃ w₄ =
+    put-then (enter 13 from ∷ []) (enter 0 from ∷ exit 0 end ∷ exit 13 end ∷ []) w₁
+    (put-then (enter 0 from ∷ []) (exit 0 end ∷ exit 13 end ∷ []) w₂ (put-then (exit 0 end ∷ []) (exit 13 end ∷ []) w₃ w₄))
 
 module _ (s : List ℕ) (from w n before through : ℕ) (x : Ends (eventsBy w n s from) n before through) where
   -- no text
@@ -152,8 +170,11 @@ module _ (s : List ℕ) (from w n before through : ℕ) (x : Ends (eventsBy w n 
   pub length-unchanged : before ≡ through → length (withText (eventsBy w n s from)) ≡ n
   length-unchanged q = ap length (without q) ∙ length-events w n s from
 
-  pub unchanged : {d d′ : List ℕ} (to : ℕ) → before ≡ through → Wrote d to (flat (eventsBy w n s from)) d′ → Wrote d to (flat (withText (eventsBy w n s from))) d′
-  unchanged to q w = rw (without q) w
+  pub unchanged-fits : {d : List ℕ} {p : Pen} → before ≡ through → Fits d p (withText (eventsBy w n s from)) → Fits d p (eventsBy w n s from)
+  unchanged-fits q f = rw (without q) at f
+
+  pub unchanged : {d d′ : List ℕ} {p p′ : Pen} → before ≡ through → Put d p (eventsBy w n s from) d′ p′ → Put d p (withText (eventsBy w n s from)) d′ p′
+  unchanged q v = rw (without q) v
 
   module _ (ne : before ≡ through → ⊥) where
     -- three parts, each of them read out of the record
@@ -185,21 +206,37 @@ module _ (s : List ℕ) (from w n before through : ℕ) (x : Ends (eventsBy w n 
         ap length parts
         ∙ omega (arith, length-append (eventsBy w before s from) (round ++ back), length-events w before s from, length-events w (n - through) s (from + w * through))
 
-    pub written : {d d₁ d₂ d₃ : List ℕ} (to : ℕ)
-        → Wrote d to (flat (eventsBy w before s from)) d₁
-        → Wrote d₁ (to + 8 * before) (flat (textRound (u32At s (from + w * before + 4)) (u32At s (from + w * through - w + 4)))) d₂
-        → Wrote d₂ (to + 8 * before + 32) (flat (eventsBy w (n - through) s (from + w * through))) d₃
-        → Wrote d to (flat (withText (eventsBy w n s from))) d₃
-    written to w₁ w₂ w₃ =
-        let round : List Event = textRound (u32At s (from + w * before + 4)) (u32At s (from + w * through - w + 4)) in
-        let a : length (flat (eventsBy w before s from)) ≡ 8 * before = length-flat _ ∙ ap (λ (k : ℕ). 8 * k) (length-events w before s from) in
-        let b : length (flat round) ≡ 32 = length-flat round in
-        let v = wrote-then w₁ (wrote-then w₂ w₃ (omega (arith, b))) (omega (arith, a)) in
-        rw (parts, flat-append, flat-append) v
+    -- the three find their places, one after the other, and are the whole; the code has read the text's two places
+    module _ {first last : ℕ} (a : first ≡ u32At s (from + w * before + 4)) (b : last ≡ u32At s (from + w * through - w + 4)) where
+      whole : withText (eventsBy w n s from) ≡ eventsBy w before s from ++ (textRound first last ++ eventsBy w (n - through) s (from + w * through))
+      whole = rw (a, b) parts
 
--- what is known of a text that is there: how long the inner events get, and where its first event, its last and those behind it lie
+      module _ {d : List ℕ} {p : Pen} where
+        pub written : {d₁ d₂ d₃ : List ℕ} {p₁ p₂ p₃ : Pen} → Put d p (eventsBy w before s from) d₁ p₁ → Put d₁ p₁ (textRound first last) d₂ p₂ →
+            Put d₂ p₂ (eventsBy w (n - through) s (from + w * through)) d₃ p₃ → Put d p (withText (eventsBy w n s from)) d₃ p₃
+        written w₁ w₂ w₃ =
+            let back : List Event = eventsBy w (n - through) s (from + w * through) in
+            rw whole (put-then (eventsBy w before s from) (textRound first last ++ back) w₁ (put-then (textRound first last) back w₂ w₃))
+
+        module _ (f : Fits d p (withText (eventsBy w n s from))) where
+          all-fits : Fits d p (eventsBy w before s from ++ (textRound first last ++ eventsBy w (n - through) s (from + w * through)))
+          all-fits = rw whole at f
+
+          pub front-fits : Fits d p (eventsBy w before s from)
+          front-fits = fits-first (eventsBy w before s from) (textRound first last ++ eventsBy w (n - through) s (from + w * through)) all-fits
+
+          module _ {d₁ : List ℕ} {p₁ : Pen} (w₁ : Put d p (eventsBy w before s from) d₁ p₁) where
+            round-and-back : Fits d₁ p₁ (textRound first last ++ eventsBy w (n - through) s (from + w * through))
+            round-and-back = fits-then (eventsBy w before s from) (textRound first last ++ eventsBy w (n - through) s (from + w * through)) w₁ all-fits
+
+            pub round-fits : Fits d₁ p₁ (textRound first last)
+            round-fits = fits-first (textRound first last) (eventsBy w (n - through) s (from + w * through)) round-and-back
+
+            pub back-fits : {d₂ : List ℕ} {p₂ : Pen} → Put d₁ p₁ (textRound first last) d₂ p₂ → Fits d₂ p₂ (eventsBy w (n - through) s (from + w * through))
+            back-fits w₂ = fits-then (textRound first last) (eventsBy w (n - through) s (from + w * through)) w₂ round-and-back
+
+-- what is known of a text that is there: where its first event, its last and those behind it lie
 pub record Found (s : List ℕ) (from w n before through : ℕ) : Type 0 where
-  pub size : length (withText (eventsBy w n s from)) ≡ before + 4 + (n - through)
   pub some : before < through
   pub whole : through ≤ n
   pub inside : w * before + w ≤ w * through
@@ -210,7 +247,6 @@ pub found : (s : List ℕ) (from w n before through : ℕ) → from + w * n ≤ 
 found s from w n before through r x ne =
     let l : before < through = omega (arith, x .front) in
     record {
-      size = length-text s from w n before through x ne;
       some = l;
       whole = x .whole;
       inside = further w before through l;

@@ -3,7 +3,6 @@
 use crate::judge::Judged;
 use crate::judge::judge;
 use crate::write::put_resolved;
-use partners::finish;
 use record::bytes::put_u32;
 use record::bytes::wipe;
 use record::check::Reading;
@@ -57,8 +56,7 @@ pub fn settle(s: &[u8], form: Form, d: usize, e: usize, out: &mut [u8]) -> Answe
                 });
             }
             put_u32(out, 0, n);
-            put_resolved(out, 4, s, from, width, e);
-            finish(out, form, d, n);
+            put_resolved(out, s, from, form, e, n);
             return Answer::Resolved { events: n };
         }
     }

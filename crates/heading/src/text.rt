@@ -1,12 +1,13 @@
 // The text rule: Text (13) goes from the first Data or `#` run after the opening run to the last, and a `#` run that closes the heading stays out. All
-// that lies in the text goes, but for one Data pair. Events are read `width` bytes apart, and written side by side, eight bytes to each.
+// that lies in the text goes, but for one Data pair. Events are read `width` bytes apart, and put by a pen.
 
 use crate::seek::Sought;
 use crate::seek::before_first;
 use crate::seek::through_last;
+use partners::Pen;
+use partners::copy;
+use partners::put;
 use record::bytes::u32_at;
-use record::event::copy_events;
-use record::event::put_event;
 use record::limits::DATA;
 use record::limits::ENTER;
 use record::limits::EXIT;
@@ -17,8 +18,8 @@ ghost use mathlib.Core.Path.{_≡_};
 ghost use Prim.Native.Nat.{_+_, _*_, _≤_};
 ghost use mathlib.Core.Bool.{true};
 ghost use lib.ListN.{length};
-ghost use Rattle.record.specs.Bytes.{Wrote};
-ghost use Rattle.record.specs.Event.{flat, eventsBy};
+ghost use Rattle.record.specs.Event.{eventsBy};
+ghost use Rattle.partners.specs.Pen.{Put, Fits};
 ghost use Rattle.heading.specs.Headings.{shaped, throughOpening, beforeClosing, textRound, withText};
 ghost use Rattle.heading.specs.Steps.{Ends};
 
@@ -85,40 +86,33 @@ pub fn inner_size(s: &[u8], from: usize, width: usize, n: usize) -> usize
     before + 4 + (n - through)
 }
 
-// Writes a text's four events, from one place of the document to another.
-pub fn put_round(out: &mut [u8], to: usize, from: usize, end: usize)
-    requires { ⌜ to + 32 ≤ length (now out) ⌝ }
-    ensures { λ _. ⌜ Wrote (now (out .entry)) to (flat (textRound from end)) (now (out .exit)) ⌝ }
+// Puts a text's four events, from one place of the document to another. The pen behind them.
+pub fn put_round(out: &mut [u8], pen: Pen, from: usize, end: usize) -> Pen
+    requires { ⌜ Fits (now out) pen (textRound from end) ⌝ }
+    ensures { λ r. ⌜ Put (now (out .entry)) pen (textRound from end) (now (out .exit)) r ⌝ }
 {
-    let inside = to + 8;
-    let behind = inside + 8;
-    let after = behind + 8;
-    put_event(out, to, ENTER, HEADING_TEXT, from);
-    put_event(out, inside, ENTER, DATA, from);
-    put_event(out, behind, EXIT, DATA, end);
-    put_event(out, after, EXIT, HEADING_TEXT, end);
+    let inside = put(out, pen, ENTER, HEADING_TEXT, from);
+    let behind = put(out, inside, ENTER, DATA, from);
+    let after = put(out, behind, EXIT, DATA, end);
+    put(out, after, EXIT, HEADING_TEXT, end)
 }
 
-// Writes what a heading's n inner events become, and gives the place after it.
-pub fn put_inner(out: &mut [u8], to: usize, s: &[u8], from: usize, width: usize, n: usize) -> usize
-    requires { ⌜ (8 ≤ width) × (to + 8 * length (withText (eventsBy width n (now s) from)) ≤ length (now out)) × (from + width * n ≤ length (now s)) × (shaped (eventsBy width n (now s) from) ≡ true) ⌝ }
-    ensures { λ r. ⌜ Wrote (now (out .entry)) to (flat (withText (eventsBy width n (now (s .entry)) from))) (now (out .exit)) × (r ≡ to + 8 * length (withText (eventsBy width n (now (s .entry)) from))) ⌝ }
+// Puts what a heading's n inner events become. The pen behind it.
+pub fn put_inner(out: &mut [u8], pen: Pen, s: &[u8], from: usize, width: usize, n: usize) -> Pen
+    requires { ⌜ (8 ≤ width) × (from + width * n ≤ length (now s)) × (shaped (eventsBy width n (now s) from) ≡ true) × Fits (now out) pen (withText (eventsBy width n (now s) from)) ⌝ }
+    ensures { λ r. ⌜ Put (now (out .entry)) pen (withText (eventsBy width n (now (s .entry)) from)) (now (out .exit)) r ⌝ }
 {
     let found = text_of(s, from, width, n);
     let before = found.before;
     let through = found.through;
     if before == through {
-        copy_events(out, to, s, from, width, n);
-        return to + 8 * n;
+        return copy(out, pen, s, from, width, n);
     }
     let end = from + width * through;
-    let text = to + 8 * before;
-    let after = text + 32;
     let behind = n - through;
     let first = u32_at(s, from + width * before + 4);
     let last = u32_at(s, end - width + 4);
-    copy_events(out, to, s, from, width, before);
-    put_round(out, text, first, last);
-    copy_events(out, after, s, end, width, behind);
-    after + 8 * behind
+    let text = copy(out, pen, s, from, width, before);
+    let after = put_round(out, text, first, last);
+    copy(out, after, s, end, width, behind)
 }

@@ -10,21 +10,19 @@ use lib.Dec.{eqb}
 use Rattle.record.specs.Choice.{choose}
 use Rattle.record.specs.Form.{placeIn}
 use Rattle.record.specs.Handed.{formOf}
-use Rattle.record.specs.Event.{documentIn, eventsIn, eventsBy, sectionBytes, enter, exit}
+use Rattle.record.specs.Event.{documentIn, eventsIn, enter, exit}
 use Rattle.record.specs.Good.{GoodIn}
 use Rattle.record.specs.Check.{admitted}
 use Rattle.record.specs.Outcome.{offends, gives, settled, onto}
+use Rattle.record.specs.Partners.{balanced, sectionIn}
 use Rattle.record.specs.Promise.{Answered}
 use Rattle.record.specs.declared.event.Event.{Event}
-use Rattle.record.specs.Sound.{sound}
 use Rattle.record.specs.declared.form.Form.{Form}
 use Rattle.record.specs.declared.form.Handed.{Handed}
 use Rattle.record.specs.declared.check.Refusal.{Refusal}
 use Rattle.record.specs.declared.check.Reading.the-variants as reading
-use Rattle.record.proofs.Depth.{sound-deeper}
 use Rattle.record.proofs.Output.{onto-none}
-use Rattle.partners.specs.Finished.{Finished}
-use Rattle.partners.proofs.Finished.{section-sound}
+use Rattle.partners.proofs.Laws.{sound-balanced}
 use Rattle.partners.proofs.Settled.{offended, too-short, written as section-written}
 use Rattle.list.proofs.Nesting.{nested}
 use Rattle.list.specs.Tree.{Row, written, treeOf}
@@ -153,32 +151,30 @@ module _ (f : Form) (s : List ℕ) (d e : ℕ) (c : GoodIn f s d e) where
 pub few-added : (f : Form) (s : List ℕ) (d e : ℕ) → GoodIn f s d e → {r : Findings} {w : List ℕ} → Noted f s d e r w → (m : ℕ) → r ≡ Added m → e + m ≤ 8000
 few-added f s d e c n m q = omega (arith, c .few, n .kept m q .1)
 
--- the ways out of a good record: the answer and the output in each. The result is sound, at most twice as deep as a record may be
+-- in the result every enter has its exit, as in any that is sound
+pub result-balanced : (f : Form) (s : List ℕ) (d e : ℕ) → GoodIn f s d e → {r : Findings} {w : List ℕ} → Noted f s d e r w → (m : ℕ) → r ≡ Added m →
+    balanced (spliced w (onward f s d e 0)) ≡ true
+result-balanced f s d e c {r} {w} n m q =
+    sound-balanced 128 d (spliced w (onward f s d e 0))
+    (nested d (documentIn f s d) (eventsIn f s d e) (spliced w (onward f s d e 0)) (c .sound-events) (noted-gives f s d e c n m q))
+
+-- the ways out of a good record: the answer and the output in each
 module _ (f : Form) (s : List ℕ) (d e : ℕ) (c : GoodIn f s d e) {r : Findings} {w : List ℕ} (n : Noted f s d e r w) (out : List ℕ) where
   pub shape-broken : (k place : ℕ) → r ≡ Offends k → place ≡ placeIn f d k → (a : Answer) → a ≡ Refused (record { number = 6; place = place }) →
       Answered f (settled f d (lists (documentIn f s d) (eventsIn f s d e)) (length out)) answerOf out a out
   shape-broken k place q p a ea = offended f d (lists (documentIn f s d) (eventsIn f s d e)) answerOf out a k place (noted-offends f s d e c n k q) p ea
 
   module _ (m : ℕ) (q : r ≡ Added m) where
-    result-sound : sound 8000 d (spliced w (onward f s d e 0)) ≡ true
-    result-sound =
-        sound-deeper 128 8000 d 0 [] (spliced w (onward f s d e 0)) (omega arith)
-        (nested d (documentIn f s d) (eventsIn f s d e) (spliced w (onward f s d e 0)) (c .sound-events) (noted-gives f s d e c n m q))
-
     pub output-short : length out < 4 + f .width * (e + m) → (a : Answer) → a ≡ Refused (record { number = 8; place = 0 }) →
         Answered f (settled f d (lists (documentIn f s d) (eventsIn f s d e)) (length out)) answerOf out a out
     output-short h a ea =
         too-short f d (lists (documentIn f s d) (eventsIn f s d e)) answerOf out a (spliced w (onward f s d e 0)) (noted-gives f s d e c n m q) (e + m) (noted-long f s d e c n m q) (few-added f s d e c n m q) h ea
 
-    module _ {out₁ : List ℕ} (o : out₁ ≡ onto (sectionBytes (spliced w (onward f s d e 0))) out) where
-      pub finishes : sound 8000 d (eventsBy 8 (e + m) out₁ 4) ≡ true
-      finishes = section-sound 8000 d (e + m) (spliced w (onward f s d e 0)) out out₁ (noted-long f s d e c n m q) (few-added f s d e c n m q) result-sound (c .small) o
-
-      pub resolved : 4 + f .width * (e + m) ≤ length out → {out₂ : List ℕ} → Finished f (e + m) out₁ out₂ →
-          Answered f (settled f d (lists (documentIn f s d) (eventsIn f s d e)) (length out)) answerOf out (Resolved (e + m)) out₂
-      resolved h x =
-          section-written f d (lists (documentIn f s d) (eventsIn f s d e)) answerOf out (Resolved (e + m)) (spliced w (onward f s d e 0)) (noted-gives f s d e c n m q) (e + m)
-          (noted-long f s d e c n m q) (few-added f s d e c n m q) h (c .small) result-sound o x (ap Resolved (sym (noted-long f s d e c n m q)))
+    pub resolved : 4 + f .width * (e + m) ≤ length out → {out₁ : List ℕ} → out₁ ≡ onto (sectionIn f (spliced w (onward f s d e 0))) out →
+        Answered f (settled f d (lists (documentIn f s d) (eventsIn f s d e)) (length out)) answerOf out (Resolved (e + m)) out₁
+    resolved h o =
+        section-written f d (lists (documentIn f s d) (eventsIn f s d e)) answerOf out (Resolved (e + m)) (spliced w (onward f s d e 0)) (noted-gives f s d e c n m q) (e + m)
+        (noted-long f s d e c n m q) (few-added f s d e c n m q) h o (ap Resolved (sym (noted-long f s d e c n m q)))
 
 -- the check's two ways on
 pub refused-by-check : (h : Handed) (s : List ℕ) (works : ℕ) (out : List ℕ) (r : Refusal) → reading.Refused r ≡ admitted h s works →

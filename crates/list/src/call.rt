@@ -3,7 +3,6 @@
 use crate::chain::Findings;
 use crate::chain::note_lists;
 use crate::write::write_lists;
-use partners::finish;
 use record::bytes::wipe;
 use record::check::Reading;
 use record::check::Refusal;
@@ -53,7 +52,6 @@ fn settle(s: &[u8], form: Form, d: usize, e: usize, out: &mut [u8], work: &mut [
                 return refused(8, 0);
             }
             write_lists(out, s, form, d, e, work, count);
-            finish(out, form, d, count);
             return Answer::Resolved { events: count };
         }
     }

@@ -1,4 +1,3 @@
-pub mod Sets
 pub mod Walk
 pub mod Closing
 pub mod Laws
@@ -11,7 +10,9 @@ pub mod Records
 pub mod Rewritten
 pub mod EitherForm
 pub mod Carried
-pub mod Backward
-pub mod Widening
-pub mod Finished
+pub mod Memory
+pub mod Opened
+pub mod Pens
+pub mod Putting
+pub mod Copying
 pub mod Settled

@@ -112,7 +112,8 @@ lift shift closed = closed
 lift {es} {ps} {left} {left′} {i} {i′} {m} {m′} {bound} shift (opened {h = h} {hs = hs} l z w r) =
     opened l z (w ∙ shift m m′ (omega arith) (omega arith)) (lift (λ a b g e. shift a b (omega arith) (omega arith)) r)
 
-split-lt : (k i : ℕ) → k < i + 1 → (k < i) ⊎ (k ≡ i)
+-- a number below the next is below this one, or this one
+pub split-lt : (k i : ℕ) → k < i + 1 → (k < i) ⊎ (k ≡ i)
 split-lt zero zero h = inr refl
 split-lt zero (suc i) h = inl (omega arith)
 split-lt (suc k) zero h = absurd (omega arith)

@@ -16,7 +16,7 @@ use Rattle.record.specs.declared.event.Event.{Event}
 use Rattle.record.specs.declared.form.Form.{Form}
 use Rattle.record.proofs.Sections.{length-section}
 use Rattle.record.proofs.Splice.{wrote-then, wrote-front}
-use Rattle.partners.specs.Finished.{SectionLength}
+use Rattle.partners.specs.Records.{SectionLength}
 use Rattle.partners.proofs.Walk.{length-partners}
 
 pub length-flatWith : (es : List Event) (ps : List ℕ) → length ps ≡ length es → length (flatWith es ps) ≡ 12 * length es

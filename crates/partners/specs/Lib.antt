@@ -1,6 +1,6 @@
 pub mod Fields
-pub mod Finished
 pub mod Laws
 pub mod Records
 pub mod EitherForm
+pub mod Pen
 pub mod Cases

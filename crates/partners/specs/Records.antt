@@ -36,6 +36,10 @@ SectionReadsBack =
     (f : Form) → (f .width ≡ 8) ⊎ (f .width ≡ 12) → (before behind : List ℕ) (es : List Event) → length es < 4294967296 → Storable es →
     SectionThere f (before ++ (sectionIn f es ++ behind)) (length before) es
 
+-- it is four bytes, and the width for each event
+abbrev pub SectionLength : Type 0
+SectionLength = (f : Form) (es : List Event) → (f .width ≡ 8) ⊎ (f .width ≡ 12) → length (sectionIn f es) ≡ 4 + f .width * length es
+
 -- a record is handed over with these options: they stand beside the old form, and within form 2
 pub data With : Handed → ℕ → Type 0 where
   beside : {options : ℕ} → With (Old options) options

@@ -1,20 +1,18 @@
 -- Laws of `sets d i xs`, the list d with xs stored from index i on: the form of contract for a write into a lent buffer.
 --     sets-append    two writes, one after the other, are one
 --     wrote-then     a write at the end of what was written so far; wrote-event, wrote-none, wrote-length, wrote-front
---     copy-turn      a turn of a loop that copies s, byte by byte, from index at on
 --     sets-front     a write from the start is xs, then what was behind it
 -- Assumes nothing.
 use mathlib.Core.Path.{_≡_, refl, sym, ap, _∙_, subst}
 use mathlib.Core.List.{List, [], _∷_, _++_, append-nil}
 use Prim.Native.Nat.{ℕ, suc, _+_, _*_, _/_, _%_, _≤_, _<_}
-use native.Mathlib.Numerals.{add-one}
 use native.Mathlib.Omega.{arith}
 use native.Mathlib.Nat.{add-zero, zero-add, add-suc, suc-add}
-use lib.ListN.{length, getD, set, take, drop, replicate, drop-of-length-le}
+use lib.ListN.{length, set, drop, replicate, drop-of-length-le}
 use borrow.Author.Fill.{fill-more}
 use Rattle.record.specs.Bytes.{u32Bytes, Wrote}
 use Rattle.record.specs.Event.{eventBytes}
-use lib.Seq.{sets, length-sets, sets-eq, take-suc, length-take-le}
+use lib.Seq.{sets, length-sets, sets-eq}
 
 pub sets-append : (d : List ℕ) (i : ℕ) (xs ys : List ℕ) → sets d i (xs ++ ys) ≡ sets (sets d i xs) (i + length xs) ys
 sets-append d i [] ys = ap (λ (k : ℕ). sets d k ys) (sym (add-zero i))
@@ -61,10 +59,6 @@ wrote-event {d} {d₁} {at = at} head kind name place w v j e k n =
 pub wrote-none : (d : List ℕ) (at : ℕ) → Wrote d at [] d
 wrote-none d at = record { same = refl }
 
--- the first of a run of writes, and then the rest: the form that `search` can use, with no path into `c`
-pub wrote-first : {d d₁ d₂ : List ℕ} {at : ℕ} {xs zs : List ℕ} → Wrote d at xs d₁ → Wrote d₁ (at + length xs) (drop (length xs) zs) d₂ → zs ≡ xs ++ drop (length xs) zs → Wrote d at zs d₂
-wrote-first {d} {d₁} {d₂} {at} {xs} {zs} w v e = subst (λ (l : List ℕ). Wrote d at l d₂) (sym e) (wrote-then w v refl)
-
 -- a write keeps the length
 pub wrote-length : {d d′ : List ℕ} {at : ℕ} {xs : List ℕ} → Wrote d at xs d′ → length d′ ≡ length d
 wrote-length {d} {d′} {at} {xs} w = ap length (w .same) ∙ length-sets d at xs
@@ -72,15 +66,6 @@ wrote-length {d} {d′} {at} {xs} w = ap length (w .same) ∙ length-sets d at x
 -- what is written from the start: xs, then what was behind it
 pub wrote-front : {d d′ xs : List ℕ} → Wrote d 0 xs d′ → length xs ≤ length d → d′ ≡ xs ++ drop (length xs) d
 wrote-front {d} {d′} {xs} w h = w .same ∙ sets-front d xs h
-
-pub copy-turn : (d s : List ℕ) (at i : ℕ) → i < length s → set (sets d at (take i s)) (at + i) (getD s i 0) ≡ sets d at (take (i + 1) s)
-copy-turn d s at i h =
-    sets-then d at (at + i) (take i s) (getD s i 0 ∷ []) (ap (λ (k : ℕ). at + k) (sym (length-take-le i s (omega arith))))
-    ∙ ap (λ (l : List ℕ). sets d at l) (sym (take-suc s i 0 h) ∙ ap (λ (k : ℕ). take k s) (sym (add-one i)))
-
--- the same from the start
-pub copy-turn-front : (d s : List ℕ) (i : ℕ) → i < length s → set (sets d 0 (take i s)) i (getD s i 0) ≡ sets d 0 (take (i + 1) s)
-copy-turn-front d s i h = ap (λ (k : ℕ). set (sets d 0 (take i s)) k (getD s i 0)) (sym (zero-add i)) ∙ copy-turn d s 0 i h
 
 -- d is d₀ with v in its first i places: the invariant of a loop that fills. Then its start, its turn and its end
 pub record Filled (d₀ : List ℕ) (i v : ℕ) (d : List ℕ) : Type 0 where

@@ -58,7 +58,7 @@ stands-sound fm s d k q (past-document h) =
     let f : eventAt s (placeIn fm d k) .place ≤ d = leb-true _ _ (and-left _ _ (and-right _ _ (and-right _ _ (and-right _ _ (and-left _ _ q))))) in omega arith
 stands-sound fm s d k q (below-last h) =
     let f : placeBefore fm s d k ≤ eventAt s (placeIn fm d k) .place = leb-true _ _ (and-right _ _ (and-right _ _ (and-right _ _ (and-right _ _ (and-left _ _ q))))) in omega arith
-stands-sound fm s d k q (no-enter h i) = not-innermost _ _ _ (fits-partner 64 (eventAt s (placeIn fm d k)) (openNames fm s d k) (and-left _ _ (and-right _ _ q)) h) i
+stands-sound fm s d k q (no-enter h i) = i _ (fits-partner 64 (eventAt s (placeIn fm d k)) (openNames fm s d k) (and-left _ _ (and-right _ _ q)) h)
 stands-sound fm s d k q (too-deep h i) =
     let f : length (openNames fm s d k) < 64 = fits-room 64 (eventAt s (placeIn fm d k)) (openNames fm s d k) (and-left _ _ (and-right _ _ q)) h in omega arith
 stands-sound fm s d k q (untrue-exit l h n) = n (true-pair fm s d k (and-right _ _ (and-right _ _ q)) l h .0)
@@ -96,7 +96,7 @@ fits-broken fm s d k q = go (eqb (eventAt s (placeIn fm d k) .kind) 0) refl q
     other true e n q =
         let a : eventAt s (placeIn fm d k) .kind ≤ 1 = leb-true _ _ e in
         let b : eventAt s (placeIn fm d k) .kind ≡ 0 → ⊥ = eqb-false _ _ n in
-        no-enter (one _ a b) q
+        no-enter (one _ a b) (λ rest e. not-innermost _ _ rest e q)
     other false e n q = bad-kind (leb-false _ _ e)
 
     go : (z : Bool) → eqb (eventAt s (placeIn fm d k) .kind) 0 ≡ z →

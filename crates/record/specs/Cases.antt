@@ -2,7 +2,8 @@
 -- Assumes nothing.
 use mathlib.Core.Path.{_≡_, refl}
 use mathlib.Core.List.{List, [], _∷_, _++_, map}
-use Prim.Native.Nat.{ℕ}
+use Prim.Native.Nat.{ℕ, _/_, _%_}
+use lib.ListN.{getD}
 use Rattle.record.specs.Choice.{choose, and}
 use Rattle.record.specs.Bytes.{u32At, u32Bytes}
 use Rattle.record.specs.Form.{old}
@@ -17,6 +18,11 @@ use Rattle.record.specs.declared.check.Reading.the-variants.{Good}
 -- "u32 little endian": four bytes that differ, each in its place. With the laws of specs/ReadsBack.antt this fixes the writer's too
 lowest-first : (u32At (1 ∷ 2 ∷ 3 ∷ 4 ∷ []) 0 ≡ 67305985) × (u32Bytes 67305985 ≡ 1 ∷ 2 ∷ 3 ∷ 4 ∷ [])
 lowest-first = (refl, refl)
+
+-- and so of every number: its bytes are what is left of it, by 256 and the powers of 256
+each-byte : (n : ℕ) → (getD (u32Bytes n) 0 0 ≡ n % 256) × (getD (u32Bytes n) 1 0 ≡ n / 256 % 256) × (getD (u32Bytes n) 2 0 ≡ n / 65536 % 256)
+    × (getD (u32Bytes n) 3 0 ≡ n / 16777216 % 256)
+each-byte n = (refl, refl, refl, refl)
 
 -- "kind (0 enter, 1 exit), name, two zero bytes, place", byte by byte
 by-bytes : storedAt (1 ∷ 2 ∷ 3 ∷ 4 ∷ 5 ∷ 6 ∷ 7 ∷ 8 ∷ []) 0

@@ -4,14 +4,14 @@
 use Prim.Native.Nat.{ℕ, zero, suc, _+_, _*_, _≤_, _<_}
 use mathlib.Core.Path.{_≡_}
 use mathlib.Core.Bool.{false}
-use mathlib.Core.List.{List, []}
+use mathlib.Core.List.{List, [], _∷_}
 use lib.ListN.{length, getD}
 use Rattle.record.specs.Bytes.{u32At}
 use Rattle.record.specs.Form.{placeIn, mateIn}
 use Rattle.record.specs.Handed.{formOf}
 use Rattle.record.specs.declared.form.Form.{Form}
 use Rattle.record.specs.Event.{storedAt, eventAt}
-use Rattle.record.specs.Stack.{innermost, innermostOf, none, after}
+use Rattle.record.specs.Stack.{innermostOf, none, after}
 use Rattle.record.specs.Check.{refuse, admitted}
 use Rattle.record.specs.Order.{Least}
 use Rattle.record.specs.declared.form.Handed.{Handed}
@@ -64,7 +64,7 @@ pub data Broken (f : Form) (s : List ℕ) (d k : ℕ) : Type 0 where
   bad-zeros : (storedAt s (placeIn f d k) .zeros ≡ 0 → ⊥) → Broken f s d k
   past-document : d < eventAt s (placeIn f d k) .place → Broken f s d k
   below-last : eventAt s (placeIn f d k) .place < placeBefore f s d k → Broken f s d k
-  no-enter : eventAt s (placeIn f d k) .kind ≡ 1 → innermost (eventAt s (placeIn f d k) .name) (openNames f s d k) ≡ false → Broken f s d k
+  no-enter : eventAt s (placeIn f d k) .kind ≡ 1 → ((held : List ℕ) → openNames f s d k ≡ eventAt s (placeIn f d k) .name ∷ held → ⊥) → Broken f s d k
   too-deep : eventAt s (placeIn f d k) .kind ≡ 0 → 64 ≤ length (openNames f s d k) → Broken f s d k
   untrue-exit : 12 ≤ f .width → eventAt s (placeIn f d k) .kind ≡ 1 → (mateIn f s d k ≡ innermostOf (openNumbers f s d k) → ⊥) → Broken f s d k
   untrue-enter : 12 ≤ f .width → eventAt s (placeIn f d k) .kind ≡ 1 → (mateIn f s d (innermostOf (openNumbers f s d k)) ≡ k → ⊥) → Broken f s d k

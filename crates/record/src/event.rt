@@ -1,13 +1,13 @@
-// One event of eight bytes, read and written, and events copied from a record to an output.
+// One event of eight bytes, read and written.
 
 use crate::bytes::put_u32;
 use crate::bytes::u32_at;
 use crate::bytes::wide;
 ghost use mathlib.Core.Path.{_≡_};
-ghost use Prim.Native.Nat.{_+_, _*_, _≤_, _<_};
+ghost use Prim.Native.Nat.{_+_, _≤_, _<_};
 ghost use lib.ListN.{length};
 ghost use Rattle.record.specs.Bytes.{Wrote};
-ghost use Rattle.record.specs.Event.{eventAt, eventsBy, eventBytes, flat};
+ghost use Rattle.record.specs.Event.{eventAt, eventBytes};
 
 // An event: its kind (0 enter, 1 exit), its name, and its place in the document.
 pub struct Event {
@@ -35,20 +35,4 @@ pub fn put_event(out: &mut [u8], at: usize, kind: u8, name: u8, place: usize)
 {
     put_u32(out, at, wide(kind) + 256 * wide(name));
     put_u32(out, at + 4, place);
-}
-
-// Copies the n events that stand in a record from a place on, each `width` bytes after the one before, to a place of an output, side by side.
-pub fn copy_events(out: &mut [u8], at: usize, s: &[u8], from: usize, width: usize, n: usize)
-    requires { ⌜ (8 ≤ width) × (at + 8 * n ≤ length (now out)) × (from + width * n ≤ length (now s)) ⌝ }
-    ensures { λ _. ⌜ Wrote (now (out .entry)) at (flat (eventsBy width n (now (s .entry)) from)) (now (out .exit)) ⌝ }
-{
-    let mut i = 0;
-    let mut to = at;
-    let mut read = from;
-    while i < n {
-        put_event(out, to, s[read], s[read + 1], u32_at(s, read + 4));
-        to += 8;
-        read += width;
-        i += 1;
-    }
 }

@@ -5,7 +5,6 @@ use Prim.Native.Nat.{ℕ, _+_, _-_, _*_, _≤_, _<_}
 use mathlib.Core.Path.{_≡_, refl, sym, ap, _∙_}
 use mathlib.Core.List.{List, [], _∷_, _++_, append-nil}
 use native.Mathlib.Omega.{arith}
-use lib.ListN.{length}
 use borrow.Author.Tests.{eq-eqb}
 use Rattle.record.specs.Choice.{choose}
 use Rattle.record.specs.declared.event.Event.{Event}
@@ -15,11 +14,13 @@ use Rattle.runs.specs.Output.{closingEvents}
 use Rattle.slots.specs.Layout.{firstGroupOf, groupCloser, groupTaken}
 use Rattle.groups.proofs.Laws.{closed-append, closed-own}
 use Rattle.groups.proofs.Spans.{closings-append}
-use Rattle.writing.specs.Put.{Put, Fits}
+use Rattle.partners.specs.Pen.{Put, Fits}
+use Rattle.partners.specs.declared.Pen.{Pen}
 use Rattle.writing.specs.Kept.{Kept, groupAt, groupsFrom, groupsIn, firstClosing, closingsIn}
 use Rattle.writing.proofs.Parts.{groups-split, groups-more, none-closing}
 use Rattle.writing.proofs.Found.{First, first-found}
-use Rattle.writing.proofs.Puts.{put-none, put-then, fits-first, fits-then, closing-append, closing-four}
+use Rattle.partners.proofs.Pens.{put-none, put-then, fits-first, fits-then}
+use Rattle.writing.proofs.Pieces.{closing-append}
 
 -- the pieces among the first i groups, and those of one group more
 next-pieces : (n i : ℕ) (w : List ℕ) (q m from place t : ℕ) → n ≡ i + 1 → groupCloser w i ≡ q → t ≡ groupTaken w i → place ≡ from + closed (groupsFrom i w 0) q →
@@ -38,34 +39,34 @@ next-closed n i w q t e o et =
     ∙ ap (λ (k : ℕ). closed (groupsFrom i w 0) q + k) (closed-own (groupAt w i) q o ∙ sym et))
 
 -- the first i of n groups are past
-pub record Closing (d₀ : List ℕ) (at₀ : ℕ) (w : List ℕ) (n q m from i : ℕ) (d : List ℕ) (at place : ℕ) : Type 0 where
+pub record Closing (d₀ : List ℕ) (p₀ : Pen) (w : List ℕ) (n q m from i : ℕ) (d : List ℕ) (p : Pen) (place : ℕ) : Type 0 where
   pub within : i ≤ n
-  pub put : Put d₀ at₀ (closingsIn w i q m from) d at
+  pub put : Put d₀ p₀ (closingsIn w i q m from) d p
   pub reached : place ≡ from + closed (groupsIn w i) q
   pub small : place ≤ from + 65536 * i
   pub ahead : (j : ℕ) → i ≤ j → j < n → q ≤ groupCloser w j
 
 -- all of them: what the function promises
-abbrev Closings : List ℕ → ℕ → List ℕ → ℕ → ℕ → ℕ → ℕ → List ℕ → ℕ → ℕ → Type 0
-Closings d₀ at₀ w n q m from d at place = Put d₀ at₀ (closingsIn w n q m from) d at × ((place ≡ from + closed (groupsIn w n) q) × (place < 8589934592))
+abbrev Closings : List ℕ → Pen → List ℕ → ℕ → ℕ → ℕ → ℕ → List ℕ → Pen → ℕ → Type 0
+Closings d₀ p₀ w n q m from d p place = Put d₀ p₀ (closingsIn w n q m from) d p × ((place ≡ from + closed (groupsIn w n) q) × (place < 8589934592))
 
 module _ {w : List ℕ} {n runs : ℕ} (k : Kept w n runs) {q : ℕ} (r : q < runs) where
   first-is : (f : ℕ) → f ≡ firstGroupOf w q → First n w 0 q f
   first-is f e = let x : f ≡ firstClosing n w 0 q = e ∙ k .first q r in rw x (first-found n w 0 q)
 
   -- a run that closes nothing
-  pub nothing-closed : (d : List ℕ) (at m from f : ℕ) → from < 4294967296 → f ≡ firstGroupOf w q → f ≡ 0 → Closings d at w n q m from d at from
+  pub nothing-closed : (d : List ℕ) (p : Pen) (m from f : ℕ) → from < 4294967296 → f ≡ firstGroupOf w q → f ≡ 0 → Closings d p w n q m from d p from
   unfolding closingEvents
-  nothing-closed d at m from f u e z =
+  nothing-closed d p m from f u e z =
       let h = none-closing n w 0 q m from (first-is f e .none z) in
       let l : closingsIn w n q m from ≡ [] = ap closingEvents (h .0) in
       let c = h .1 in
-      (rw l (put-none d at), (omega arith, omega arith))
+      (rw l (put-none d p), (omega arith, omega arith))
 
   -- the loop begins at the first group that the run closes
-  pub start : (d : List ℕ) (at m from f : ℕ) → f ≡ firstGroupOf w q → (f ≡ 0 → ⊥) → Closing d at w n q m from (f - 1) d at from
+  pub start : (d : List ℕ) (p : Pen) (m from f : ℕ) → f ≡ firstGroupOf w q → (f ≡ 0 → ⊥) → Closing d p w n q m from (f - 1) d p from
   unfolding closingEvents
-  start d at m from f e z =
+  start d p m from f e z =
       let a = first-is f e in
       let hi = a .high in
       let h = none-closing (f - 1) w 0 q m from (λ j x y c. a .before j x (omega arith) c) in
@@ -74,13 +75,13 @@ module _ {w : List ℕ} {n runs : ℕ} (k : Kept w n runs) {q : ℕ} (r : q < ru
       let o = a .own (omega arith) in
       record {
         within = omega arith;
-        put = rw l (put-none d at);
+        put = rw l (put-none d p);
         reached = omega arith;
         small = omega arith;
         ahead = λ j x y. let rise = k .rising (f - 1) j x y in omega arith;
       }
 
-module _ {d₀ : List ℕ} {at₀ : ℕ} {w : List ℕ} {n q m from i : ℕ} {d : List ℕ} {at place : ℕ} (c : Closing d₀ at₀ w n q m from i d at place) where
+module _ {d₀ : List ℕ} {p₀ : Pen} {w : List ℕ} {n q m from i : ℕ} {d : List ℕ} {p : Pen} {place : ℕ} (c : Closing d₀ p₀ w n q m from i d p place) where
   next-events : (t : ℕ) → groupCloser w i ≡ q → t ≡ groupTaken w i →
       closingsIn w (i + 1) q m from ≡ closingsIn w i q m from ++ closingEvents (piece m t place (place + t) ∷ [])
   next-events t o et =
@@ -97,18 +98,18 @@ module _ {d₀ : List ℕ} {at₀ : ℕ} {w : List ℕ} {n q m from i : ℕ} {d 
   )
 
   -- there is room for the next piece
-  pub room : i < n → groupCloser w i ≡ q → Fits d₀ at₀ (closingsIn w n q m from) → at + 32 ≤ length d
-  room h o fits =
+  pub room : {t : ℕ} → i < n → groupCloser w i ≡ q → t ≡ groupTaken w i → Fits d₀ p₀ (closingsIn w n q m from) →
+      Fits d p (closingEvents (piece m t place (place + t) ∷ []))
+  room {t} h o et fits =
       let all = first-events (i + 1) (omega arith) in
-      let e = next-events (groupTaken w i) o refl in
-      let f : Fits d₀ at₀ (closingsIn w (i + 1) q m from) = fits-first (length d₀) at₀ (closingsIn w (i + 1) q m from) (all .0) (rw (all .1) at fits) in
-      let g = fits-then (closingsIn w i q m from) (closingEvents (piece m (groupTaken w i) place (place + groupTaken w i) ∷ [])) (c .put) (rw e at f) in
-      omega (arith, g, closing-four (piece m (groupTaken w i) place (place + groupTaken w i)))
+      let e = next-events t o et in
+      let f : Fits d₀ p₀ (closingsIn w (i + 1) q m from) = fits-first (closingsIn w (i + 1) q m from) (all .0) (rw (all .1) at fits) in
+      fits-then (closingsIn w i q m from) (closingEvents (piece m t place (place + t) ∷ [])) (c .put) (rw e at f)
 
   -- a piece more
-  pub turn : {d′ : List ℕ} {t at′ : ℕ} → i < n → groupCloser w i ≡ q → t ≡ groupTaken w i → t < 65536 →
-      Put d at (closingEvents (piece m t place (place + t) ∷ [])) d′ at′ → Closing d₀ at₀ w n q m from (i + 1) d′ at′ (place + t)
-  turn {d′} {t} {at′} h o et lt v =
+  pub turn : {d′ : List ℕ} {t : ℕ} {p′ : Pen} → i < n → groupCloser w i ≡ q → t ≡ groupTaken w i → t < 65536 →
+      Put d p (closingEvents (piece m t place (place + t) ∷ [])) d′ p′ → Closing d₀ p₀ w n q m from (i + 1) d′ p′ (place + t)
+  turn {d′} {t} {p′} h o et lt v =
       let e = next-events t o et in
       let x = next-closed (i + 1) i w q t refl o et in
       record {
@@ -120,7 +121,7 @@ module _ {d₀ : List ℕ} {at₀ : ℕ} {w : List ℕ} {n q m from i : ℕ} {d 
       }
 
   -- no later group is the run's
-  passed : {runs : ℕ} → Kept w n runs → from < 4294967296 → ((j : ℕ) → i ≤ j → j < n → groupCloser w j ≡ q → ⊥) → Closings d₀ at₀ w n q m from d at place
+  passed : {runs : ℕ} → Kept w n runs → from < 4294967296 → ((j : ℕ) → i ≤ j → j < n → groupCloser w j ≡ q → ⊥) → Closings d₀ p₀ w n q m from d p place
   passed k u none =
       let h = none-closing (n - i) w i q m (from + closed (groupsIn w i) q) (λ j a b. none j a (omega (arith, c .within))) in
       let e : closings (groupsIn w n) q m from ≡ closings (groupsIn w i) q m from =
@@ -133,9 +134,9 @@ module _ {d₀ : List ℕ} {at₀ : ℕ} {w : List ℕ} {n q m from i : ℕ} {d 
       (rw e (c .put), (omega (arith, c .reached), omega (arith, c .small, c .within, k .few)))
 
   -- the next group is another's
-  pub left : {runs : ℕ} → Kept w n runs → from < 4294967296 → i < n → (groupCloser w i ≡ q → ⊥) → Closings d₀ at₀ w n q m from d at place
+  pub left : {runs : ℕ} → Kept w n runs → from < 4294967296 → i < n → (groupCloser w i ≡ q → ⊥) → Closings d₀ p₀ w n q m from d p place
   left k u h o = passed k u (λ j a b e. let x = k .rising i j a b in let y = c .ahead i (omega arith) h in o (omega arith))
 
   -- there is no next group
-  pub ended : {runs : ℕ} → Kept w n runs → from < 4294967296 → n ≤ i → Closings d₀ at₀ w n q m from d at place
+  pub ended : {runs : ℕ} → Kept w n runs → from < 4294967296 → n ≤ i → Closings d₀ p₀ w n q m from d p place
   ended k u h = passed k u (λ j a b e. omega arith)

@@ -1,7 +1,7 @@
--- The loop over a record's events: what is written, with what the events ahead come to, is what the whole comes to; and the runs of the events
+-- The loop over a record's events: what is put, with what the events ahead come to, is what the whole comes to; and the runs of the events
 -- ahead are the runs of the record from the next one on.
 -- Assumes nothing.
-use Prim.Native.Nat.{ℕ, suc, _+_, _-_, _*_, _≤_, _<_}
+use Prim.Native.Nat.{ℕ, zero, suc, _+_, _-_, _*_, _≤_, _<_}
 use mathlib.Core.Path.{_≡_, refl, sym, ap, _∙_}
 use mathlib.Core.Bool.{Bool, true, false}
 use mathlib.Core.List.{List, [], _∷_, _++_, append-assoc, append-nil}
@@ -10,9 +10,10 @@ use lib.Dec.{eqb}
 use lib.ListN.{length, getD, drop, length-drop}
 use lib.Seq.{getD-drop, drop-drop}
 use Rattle.record.specs.Choice.{choose}
-use Rattle.record.specs.Bytes.{Wrote, u32At}
+use Rattle.record.specs.Bytes.{u32At}
 use Rattle.record.specs.Form.{placeIn}
-use Rattle.record.specs.Event.{flat, eventAt, eventsBy, documentIn, eventsIn}
+use Rattle.record.specs.Event.{eventAt, eventsBy, documentIn, eventsIn}
+use Rattle.record.specs.Partners.{balanced}
 use Rattle.record.specs.Stack.{after}
 use Rattle.record.specs.declared.event.Event.{Event}
 use Rattle.record.specs.declared.form.Form.{Form}
@@ -21,9 +22,10 @@ use Rattle.runs.specs.Runs.{Run, entersRun, runOf, runsFrom, runsOf}
 use Rattle.runs.specs.Plain.{Group}
 use Rattle.runs.specs.Pieces.{remains}
 use Rattle.runs.specs.Output.{leftoverEvents, runEvents, replaced, noRun}
-use Rattle.writing.specs.Put.{Put, Fits}
+use Rattle.partners.specs.Pen.{Fits, Put, Filled}
+use Rattle.partners.specs.declared.Pen.{Pen}
 use Rattle.writing.specs.Kept.{Slotted, groupsIn, runKept, insteadOf, nextRun, runsIn, writtenOf}
-use Rattle.writing.proofs.Puts.{put-none, put-then, fits-first, fits-then}
+use Rattle.partners.proofs.Pens.{put-none, put-then, fits-first, fits-then, start as pen-start, all-fit, all-put, filled}
 
 -- what comes of the first event, and of the others
 replaced-first : (e : Event) (es : List Event) (rs : List Run) (gs : List Group) (q : ℕ) →
@@ -82,43 +84,56 @@ instead-same {w} {runs} {rs} k e gs q h = go (entersRun e) refl
         rw x (events-same gs q (getD rs q noRun) (runKept w q (e .place)) (t .1) (sym (k .size q l)) (sym (k .marker q l)))
     go false x = rw x
 
--- so many events are ahead, `width` bytes apart, the first of them at a place of the record, and the next run is q
-pub record Writing (width : ℕ) (d₀ s w doc : List ℕ) (n : ℕ) (rs : List Run) (total : List Event) (d : List ℕ) (ahead read to q : ℕ) : Type 0 where
+-- some events are ahead, `width` bytes apart, the first of them at a place of the record and the last before its end, and the next run is q
+pub record Writing (width : ℕ) (d₀ : List ℕ) (p₀ : Pen) (s w doc : List ℕ) (n : ℕ) (rs : List Run) (total : List Event) (d : List ℕ) (end read : ℕ) (p : Pen) (q : ℕ) :
+    Type 0 where
   pub written : List Event
   pub number : ℕ
   pub held : List ℕ
-  pub inside : read + width * ahead ≤ length s
-  pub put : Put d₀ 4 written d to
+  pub ahead : ℕ
+  pub reaches : read + width * ahead ≡ end
+  pub inside : end ≤ length s
+  pub put : Put d₀ p₀ written d p
   pub whole : total ≡ written ++ replaced (eventsBy width ahead s read) rs (groupsIn w n) q
   pub runs-ahead : runsFrom doc (eventsBy width ahead s read) number held ≡ drop q rs
 
-pub start : (f : Form) (out s w : List ℕ) (d e n : ℕ) → placeIn f d e ≤ length s →
-    Writing (f .width) out s w (documentIn f s d) n (runsIn f s d e) (writtenOf f s d e w n) out e (8 + f .front + d) 4 0
+pub start : (f : Form) (out : List ℕ) (p : Pen) (s w : List ℕ) (d e n : ℕ) → placeIn f d e ≤ length s →
+    Writing (f .width) out p s w (documentIn f s d) n (runsIn f s d e) (writtenOf f s d e w n) out (8 + f .front + d + f .width * e) (8 + f .front + d) p 0
 unfolding runsOf eventsIn
-start f out s w d e n h =
-    record { written = []; number = 0; held = []; inside = h; put = put-none out 4; whole = refl; runs-ahead = refl }
+start f out p s w d e n h =
+    record { written = []; number = 0; held = []; ahead = e; reaches = refl; inside = h; put = put-none out p; whole = refl; runs-ahead = refl }
 
-module _ {width : ℕ} {d₀ s w doc : List ℕ} {n : ℕ} {rs : List Run} {total : List Event} {d : List ℕ} {ahead read to q : ℕ}
-    (c : Writing width d₀ s w doc n rs total d ahead read to q) (pos : 0 < ahead) {runs : ℕ} (k : Slotted w runs rs) where
+module _ {width : ℕ} {d₀ : List ℕ} {p₀ : Pen} {s w doc : List ℕ} {n : ℕ} {rs : List Run} {total : List Event} {d : List ℕ} {end read : ℕ} {p : Pen} {q : ℕ}
+    (c : Writing width d₀ p₀ s w doc n rs total d end read p q) (less-read : read < end) {runs : ℕ} (k : Slotted w runs rs) where
+  pos : 0 < c .ahead
+  pos = go (c .ahead) (c .reaches)
+    where
+      go : (a : ℕ) → read + width * a ≡ end → 0 < a
+      go zero e = absurd (omega arith)
+      go (suc a) e = omega arith
+
   -- the next event is whole
-  pub whole-ahead : read + width ≤ length s
-  whole-ahead = omega (arith, c .inside, less width ahead pos)
+  pub whole-ahead : (read + width ≤ end) × (read + width ≤ length s)
+  whole-ahead =
+      let l = less width (c .ahead) pos in
+      let e : read + width ≤ end = omega (arith, c .reaches) in
+      (e, omega (arith, c .inside))
 
   -- what the next event gives
   abbrev given : List Event
   given = insteadOf (eventAt s read) (groupsIn w n) q (runKept w q (u32At s (read + 4)))
 
   abbrev rest : List Event
-  rest = replaced (eventsBy width (ahead - 1) s (read + width)) rs (groupsIn w n) (nextRun (eventAt s read) q)
+  rest = replaced (eventsBy width (c .ahead - 1) s (read + width)) rs (groupsIn w n) (nextRun (eventAt s read) q)
 
-  split : eventsBy width ahead s read ≡ eventAt s read ∷ eventsBy width (ahead - 1) s (read + width)
-  split = events-cons width ahead (ahead - 1) s read (omega arith)
+  split : eventsBy width (c .ahead) s read ≡ eventAt s read ∷ eventsBy width (c .ahead - 1) s (read + width)
+  split = events-cons width (c .ahead) (c .ahead - 1) s read (omega (arith, pos))
 
   first-run : (entersRun (eventAt s read) ≡ true → (q < length rs) × (getD rs q noRun .start ≡ u32At s (read + 4)))
-      × (runsFrom doc (eventsBy width (ahead - 1) s (read + width)) (c .number + 1) (after (eventAt s read) (c .number) (c .held)) ≡
+      × (runsFrom doc (eventsBy width (c .ahead - 1) s (read + width)) (c .number + 1) (after (eventAt s read) (c .number) (c .held)) ≡
       drop (nextRun (eventAt s read) q) rs)
   first-run =
-      runs-first doc (eventAt s read) (eventsBy width (ahead - 1) s (read + width)) (c .number) (c .held) rs q
+      runs-first doc (eventAt s read) (eventsBy width (c .ahead - 1) s (read + width)) (c .number) (c .held) rs q
       (ap (λ (l : List Event). runsFrom doc l (c .number) (c .held)) (sym split) ∙ c .runs-ahead)
 
   whole-is : total ≡ c .written ++ (given ++ rest)
@@ -126,35 +141,50 @@ module _ {width : ℕ} {d₀ s w doc : List ℕ} {n : ℕ} {rs : List Run} {tota
       c .whole
       ∙ ap (λ (l : List Event). c .written ++ l)
       (ap (λ (l : List Event). replaced l rs (groupsIn w n) q) split
-      ∙ (replaced-first (eventAt s read) (eventsBy width (ahead - 1) s (read + width)) rs (groupsIn w n) q
+      ∙ (replaced-first (eventAt s read) (eventsBy width (c .ahead - 1) s (read + width)) rs (groupsIn w n) q
       ∙ ap (λ (l : List Event). l ++ rest) (instead-same k (eventAt s read) (groupsIn w n) q (first-run .0))))
 
   -- what the step asks
   pub known : entersRun (eventAt s read) ≡ true → q < runs
   known x = let t = first-run .0 x .0 in omega (arith, t, k .as-many)
 
-  pub room : Fits d₀ 4 total → Fits d to given
-  room h = fits-first (length d) to given rest (fits-then (c .written) (given ++ rest) (c .put) (rw whole-is at h))
+  pub room : Fits d₀ p₀ total → Fits d p given
+  room h = fits-first given rest (fits-then (c .written) (given ++ rest) (c .put) (rw whole-is at h))
 
   -- one event more
-  pub turn : {d′ : List ℕ} {to′ q′ : ℕ} → Put d to given d′ to′ → q′ ≡ nextRun (eventAt s read) q →
-      Writing width d₀ s w doc n rs total d′ (ahead - 1) (read + width) to′ q′
-  turn p e =
+  pub turn : {d′ : List ℕ} {p′ : Pen} {q′ : ℕ} → Put d p given d′ p′ → q′ ≡ nextRun (eventAt s read) q →
+      Writing width d₀ p₀ s w doc n rs total d′ end (read + width) p′ q′
+  turn v e =
       record {
         written = c .written ++ given;
         number = c .number + 1;
         held = after (eventAt s read) (c .number) (c .held);
-        inside = omega (arith, c .inside, less width ahead pos);
-        put = put-then (c .written) given (c .put) p;
+        ahead = c .ahead - 1;
+        reaches = omega (arith, c .reaches, less width (c .ahead) pos);
+        inside = c .inside;
+        put = put-then (c .written) given (c .put) v;
         whole = rw e (whole-is ∙ sym (append-assoc (c .written) given rest));
         runs-ahead = rw e (first-run .1);
       }
 
 -- no event is ahead
-pub ended : {width : ℕ} {d₀ s w doc : List ℕ} {n : ℕ} {rs : List Run} {total : List Event} {d : List ℕ} {ahead read to q : ℕ} →
-    Writing width d₀ s w doc n rs total d ahead read to q → ahead ≤ 0 → Wrote d₀ 4 (flat total) d
+pub ended : {width : ℕ} {d₀ : List ℕ} {p₀ : Pen} {s w doc : List ℕ} {n : ℕ} {rs : List Run} {total : List Event} {d : List ℕ} {end read : ℕ} {p : Pen} {q : ℕ} →
+    Writing width d₀ p₀ s w doc n rs total d end read p q → 8 ≤ width → end ≤ read → Put d₀ p₀ total d p
 unfolding eventsBy replaced
-ended {width} {d₀} {s} {w} {doc} {n} {rs} {total} {d} {ahead} {read} {to} {q} c h =
-    let z : ahead ≡ 0 = omega arith in
+ended {width} {d₀} {p₀} {s} {w} {doc} {n} {rs} {total} {d} {end} {read} {p} {q} c h l =
+    let z : c .ahead ≡ 0 = none (c .ahead) (c .reaches) in
     let e : total ≡ c .written ++ [] = rw z at (c .whole) in
-    rw (e, append-nil) (c .put .wrote)
+    rw (e, append-nil) (c .put)
+  where
+    none : (a : ℕ) → read + width * a ≡ end → a ≡ 0
+    none zero e = refl
+    none (suc a) e = absurd (omega arith)
+
+-- the pen at the first event, and at the end
+module _ {w n : ℕ} {b : List ℕ} {es : List Event} {p : Pen} (e : p ≡ record { at = 4; width = w; number = 0; held = 12 + 12 * n }) (l : length es ≡ n)
+    (few : n ≤ 8000) (bal : balanced es ≡ true) (h : 8 ≤ w) (room : 4 + w * n ≤ length b) where
+  pub begins : Fits b p es
+  begins = all-fit (pen-start w n b es e l few bal h room)
+
+  pub ends : {d : List ℕ} {p₁ : Pen} → Put b p es d p₁ → Filled w b es d
+  ends v = filled (all-put (pen-start w n b es e l few bal h room) v)

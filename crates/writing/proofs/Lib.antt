@@ -1,6 +1,6 @@
 pub mod Parts
 pub mod Found
-pub mod Puts
+pub mod Pieces
 pub mod ClosingTurn
 pub mod OpeningTurn
 pub mod RunParts

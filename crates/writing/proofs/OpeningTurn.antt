@@ -5,7 +5,6 @@ use Prim.Native.Nat.{ℕ, _+_, _-_, _*_, _≤_, _<_}
 use mathlib.Core.Path.{_≡_, refl, ap, _∙_}
 use mathlib.Core.List.{List, [], _∷_, _++_, append-nil}
 use native.Mathlib.Omega.{arith}
-use lib.ListN.{length}
 use borrow.Author.Tests.{eq-eqb}
 use Rattle.record.specs.Choice.{choose}
 use Rattle.record.specs.declared.event.Event.{Event}
@@ -15,11 +14,13 @@ use Rattle.runs.specs.Output.{openingEvents}
 use Rattle.slots.specs.Layout.{latestGroupOf, groupOpener, groupTaken, groupEarlier}
 use Rattle.groups.proofs.Laws.{opened-append, opened-own}
 use Rattle.groups.proofs.Spans.{openings-append}
-use Rattle.writing.specs.Put.{Put, Fits}
+use Rattle.partners.specs.Pen.{Put, Fits}
+use Rattle.partners.specs.declared.Pen.{Pen}
 use Rattle.writing.specs.Kept.{Kept, groupAt, groupsFrom, groupsIn, latestOpening, openingsIn}
 use Rattle.writing.proofs.Parts.{groups-parts, groups-split, groups-first, groups-more, none-opening}
 use Rattle.writing.proofs.Found.{Latest, latest-found}
-use Rattle.writing.proofs.Puts.{put-none, put-then, fits-first, fits-then, opening-append, opening-four}
+use Rattle.partners.proofs.Pens.{put-none, put-then, fits-first, fits-then}
+use Rattle.writing.proofs.Pieces.{opening-append}
 
 -- from group e on, where i is the run's first: its piece comes last
 next-pieces : (n e i : ℕ) (w : List ℕ) (q m place t : ℕ) → e ≤ i → i < n → ((j : ℕ) → e ≤ j → j < i → groupOpener w j ≡ q → ⊥) →
@@ -59,18 +60,18 @@ from-group n e w q m place end a h =
     ∙ rw s)
 
 -- of n groups those from number g on are behind, and g - 1 is next
-pub record Opening (d₀ : List ℕ) (at₀ : ℕ) (w : List ℕ) (n q m from g : ℕ) (d : List ℕ) (at place : ℕ) : Type 0 where
+pub record Opening (d₀ : List ℕ) (p₀ : Pen) (w : List ℕ) (n q m from g : ℕ) (d : List ℕ) (p : Pen) (place : ℕ) : Type 0 where
   pub within : g ≤ n
   pub own : 0 < g → groupOpener w (g - 1) ≡ q
-  pub put : Put d₀ at₀ (openingEvents (openings (groupsFrom (n - g) w g) q m place)) d at
+  pub put : Put d₀ p₀ (openingEvents (openings (groupsFrom (n - g) w g) q m place)) d p
   pub ends : place + opened (groupsIn w g) q ≡ from + opened (groupsIn w n) q
   pub small : place + 65536 * g ≤ from + 65536 * n
 
 -- the loop begins at the latest group that the run opens
-pub start : {w : List ℕ} {n runs : ℕ} → Kept w n runs → {q : ℕ} → q < runs → (d : List ℕ) (at m from g : ℕ) → g ≡ latestGroupOf w q →
-    Opening d at w n q m from g d at from
+pub start : {w : List ℕ} {n runs : ℕ} → Kept w n runs → {q : ℕ} → q < runs → (d : List ℕ) (p : Pen) (m from g : ℕ) → g ≡ latestGroupOf w q →
+    Opening d p w n q m from g d p from
 unfolding openingEvents
-start {w} {n} {runs} k {q} r d at m from g e =
+start {w} {n} {runs} k {q} r d p m from g e =
     let x : g ≡ latestOpening n w q = e ∙ k .latest q r in
     let a : Latest n w q g = rw x (latest-found n w q) in
     let lo = a .low in
@@ -82,13 +83,13 @@ start {w} {n} {runs} k {q} r d at m from g e =
     record {
       within = lo;
       own = a .own;
-      put = rw l (put-none d at);
+      put = rw l (put-none d p);
       ends = omega (arith, s, t, z);
       small = omega arith;
     }
 
-module _ {w : List ℕ} {n runs : ℕ} (k : Kept w n runs) {d₀ : List ℕ} {at₀ q m from g : ℕ} {d : List ℕ} {at place : ℕ}
-    (c : Opening d₀ at₀ w n q m from g d at place) (pos : 0 < g) where
+module _ {w : List ℕ} {n runs : ℕ} (k : Kept w n runs) {d₀ : List ℕ} {p₀ : Pen} {q m from g : ℕ} {d : List ℕ} {p : Pen} {place : ℕ}
+    (c : Opening d₀ p₀ w n q m from g d p place) (pos : 0 < g) where
   earlier-is : (e : ℕ) → e ≡ groupEarlier w (g - 1) → Latest (g - 1) w q e
   earlier-is e f =
       let u = c .within in
@@ -102,8 +103,8 @@ module _ {w : List ℕ} {n runs : ℕ} (k : Kept w n runs) {d₀ : List ℕ} {at
       let u = c .within in
       let s : g - 1 + 1 ≡ g = omega arith in
       let a = earlier-is e f in
-      let p = next-pieces n e (g - 1) w q m place t (a .low) (omega arith) (a .none) (c .own pos) et in
-      ap openingEvents (rw s at p) ∙ opening-append (openings (groupsFrom (n - g) w g) q m place) (piece m t place (place + t) ∷ [])
+      let x = next-pieces n e (g - 1) w q m place t (a .low) (omega arith) (a .none) (c .own pos) et in
+      ap openingEvents (rw s at x) ∙ opening-append (openings (groupsFrom (n - g) w g) q m place) (piece m t place (place + t) ∷ [])
 
   next-ends : (e t : ℕ) → e ≡ groupEarlier w (g - 1) → t ≡ groupTaken w (g - 1) → place + t + opened (groupsIn w e) q ≡ from + opened (groupsIn w n) q
   next-ends e t f et =
@@ -124,25 +125,23 @@ module _ {w : List ℕ} {n runs : ℕ} (k : Kept w n runs) {d₀ : List ℕ} {at
       )
 
   -- there is room for the next piece
-  pub room : Fits d₀ at₀ (openingsIn w n q m from) → at + 32 ≤ length d
-  room fits =
+  pub room : {t : ℕ} → t ≡ groupTaken w (g - 1) → Fits d₀ p₀ (openingsIn w n q m from) → Fits d p (openingEvents (piece m t place (place + t) ∷ []))
+  room {t} et fits =
       let e : ℕ = groupEarlier w (g - 1) in
-      let t : ℕ = groupTaken w (g - 1) in
-      let all = first-events e t refl refl in
-      let p = next-events e t refl refl in
-      let f : Fits d₀ at₀ (openingEvents (openings (groupsFrom (n - e) w e) q m (place + t))) =
-      fits-first (length d₀) at₀ (openingEvents (openings (groupsFrom (n - e) w e) q m (place + t))) (all .0) (rw (all .1) at fits) in
-      let h = fits-then (openingEvents (openings (groupsFrom (n - g) w g) q m place)) (openingEvents (piece m t place (place + t) ∷ [])) (c .put) (rw p at f) in
-      omega (arith, h, opening-four (piece m t place (place + t)))
+      let all = first-events e t refl et in
+      let x = next-events e t refl et in
+      let f : Fits d₀ p₀ (openingEvents (openings (groupsFrom (n - e) w e) q m (place + t))) =
+      fits-first (openingEvents (openings (groupsFrom (n - e) w e) q m (place + t))) (all .0) (rw (all .1) at fits) in
+      fits-then (openingEvents (openings (groupsFrom (n - g) w g) q m place)) (openingEvents (piece m t place (place + t) ∷ [])) (c .put) (rw x at f)
 
   -- the link names an earlier group
   pub falls : {e : ℕ} → e ≡ groupEarlier w (g - 1) → e < g
   falls {e} f = let lo = earlier-is e f .low in omega arith
 
   -- a piece more
-  pub turn : {d′ : List ℕ} {t at′ e : ℕ} → t ≡ groupTaken w (g - 1) → t < 65536 → e ≡ groupEarlier w (g - 1) →
-      Put d at (openingEvents (piece m t place (place + t) ∷ [])) d′ at′ → Opening d₀ at₀ w n q m from e d′ at′ (place + t)
-  turn {d′} {t} {at′} {e} et lt f v =
+  pub turn : {d′ : List ℕ} {t e : ℕ} {p′ : Pen} → t ≡ groupTaken w (g - 1) → t < 65536 → e ≡ groupEarlier w (g - 1) →
+      Put d p (openingEvents (piece m t place (place + t) ∷ [])) d′ p′ → Opening d₀ p₀ w n q m from e d′ p′ (place + t)
+  turn {d′} {t} {e} {p′} et lt f v =
       let u = c .within in
       let a = earlier-is e f in
       let lo = a .low in
@@ -157,12 +156,12 @@ module _ {w : List ℕ} {n runs : ℕ} (k : Kept w n runs) {d₀ : List ℕ} {at
       }
 
 -- no group is ahead
-pub ended : {w : List ℕ} {n : ℕ} {d₀ : List ℕ} {at₀ q m from g : ℕ} {d : List ℕ} {at place : ℕ} → Opening d₀ at₀ w n q m from g d at place → g ≤ 0 →
-    Put d₀ at₀ (openingsIn w n q m from) d at
+pub ended : {w : List ℕ} {n : ℕ} {d₀ : List ℕ} {p₀ : Pen} {q m from g : ℕ} {d : List ℕ} {p : Pen} {place : ℕ} → Opening d₀ p₀ w n q m from g d p place → g ≤ 0 →
+    Put d₀ p₀ (openingsIn w n q m from) d p
 unfolding groupsFrom opened
-ended {w} {n} {d₀} {at₀} {q} {m} {from} {g} {d} {at} {place} c h =
+ended {w} {n} {d₀} {p₀} {q} {m} {from} {g} {d} {p} {place} c h =
     let z : g ≡ 0 = omega arith in
     let s : n - 0 ≡ n = omega arith in
     let e = rw z at (c .ends) in
-    let p : place ≡ from + opened (groupsIn w n) q = omega (arith, e) in
-    rw (z, s, p) at (c .put)
+    let x : place ≡ from + opened (groupsIn w n) q = omega (arith, e) in
+    rw (z, s, x) at (c .put)

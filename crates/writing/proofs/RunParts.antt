@@ -1,38 +1,45 @@
 -- What stands for a run in parts, by what is left of it: the account of its markers makes its leftover exactly the bytes between what it gave as
 -- a closer and what it gave as an opener.
 -- Assumes nothing.
-use Prim.Native.Nat.{ℕ, _+_, _-_, _*_, _≤_, _<_}
+use Prim.Native.Nat.{ℕ, _+_, _-_, _≤_, _<_}
 use mathlib.Core.Path.{_≡_}
 use mathlib.Core.Bool.{true, false}
+use mathlib.Core.Logic.{_⊎_, inl, inr}
 use mathlib.Core.List.{List, [], _∷_, _++_}
 use native.Mathlib.Omega.{arith}
-use lib.ListN.{length}
-use borrow.Author.Tests.{lt-ltb, le-ltb}
+use borrow.Author.Tests.{eq-eqb, ne-eqb, lt-ltb, le-ltb}
 use Rattle.record.specs.Choice.{choose}
 use Rattle.record.specs.Event.{enter, exit}
 use Rattle.record.specs.declared.event.Event.{Event}
 use Rattle.runs.specs.Pieces.{closed, opened, remains, openingPieces}
 use Rattle.runs.specs.Output.{leftoverEvents, openingEvents, runEvents}
 use Rattle.slots.specs.Layout.{wholeOf, leftOf, markerOf}
-use Rattle.writing.specs.Put.{Put, Fits}
-use Rattle.writing.specs.Kept.{Kept, groupsIn, closingsIn, openingsIn, runKept}
-use Rattle.writing.proofs.Puts.{put-then, fits-first, fits-then}
+use Rattle.partners.specs.Pen.{Put, Fits}
+use Rattle.partners.specs.declared.Pen.{Pen}
+use Rattle.writing.specs.Kept.{Kept, groupsIn, closingsIn, openingsIn, leftIn, runKept}
+use Rattle.partners.proofs.Pens.{put-none, put-then, fits-first, fits-then}
+use Rattle.partners.proofs.Walk.{same}
 
--- the leftover, from a place on
-abbrev pub leftover : ℕ → ℕ → List Event
-leftover from to = enter 0 from ∷ exit 0 to ∷ []
+-- what is left of a run, if it is any
+pub some-left : (from to : ℕ) → (from ≡ to → ⊥) → leftIn from to ≡ enter 0 from ∷ exit 0 to ∷ []
+unfolding leftIn choose
+some-left from to z = rw (ne-eqb from to z)
+
+pub none-left : (from to : ℕ) → from ≡ to → (d : List ℕ) (p : Pen) → Put d p (leftIn from to) d p
+unfolding leftIn choose
+none-left from to z d p = rw (eq-eqb _ _ z) (put-none d p)
 
 -- the events of the run that slot q keeps
 abbrev pub eventsKept : List ℕ → ℕ → ℕ → ℕ → List Event
 eventsKept w n q from = runEvents (groupsIn w n) q (runKept w q from)
 
 -- there is room for the closing pieces
-pub closing-fits : (outs at : ℕ) (w : List ℕ) (n q m from : ℕ) → m ≡ markerOf w q → at + 8 * length (eventsKept w n q from) ≤ outs →
-    at + 8 * length (closingsIn w n q m from) ≤ outs
+pub closing-fits : {d : List ℕ} {p : Pen} (w : List ℕ) (n q m from : ℕ) → m ≡ markerOf w q → Fits d p (eventsKept w n q from) →
+    Fits d p (closingsIn w n q m from)
 unfolding runEvents
-closing-fits outs at w n q m from em h =
+closing-fits w n q m from em h =
     rw em
-    (fits-first outs at (closingsIn w n q (markerOf w q) from)
+    (fits-first (closingsIn w n q (markerOf w q) from)
     (leftoverEvents (groupsIn w n) q (runKept w q from) ++ openingEvents (openingPieces (groupsIn w n) q (runKept w q from))) h)
 
 module _ {w : List ℕ} {n runs : ℕ} (k : Kept w n runs) {q : ℕ} (r : q < runs) (m from place t : ℕ) (em : m ≡ markerOf w q)
@@ -51,42 +58,43 @@ module _ {w : List ℕ} {n runs : ℕ} (k : Kept w n runs) {q : ℕ} (r : q < ru
       let h : from + closed (groupsIn w n) q < from + wholeOf w q - opened (groupsIn w n) q = omega arith in
       lt-ltb _ _ h
 
-  emptied-is : t ≡ 0 → eventsKept w n q from ≡ closingsIn w n q m from ++ openingsIn w n q m place
-  unfolding runEvents leftoverEvents choose
+  emptied-is : t ≡ 0 → eventsKept w n q from ≡ closingsIn w n q m from ++ (leftIn place (place + t) ++ openingsIn w n q m (place + t))
+  unfolding runEvents leftoverEvents leftIn choose
   emptied-is z =
       let a = k .accounts q r in
-      let end : from + wholeOf w q ≡ place + opened (groupsIn w n) q = omega arith in
-      rw (none-remains z, end, em)
+      let end : from + wholeOf w q ≡ place + t + opened (groupsIn w n) q = omega arith in
+      let same-end : place ≡ place + t = omega arith in
+      rw (none-remains z, eq-eqb _ _ same-end, end, em)
 
-  left-is : (t ≡ 0 → ⊥) → eventsKept w n q from ≡ closingsIn w n q m from ++ (leftover place (place + t) ++ openingsIn w n q m (place + t))
-  unfolding runEvents leftoverEvents choose
+  left-is : (t ≡ 0 → ⊥) → eventsKept w n q from ≡ closingsIn w n q m from ++ (leftIn place (place + t) ++ openingsIn w n q m (place + t))
+  unfolding runEvents leftoverEvents leftIn choose
   left-is z =
       let a = k .accounts q r in
       let to : from + wholeOf w q - opened (groupsIn w n) q ≡ place + t = omega arith in
       let end : from + wholeOf w q ≡ place + t + opened (groupsIn w n) q = omega arith in
-      rw (some-remains z, to, end, em, ← ep)
+      let apart : place ≡ place + t → ⊥ = λ q. z (omega arith) in
+      rw (some-remains z, ne-eqb place (place + t) apart, to, end, em, ← ep)
 
-  module _ {d₀ d₁ : List ℕ} {at j : ℕ} (c : Put d₀ at (closingsIn w n q m from) d₁ j) where
-    -- an emptied run: its opening pieces follow
-    pub emptied-fits : t ≡ 0 → Fits d₀ at (eventsKept w n q from) → Fits d₁ j (openingsIn w n q m place)
-    emptied-fits z h = fits-then (closingsIn w n q m from) (openingsIn w n q m place) c (rw (emptied-is z) at h)
+  parts : eventsKept w n q from ≡ closingsIn w n q m from ++ (leftIn place (place + t) ++ openingsIn w n q m (place + t))
+  parts = go (same t 0)
+    where
+      go : (t ≡ 0) ⊎ (t ≡ 0 → ⊥) → eventsKept w n q from ≡ closingsIn w n q m from ++ (leftIn place (place + t) ++ openingsIn w n q m (place + t))
+      go (inl z) = emptied-is z
+      go (inr z) = left-is z
 
-    pub emptied-put : {d₂ : List ℕ} {i : ℕ} → t ≡ 0 → Put d₁ j (openingsIn w n q m place) d₂ i → Put d₀ at (eventsKept w n q from) d₂ i
-    emptied-put z o = rw (emptied-is z) (put-then (closingsIn w n q m from) (openingsIn w n q m place) c o)
+  module _ {d₀ d₁ : List ℕ} {p₀ p₁ : Pen} (c : Put d₀ p₀ (closingsIn w n q m from) d₁ p₁) where
+    behind-fit : Fits d₀ p₀ (eventsKept w n q from) → Fits d₁ p₁ (leftIn place (place + t) ++ openingsIn w n q m (place + t))
+    behind-fit h = fits-then (closingsIn w n q m from) (leftIn place (place + t) ++ openingsIn w n q m (place + t)) c (rw parts at h)
 
-    -- a run with a leftover: it stands between
-    both-fit : (t ≡ 0 → ⊥) → Fits d₀ at (eventsKept w n q from) → Fits d₁ j (leftover place (place + t) ++ openingsIn w n q m (place + t))
-    both-fit z h = fits-then (closingsIn w n q m from) (leftover place (place + t) ++ openingsIn w n q m (place + t)) c (rw (left-is z) at h)
+    pub leftover-fits : Fits d₀ p₀ (eventsKept w n q from) → Fits d₁ p₁ (leftIn place (place + t))
+    leftover-fits h = fits-first (leftIn place (place + t)) (openingsIn w n q m (place + t)) (behind-fit h)
 
-    pub leftover-fits : (t ≡ 0 → ⊥) → Fits d₀ at (eventsKept w n q from) → j + 16 ≤ length d₁
-    leftover-fits z h = let f = fits-first (length d₁) j (leftover place (place + t)) (openingsIn w n q m (place + t)) (both-fit z h) in omega (arith, f)
+    module _ {d₂ : List ℕ} {p₂ : Pen} (l : Put d₁ p₁ (leftIn place (place + t)) d₂ p₂) where
+      pub openings-fit : Fits d₀ p₀ (eventsKept w n q from) → Fits d₂ p₂ (openingsIn w n q m (place + t))
+      openings-fit h = fits-then (leftIn place (place + t)) (openingsIn w n q m (place + t)) l (behind-fit h)
 
-    module _ {d₂ : List ℕ} {i : ℕ} (z : t ≡ 0 → ⊥) (l : Put d₁ j (leftover place (place + t)) d₂ i) where
-      pub openings-fit : Fits d₀ at (eventsKept w n q from) → Fits d₂ i (openingsIn w n q m (place + t))
-      openings-fit h = fits-then (leftover place (place + t)) (openingsIn w n q m (place + t)) l (both-fit z h)
-
-      pub left-put : {d₃ : List ℕ} {o : ℕ} → Put d₂ i (openingsIn w n q m (place + t)) d₃ o → Put d₀ at (eventsKept w n q from) d₃ o
-      left-put v =
-          rw (left-is z)
-          (put-then (closingsIn w n q m from) (leftover place (place + t) ++ openingsIn w n q m (place + t)) c
-          (put-then (leftover place (place + t)) (openingsIn w n q m (place + t)) l v))
+      pub run-put : {d₃ : List ℕ} {p₃ : Pen} → Put d₂ p₂ (openingsIn w n q m (place + t)) d₃ p₃ → Put d₀ p₀ (eventsKept w n q from) d₃ p₃
+      run-put v =
+          rw parts
+          (put-then (closingsIn w n q m from) (leftIn place (place + t) ++ openingsIn w n q m (place + t)) c
+          (put-then (leftIn place (place + t)) (openingsIn w n q m (place + t)) l v))

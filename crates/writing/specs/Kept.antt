@@ -8,7 +8,7 @@ use lib.Dec.{eqb}
 use mathlib.Core.Option.{none}
 use lib.ListN.{length, getD}
 use Rattle.record.specs.Choice.{choose}
-use Rattle.record.specs.Event.{documentIn, eventsIn}
+use Rattle.record.specs.Event.{enter, exit, documentIn, eventsIn}
 use Rattle.record.specs.declared.event.Event.{Event}
 use Rattle.record.specs.declared.form.Form.{Form}
 use Rattle.runs.specs.Runs.{Run, runsOf, entersRun}
@@ -58,6 +58,10 @@ closingsIn w n q marker from = closingEvents (closings (groupsIn w n) q marker f
 -- the events of its opening pieces, the first of them at a place
 abbrev pub openingsIn : List ℕ → ℕ → ℕ → ℕ → ℕ → List Event
 openingsIn w n q marker from = openingEvents (openings (groupsIn w n) q marker (from + opened (groupsIn w n) q))
+
+-- what is left of a run, from a place to another: nothing, or a Data pair
+unfoldable pub leftIn : ℕ → ℕ → List Event
+leftIn from to = choose (eqb from to) [] (enter 0 from ∷ exit 0 to ∷ [])
 
 -- the run that the slot q keeps, its first byte at a place; what a slot does not keep of a run is not asked for its events
 abbrev pub runKept : List ℕ → ℕ → ℕ → Run

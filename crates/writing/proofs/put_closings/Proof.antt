@@ -5,7 +5,6 @@ use mathlib.Core.Path.{sym, _∙_}
 use Prim.Native.Nat.{_-_}
 use Rattle.writing.proofs.ClosingTurn.{Closing, nothing-closed, start, room, turn, left, ended}
 use borrow.Author.Needs.{needs}
-use Rattle.writing.proofs.Puts.{put-length}
 use Rattle.writing.proofs.put_closings.Statement.{statement}
 use Rattle.writing.proofs.put_closings.Tie as tie
 use Rattle.writing.proofs.put_closings.Reads as reads
@@ -16,10 +15,10 @@ use Rattle.slots.proofs.layout.group_taken.Reads as group-taken-reads
 use Rattle.writing.proofs.put_closing.Reads as put-closing-reads
 
 abbrev Inv-loop : tie.InvT-loop
-Inv-loop out₀ at w groups runs q marker from first i₀ to₀ place₀ out i to place = Closing out₀ at w groups q marker from i out to place
+Inv-loop out₀ w groups runs q marker from first i₀ next₀ place₀ out i next place = Closing out₀ next₀ w groups q marker from i out next place
 
 abbrev μ-loop : tie.MeasureT-loop
-μ-loop out₀ at w groups runs q marker from first i₀ to₀ place₀ out i to place = groups - i
+μ-loop out₀ w groups runs q marker from first i₀ next₀ place₀ out i next place = groups - i
 
 first-group-requires : tie.Need-first-group-requires Inv-loop μ-loop
 first-group-requires c κs = search needs
@@ -39,7 +38,7 @@ group-closer-requires : tie.Need-group-closer-requires Inv-loop μ-loop
 group-closer-requires c κs = search needs
 
 same-length : tie.Need-same-length Inv-loop μ-loop
-same-length c = put-length (c .before .before .before .loop .inv .put)
+same-length c = c .before .before .before .loop .inv .put .same
 
 returns-2 : tie.Need-returns-2 Inv-loop μ-loop
 returns-2 c =
@@ -57,7 +56,7 @@ put-closing-requires : tie.Need-put-closing-requires Inv-loop μ-loop
 put-closing-requires c κs =
     let p = c .before .before .before .before .before .before .before .before .before .before .pre in
     let e = c .before .before .before .group-closer .ensures .0 in
-    room (c .before .before .before .before .before .loop .inv) (c .before .before .before .before .loop-test .taken) (sym e ∙ c .before .before .if2 .left) (p .1 .1 .1)
+    room (c .before .before .before .before .before .loop .inv) (c .before .before .before .before .loop-test .taken) (sym e ∙ c .before .before .if2 .left) (c .before .group-taken .ensures .0) (p .1 .1 .1)
 
 add-place : tie.Need-add-place Inv-loop μ-loop
 add-place c = search needs
@@ -75,7 +74,7 @@ loop-again c =
     turn (c .before .before .before .before .before .before .before .before .loop .inv) (c .before .before .before .before .before .before .before .loop-test .taken) (sym e ∙ c .before .before .before .before .before .if2 .left) (t .0) (t .1) (c .before .before .put-closing .ensures)
 
 same-length-2 : tie.Need-same-length-2 Inv-loop μ-loop
-same-length-2 c = put-length (c .before .loop .inv .put)
+same-length-2 c = c .before .loop .inv .put .same
 
 returns-3 : tie.Need-returns-3 Inv-loop μ-loop
 returns-3 c =

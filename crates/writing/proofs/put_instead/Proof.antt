@@ -1,14 +1,14 @@
 -- `writing::put_instead` meets its contract: each return is a case of the definition.
 -- Assumes nothing.
 use native.Mathlib.Omega.{arith}
-use Rattle.writing.proofs.Instead.{run-enters, other-fits, other-put, exit-put, enter-fits, enter-put}
 use borrow.Author.Needs.{needs}
+use Rattle.writing.proofs.Instead.{run-enters, other-fits, other-put, exit-put, enter-fits, enter-put}
 use Rattle.writing.proofs.put_instead.Statement.{statement}
 use Rattle.writing.proofs.put_instead.Tie as tie
 use Rattle.writing.proofs.put_instead.Reads as reads
 use Rattle.writing.proofs.put_instead.Lts as lts
+use Rattle.partners.proofs.put.Reads as put-reads
 use Rattle.record.proofs.bytes.u32_at.Reads as u32-at-reads
-use Rattle.record.proofs.event.put_event.Reads as put-event-reads
 use Rattle.writing.proofs.put_run.Reads as put-run-reads
 
 shared-slice-read-kind : tie.Need-shared-slice-read-kind
@@ -26,41 +26,29 @@ add-u32-at c = search needs
 u32-at-requires : tie.Need-u32-at-requires
 u32-at-requires c κs = search needs
 
-put-event-requires : tie.Need-put-event-requires
-put-event-requires c κs = search (needs, other-fits)
-
-add-t21 : tie.Need-add-t21
-add-t21 c = search needs
+put-requires : tie.Need-put-requires
+put-requires c κs = rw (c .before .before .u32-at .ensures .0) (other-fits _ _ _ _ _ _ (c .before .if1 .taken) (c .before .before .before .before .before .before .before .before .pre .1 .1 .1))
 
 same-length : tie.Need-same-length
 same-length c = search needs
 
 returns : tie.Need-returns
-returns c = other-put _ _ _ _ _ _ (c .before .before .before .before .if1 .taken) (c .before .before .before .before .before .u32-at .ensures .0) (c .before .before .put-event .ensures)
+returns c = other-put _ _ _ _ _ _ (c .before .before .before .before .if1 .taken) (rw (c .before .before .before .before .before .u32-at .ensures .0) at (c .before .before .put .ensures))
 
 returns-2 : tie.Need-returns-2
 returns-2 c = exit-put _ _ _ _ _ _ _ _ (c .before .if1 .left) (c .if2 .taken)
 
 put-run-requires : tie.Need-put-run-requires
-put-run-requires c κs =
-    let p = c .before .before .before .before .before .before .before .before .before .pre in
-    let u = c .before .before .before .u32-at .ensures in
-    (p .0, (p .1 .1 .0 (run-enters _ _ _ (c .before .before .if1 .left) (c .before .if2 .left)), (u .1, rw (u .0) (enter-fits _ _ _ _ _ _ _ _ (c .before .before .if1 .left) (c .before .if2 .left) (p .1 .1 .1)))))
+put-run-requires c κs = let p = c .before .before .before .before .before .before .before .before .before .pre in let u = c .before .before .before .u32-at .ensures in (p .0, (p .1 .1 .0 (run-enters _ _ _ (c .before .before .if1 .left) (c .before .if2 .left)), (u .1, rw (u .0) (enter-fits _ _ _ _ _ _ (c .before .before .if1 .left) (c .before .if2 .left) (p .1 .1 .1)))))
 
-add-t15 : tie.Need-add-t15
-add-t15 c =
-    let p = c .before .before .before .before .before .before .before .before .before .before .before .before .pre in
-    let h = p .1 .1 .0 (run-enters _ _ _ (c .before .before .before .before .before .if1 .left) (c .before .before .before .before .if2 .left)) in
-    let f = p .0 .many in
-    omega arith
+add-t16 : tie.Need-add-t16
+add-t16 c = let p = c .before .before .before .before .before .before .before .before .before .before .before .before .pre in let h = p .1 .1 .0 (run-enters _ _ _ (c .before .before .before .before .before .if1 .left) (c .before .before .before .before .if2 .left)) in let f = p .0 .many in omega arith
 
 same-length-2 : tie.Need-same-length-2
 same-length-2 c = search needs
 
 returns-3 : tie.Need-returns-3
-returns-3 c =
-    let u = c .before .before .before .before .before .before .u32-at .ensures in
-    enter-put _ _ _ _ _ _ (c .before .before .before .before .before .if1 .left) (c .before .before .before .before .if2 .left) (rw (u .0) at (c .before .before .put-run .ensures))
+returns-3 c = let u = c .before .before .before .before .before .before .u32-at .ensures in enter-put _ _ _ _ _ _ (c .before .before .before .before .before .if1 .left) (c .before .before .before .before .if2 .left) (rw (u .0) at (c .before .before .put-run .ensures))
 
 pub put-instead-spec : {M : Type 1} → statement M
 put-instead-spec =
@@ -71,12 +59,11 @@ put-instead-spec =
     shared-slice-read-name
     add-u32-at
     u32-at-requires
-    put-event-requires
-    add-t21
+    put-requires
     same-length
     returns
     returns-2
     put-run-requires
-    add-t15
+    add-t16
     same-length-2
     returns-3)

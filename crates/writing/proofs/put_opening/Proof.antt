@@ -1,76 +1,56 @@
 -- `writing::put_opening` meets its contract: four events, one after the other.
 -- Assumes nothing.
-use Rattle.record.specs.Event.{flat}
-use Rattle.record.proofs.Splice.{wrote-first}
-use Rattle.runs.specs.Output.{openingEvents}
 use borrow.Author.Needs.{needs}
+use Rattle.partners.proofs.Pens.{put-first, fits-one, fits-rest}
+use Rattle.writing.proofs.Pieces.{opening-named}
 use Rattle.writing.proofs.put_opening.Statement.{statement}
 use Rattle.writing.proofs.put_opening.Tie as tie
 use Rattle.writing.proofs.put_opening.Reads as reads
 use Rattle.writing.proofs.put_opening.Lts as lts
-use Rattle.record.proofs.event.put_event.Reads as put-event-reads
+use Rattle.partners.proofs.put.Reads as put-reads
 use Rattle.writing.proofs.name_of.Reads as name-of-reads
 
 name-of-requires : tie.Need-name-of-requires
 name-of-requires c κs = search needs
 
-put-event-requires : tie.Need-put-event-requires
-put-event-requires c κs = search needs
+put-requires : tie.Need-put-requires
+put-requires c κs = fits-one (rw (opening-named _ _ _ _ _ (c .before .name-of .ensures .0)) at (c .before .before .before .pre))
 
-add-b : tie.Need-add-b
-add-b c = search needs
+add-put : tie.Need-add-put
+add-put c = search needs
 
-add-put-event : tie.Need-add-put-event
-add-put-event c = search needs
+put-requires-2 : tie.Need-put-requires-2
+put-requires-2 c κs = fits-one (fits-rest (c .before .before .before .put .ensures) (rw (opening-named _ _ _ _ _ (c .before .before .before .before .before .name-of .ensures .0)) at (c .before .before .before .before .before .before .before .pre)))
 
-put-event-requires-2 : tie.Need-put-event-requires-2
-put-event-requires-2 c κs = search needs
+add-put-2 : tie.Need-add-put-2
+add-put-2 c = search needs
 
-add-c : tie.Need-add-c
-add-c c = search needs
+put-requires-3 : tie.Need-put-requires-3
+put-requires-3 c κs = fits-one (fits-rest (c .before .before .before .put2 .ensures) (fits-rest (c .before .before .before .before .before .before .before .put .ensures) (rw (opening-named _ _ _ _ _ (c .before .before .before .before .before .before .before .before .before .name-of .ensures .0)) at (c .before .before .before .before .before .before .before .before .before .before .before .pre))))
 
-add-put-event-2 : tie.Need-add-put-event-2
-add-put-event-2 c = search needs
+add-put-3 : tie.Need-add-put-3
+add-put-3 c = search needs
 
-put-event-requires-3 : tie.Need-put-event-requires-3
-put-event-requires-3 c κs = search needs
-
-add-d : tie.Need-add-d
-add-d c = search needs
-
-add-put-event-3 : tie.Need-add-put-event-3
-add-put-event-3 c = search needs
-
-put-event-requires-4 : tie.Need-put-event-requires-4
-put-event-requires-4 c κs = search needs
-
-add-result : tie.Need-add-result
-add-result c = search needs
+put-requires-4 : tie.Need-put-requires-4
+put-requires-4 c κs = fits-rest (c .before .before .before .put3 .ensures) (fits-rest (c .before .before .before .before .before .before .before .put2 .ensures) (fits-rest (c .before .before .before .before .before .before .before .before .before .before .before .put .ensures) (rw (opening-named _ _ _ _ _ (c .before .before .before .before .before .before .before .before .before .before .before .before .before .name-of .ensures .0)) at (c .before .before .before .before .before .before .before .before .before .before .before .before .before .before .before .pre))))
 
 same-length : tie.Need-same-length
 same-length c = search needs
 
 returns : tie.Need-returns
-unfolding flat openingEvents
-returns c =
-    let e = c .before .before .before .before .before .before .before .before .before .before .before .before .before .before .before .before .name-of .ensures .0 in
-    record { wrote = rw (← e) (search (needs, wrote-first) depth 8); after = search needs }
+returns c = rw (opening-named _ _ _ _ _ (c .before .before .before .before .before .before .before .before .before .before .before .before .before .before .before .before .name-of .ensures .0)) (put-first (c .before .before .before .before .before .before .before .before .before .before .before .before .before .before .put .ensures) (put-first (c .before .before .before .before .before .before .before .before .before .before .put2 .ensures) (put-first (c .before .before .before .before .before .before .put3 .ensures) (c .before .before .put4 .ensures))))
 
 pub put-opening-spec : {M : Type 1} → statement M
 put-opening-spec =
     tie.close
     (tie.spec
     name-of-requires
-    put-event-requires
-    add-b
-    add-put-event
-    put-event-requires-2
-    add-c
-    add-put-event-2
-    put-event-requires-3
-    add-d
-    add-put-event-3
-    put-event-requires-4
-    add-result
+    put-requires
+    add-put
+    put-requires-2
+    add-put-2
+    put-requires-3
+    add-put-3
+    put-requires-4
     same-length
     returns)

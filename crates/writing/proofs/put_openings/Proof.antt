@@ -3,7 +3,6 @@
 -- Assumes nothing.
 use Rattle.writing.proofs.OpeningTurn.{Opening, start, room, falls, turn, ended}
 use borrow.Author.Needs.{needs}
-use Rattle.writing.proofs.Puts.{put-length}
 use Rattle.writing.proofs.put_openings.Statement.{statement}
 use Rattle.writing.proofs.put_openings.Tie as tie
 use Rattle.writing.proofs.put_openings.Reads as reads
@@ -14,10 +13,10 @@ use Rattle.slots.proofs.layout.latest_group.Reads as latest-group-reads
 use Rattle.writing.proofs.put_opening.Reads as put-opening-reads
 
 abbrev Inv-loop : tie.InvT-loop
-Inv-loop out₀ at w groups runs q marker from g₀ to₀ place₀ out g to place = Opening out₀ at w groups q marker from g out to place
+Inv-loop out₀ w groups runs q marker from g₀ next₀ place₀ out g next place = Opening out₀ next₀ w groups q marker from g out next place
 
 abbrev μ-loop : tie.MeasureT-loop
-μ-loop out₀ at w groups runs q marker from g₀ to₀ place₀ out g to place = g
+μ-loop out₀ w groups runs q marker from g₀ next₀ place₀ out g next place = g
 
 latest-group-requires : tie.Need-latest-group-requires Inv-loop μ-loop
 latest-group-requires c κs = search needs
@@ -53,7 +52,7 @@ loop-again : tie.Need-loop-again Inv-loop μ-loop
 loop-again c = search (needs, turn)
 
 same-length : tie.Need-same-length Inv-loop μ-loop
-same-length c = put-length (c .before .loop .inv .put)
+same-length c = c .before .loop .inv .put .same
 
 returns : tie.Need-returns Inv-loop μ-loop
 returns c = search (needs, ended)

@@ -1,10 +1,14 @@
--- `asked::made::judge` is safe: what the check finds good is sound, as `finish` asks.
+-- `asked::made::judge` is safe: what the check finds good is sound, as `put_good` asks.
 -- Assumes nothing.
 use mathlib.Core.Path.{sym, _∙_}
-use Rattle.asked.proofs.Lent.{judged}
 use borrow.Author.Needs.{needs}
+use Rattle.asked.proofs.Lent.{judged}
 use Rattle.asked.proofs.made.judge.Statement.{statement}
 use Rattle.asked.proofs.made.judge.Tie as tie
+use Rattle.asked.proofs.made.judge.Reads as reads
+use Rattle.asked.proofs.made.judge.Lts as lts
+use Rattle.asked.proofs.made.put_good.Reads as put-good-reads
+use Rattle.record.proofs.check.check.Reads as check-reads
 
 sub-check : tie.Need-sub-check
 sub-check c = search needs
@@ -21,11 +25,8 @@ check-requires c κs = search needs
 enum-known-document : tie.Need-enum-known-document
 enum-known-document c = search needs
 
-finish-events-requires : tie.Need-finish-events-requires
-finish-events-requires c κs =
-    let p = c .before .before .before .before .before .before .before .before .pre in
-    let h = judged _ _ _ _ _ (p .0) (p .2) (sym (c .before .before .document .given .1) ∙ c .before .before .before .before .check .ensures) in
-    search needs
+put-good-requires : tie.Need-put-good-requires
+put-good-requires c κs = let p = c .before .before .before .before .before .before .before .before .pre in let h = judged _ _ _ _ _ (p .0) (p .2) (sym (c .before .before .document .given .1) ∙ c .before .before .before .before .check .ensures) in search needs
 
 same-length : tie.Need-same-length
 same-length c = search needs
@@ -35,9 +36,6 @@ returns c = search needs
 
 enum-known-refusal : tie.Need-enum-known-refusal
 enum-known-refusal c = search needs
-
-same-length-2 : tie.Need-same-length-2
-same-length-2 c = search needs
 
 returns-2 : tie.Need-returns-2
 returns-2 c = search needs
@@ -51,9 +49,8 @@ judge-spec =
     part-check-end
     check-requires
     enum-known-document
-    finish-events-requires
+    put-good-requires
     same-length
     returns
     enum-known-refusal
-    same-length-2
     returns-2)

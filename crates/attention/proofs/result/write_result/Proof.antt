@@ -2,16 +2,15 @@
 -- Assumes nothing.
 use mathlib.Core.Path.{refl}
 use native.Mathlib.Omega.{arith}
-use Rattle.record.proofs.Parts.{small-product, spread-out}
+use Rattle.record.proofs.Parts.{small-product}
 use Rattle.attention.proofs.Sizes.{emptied-within}
-use Rattle.attention.proofs.Endings.{writer-kept, writer-slots, writer-room, ended-long, ended-short, finishes, ended-written}
+use Rattle.attention.proofs.Endings.{writer-kept, writer-slots, writer-count, writer-balance, ended-long, ended-short, ended-written}
 use borrow.Author.Needs.{needs}
 use Rattle.attention.proofs.result.write_result.Statement.{statement}
 use Rattle.attention.proofs.result.write_result.Tie as tie
 use Rattle.attention.proofs.result.write_result.Reads as reads
 use Rattle.attention.proofs.result.write_result.Lts as lts
 use Rattle.attention.proofs.result.count_emptied.Reads as count-emptied-reads
-use Rattle.partners.proofs.finish.Reads as finish-reads
 use Rattle.record.proofs.bytes.put_u32.Reads as put-u32-reads
 use Rattle.writing.proofs.write_events.Reads as write-events-reads
 
@@ -51,24 +50,16 @@ put-u32-requires c κs = search needs
 write-events-requires : tie.Need-write-events-requires
 write-events-requires c κs =
     let m = c .before .before .before .before .before .before .before .before .before .before .before .pre in
-    let r = spread-out _ _ _ _ (m .good .known .wide) (c .before .before .before .before .before .if2 .left) in
-    (writer-kept m, (writer-slots m, (m .good .known .wide, (search needs, writer-room m _ _ (c .before .before .before .before .before .before .before .count-emptied .ensures .0) (search needs)))))
-
-finish-requires : tie.Need-finish-requires
-finish-requires c κs =
-    let m = c .before .before .before .before .before .before .before .before .before .before .before .before .before .before .before .pre in (
-      m .good .small,
-      c .before .before .before .before .before .before .before .before .before .before .if1 .left,
-      search needs,
-      finishes m _ _ (c .before .before .before .before .before .before .before .before .before .before .before .count-emptied .ensures .0) refl _ (m .good .known .wide) _ _ _ (c .before .before .before .before .before .before .before .before .before .before .if1 .left) (c .before .before .before .before .before .before .before .before .before .if2 .left) (c .before .before .before .before .before .before .before .put-u32 .ensures) (c .before .before .before .write-events .ensures),
-    )
+    let h = c .before .before .before .before .before .before .if1 .left in
+    let n = c .before .before .before .before .before .before .before .count-emptied .ensures .0 in
+    (writer-kept m, (writer-slots m, (m .good .known .wide, (search needs, (writer-count m _ _ n refl, (h, (writer-balance m _ _ n refl h, search needs)))))))
 
 same-length : tie.Need-same-length
 same-length c = search needs
 
 returns-3 : tie.Need-returns-3
 returns-3 c =
-    ended-written (c .before .before .before .before .before .before .before .before .before .before .before .before .before .before .before .before .before .before .pre) _ _ (c .before .before .before .before .before .before .before .before .before .before .before .before .before .before .count-emptied .ensures .0) refl _ _ _ _ (c .before .before .before .before .before .before .before .before .before .before .before .before .before .if1 .left) (c .before .before .before .before .before .before .before .before .before .before .before .before .if2 .left) (c .before .before .before .before .before .before .before .before .before .before .put-u32 .ensures) (c .before .before .before .before .before .before .write-events .ensures) (c .before .before .finish .ensures)
+    ended-written (c .before .before .before .before .before .before .before .before .before .before .before .before .before .before .pre) _ _ (c .before .before .before .before .before .before .before .before .before .before .count-emptied .ensures .0) refl _ _ _ (c .before .before .before .before .before .before .before .before .before .if1 .left) (c .before .before .before .before .before .before .before .before .if2 .left) (c .before .before .before .before .before .before .put-u32 .ensures) (c .before .before .write-events .ensures)
 
 pub write-result-spec : {M : Type 1} → statement M
 write-result-spec =
@@ -85,6 +76,5 @@ write-result-spec =
     returns-2
     put-u32-requires
     write-events-requires
-    finish-requires
     same-length
     returns-3)

@@ -1,11 +1,10 @@
 -- `heading::resolve::settle` meets its contract: its four ways out are the four cases of `settled`.
 -- Assumes nothing.
 use mathlib.Core.Path.{sym, _∙_}
-use native.Mathlib.Omega.{arith}
 use Rattle.record.specs.Event.{eventsIn}
-use Rattle.record.proofs.Parts.{small-product, spread-out}
+use Rattle.record.proofs.Parts.{small-product}
 use Rattle.heading.proofs.Judging.{sized-is, offender-below}
-use Rattle.heading.proofs.Settling.{shape-broken, too-many, too-short, finishes, resolved}
+use Rattle.heading.proofs.Settling.{shape-broken, too-many, too-short, result-balanced, resolved}
 use borrow.Author.Needs.{needs}
 use Rattle.heading.proofs.resolve.settle.Statement.{statement}
 use Rattle.heading.proofs.resolve.settle.Tie as tie
@@ -52,20 +51,12 @@ put-u32-requires : tie.Need-put-u32-requires
 put-u32-requires c κs = search needs
 
 put-resolved-requires : tie.Need-put-resolved-requires
-put-resolved-requires c κs =
-    let f = sized-is _ _ (sym (c .before .before .before .before .before .before .before .before .n .given .1) ∙ c .before .before .before .before .before .before .before .before .before .before .judge .ensures) in
-    let r = spread-out _ _ _ _ (c .before .before .before .before .before .before .before .before .before .before .before .before .before .before .pre .known .wide) (c .before .before .before .before .before .if2 .left) in
-    let k = c .before .before .before .before .before .before .before .before .before .before .before .before .before .before .pre .known in
-    search needs
-
-finish-requires : tie.Need-finish-requires
 unfolding eventsIn
-finish-requires c κs = (
-  c .before .before .before .before .before .before .before .before .before .before .before .before .before .before .before .before .before .before .pre .small,
-  c .before .before .before .before .before .before .before .before .before .before .if1 .left,
-  search needs,
-  finishes _ _ _ _ (sym (c .before .before .before .before .before .before .before .before .before .before .before .before .n .given .1) ∙ c .before .before .before .before .before .before .before .before .before .before .before .before .before .before .judge .ensures) (c .before .before .before .before .before .before .before .before .before .before .before .before .before .before .before .before .before .before .pre .small) (c .before .before .before .before .before .before .before .before .before .before .before .before .before .before .before .before .before .before .pre .sound-events) (c .before .before .before .before .before .before .before .before .before .before .if1 .left) _ (c .before .before .before .before .before .before .before .before .before .before .before .before .before .before .before .before .before .before .pre .known .wide) (c .before .before .before .before .before .before .before .before .before .if2 .left) (c .before .before .before .before .before .before .before .put-u32 .ensures) (c .before .before .before .put-resolved .ensures),
-)
+put-resolved-requires c κs =
+    let q = sym (c .before .before .before .before .before .before .before .before .n .given .1) ∙ c .before .before .before .before .before .before .before .before .before .before .judge .ensures in
+    let f = sized-is _ _ q in
+    let k = c .before .before .before .before .before .before .before .before .before .before .before .before .before .before .pre .known in
+    (k .wide, search needs, c .before .before .before .before .before .before .if1 .left, sym (f .1), result-balanced _ _ _ q (c .before .before .before .before .before .before .before .before .before .before .before .before .before .before .pre .sound-events), f .0, search needs)
 
 same-length : tie.Need-same-length
 same-length c = search needs
@@ -73,7 +64,7 @@ same-length c = search needs
 returns-4 : tie.Need-returns-4
 unfolding eventsIn
 returns-4 c =
-    resolved _ _ _ _ _ (sym (c .before .before .before .before .before .before .before .before .before .before .before .before .before .before .before .n .given .1) ∙ c .before .before .before .before .before .before .before .before .before .before .before .before .before .before .before .before .before .judge .ensures) (c .before .before .before .before .before .before .before .before .before .before .before .before .before .before .before .before .before .before .before .before .before .pre .small) (c .before .before .before .before .before .before .before .before .before .before .before .before .before .before .before .before .before .before .before .before .before .pre .sound-events) (c .before .before .before .before .before .before .before .before .before .before .before .before .before .if1 .left) (c .before .before .before .before .before .before .before .before .before .before .before .before .before .before .before .before .before .before .before .before .before .pre .known .wide) (c .before .before .before .before .before .before .before .before .before .before .before .before .if2 .left) (c .before .before .before .before .before .before .before .before .before .before .put-u32 .ensures) (c .before .before .before .before .before .before .put-resolved .ensures) (c .before .before .finish .ensures)
+    resolved _ _ _ _ _ (sym (c .before .before .before .before .before .before .before .before .before .before .before .n .given .1) ∙ c .before .before .before .before .before .before .before .before .before .before .before .before .before .judge .ensures) (c .before .before .before .before .before .before .before .before .before .if1 .left) (c .before .before .before .before .before .before .before .before .before .before .before .before .before .before .before .before .before .pre .known .wide) (c .before .before .before .before .before .before .before .before .if2 .left) (c .before .before .before .before .before .before .put-u32 .ensures) (c .before .before .put-resolved .ensures)
 
 pub settle-spec : {M : Type 1} → statement M
 settle-spec =
@@ -92,6 +83,5 @@ settle-spec =
     returns-3
     put-u32-requires
     put-resolved-requires
-    finish-requires
     same-length
     returns-4)

@@ -1,47 +1,35 @@
 -- `heading::text::put_round` meets its contract: four events, one after the other.
 -- Assumes nothing.
-use Rattle.heading.proofs.Texts.{rounded}
+use Rattle.heading.proofs.Texts.{first-fits, second-fits, third-fits, fourth-fits, rounded}
 use borrow.Author.Needs.{needs}
 use Rattle.heading.proofs.text.put_round.Statement.{statement}
 use Rattle.heading.proofs.text.put_round.Tie as tie
 
-add-inside : tie.Need-add-inside
-add-inside c = search needs
+put-requires : tie.Need-put-requires
+put-requires c κs = first-fits _ _ (c .before .before .pre)
 
-add-behind : tie.Need-add-behind
-add-behind c = search needs
+put-requires-2 : tie.Need-put-requires-2
+put-requires-2 c κs = second-fits _ _ (c .before .before .before .before .before .before .pre) (c .before .before .before .put .ensures)
 
-add-after : tie.Need-add-after
-add-after c = search needs
+put-requires-3 : tie.Need-put-requires-3
+put-requires-3 c κs = third-fits _ _ (c .before .before .before .before .before .before .before .before .before .before .pre) (c .before .before .before .before .before .before .before .put .ensures) (c .before .before .before .put2 .ensures)
 
-put-event-requires : tie.Need-put-event-requires
-put-event-requires c κs = search needs
-
-put-event-requires-2 : tie.Need-put-event-requires-2
-put-event-requires-2 c κs = search needs
-
-put-event-requires-3 : tie.Need-put-event-requires-3
-put-event-requires-3 c κs = search needs
-
-put-event-requires-4 : tie.Need-put-event-requires-4
-put-event-requires-4 c κs = search needs
+put-requires-4 : tie.Need-put-requires-4
+put-requires-4 c κs = fourth-fits _ _ (c .before .before .before .before .before .before .before .before .before .before .before .before .before .before .pre) (c .before .before .before .before .before .before .before .before .before .before .before .put .ensures) (c .before .before .before .before .before .before .before .put2 .ensures) (c .before .before .before .put3 .ensures)
 
 same-length : tie.Need-same-length
 same-length c = search needs
 
 returns : tie.Need-returns
-returns c = search (needs, rounded)
+returns c = rounded _ _ (c .before .before .before .before .before .before .before .before .before .before .before .before .before .before .put .ensures) (c .before .before .before .before .before .before .before .before .before .before .put2 .ensures) (c .before .before .before .before .before .before .put3 .ensures) (c .before .before .put4 .ensures)
 
 pub put-round-spec : {M : Type 1} → statement M
 put-round-spec =
     tie.close
     (tie.spec
-    add-inside
-    add-behind
-    add-after
-    put-event-requires
-    put-event-requires-2
-    put-event-requires-3
-    put-event-requires-4
+    put-requires
+    put-requires-2
+    put-requires-3
+    put-requires-4
     same-length
     returns)

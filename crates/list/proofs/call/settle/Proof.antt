@@ -1,7 +1,7 @@
 -- `list::call::settle` meets its contract: each way out is a case of `settled`.
 -- Assumes nothing.
-use Rattle.record.proofs.Parts.{small-product, spread-out}
-use Rattle.list.proofs.Outcomes.{noted-long, few-added, shape-broken, output-short, finishes, resolved}
+use Rattle.record.proofs.Parts.{small-product}
+use Rattle.list.proofs.Outcomes.{noted-long, few-added, result-balanced, shape-broken, output-short, resolved}
 use borrow.Author.Needs.{needs}
 use Rattle.list.proofs.call.settle.Statement.{statement}
 use Rattle.list.proofs.call.settle.Tie as tie
@@ -49,18 +49,13 @@ returns-2 : tie.Need-returns-2
 returns-2 c = output-short _ _ _ _ (c .before .before .before .before .before .before .before .before .before .before .before .before .pre .0) (c .before .before .before .before .before .before .before .note-lists .ensures) _ _ (c .before .before .before .n .given .1) (c .before .if1 .taken) _ (c .refused2 .ensures)
 
 write-lists-requires : tie.Need-write-lists-requires
-write-lists-requires c κs =
-    let g = c .before .before .before .before .before .before .before .before .before .before .before .before .before .pre .0 in
-    let l = noted-long _ _ _ _ (c .before .before .before .before .before .before .before .before .before .before .before .before .before .pre .0) (c .before .before .before .before .before .before .before .before .note-lists .ensures) _ (c .before .before .before .before .n .given .1) in
-    let r = spread-out _ _ _ _ (c .before .before .before .before .before .before .before .before .before .before .before .before .before .pre .0 .known .wide) (c .before .before .if1 .left) in
-    search needs
-
-finish-requires : tie.Need-finish-requires
-finish-requires c κs = (
-  c .before .before .before .before .before .before .before .before .before .before .before .before .before .before .before .before .before .pre .0 .small,
-  few-added _ _ _ _ (c .before .before .before .before .before .before .before .before .before .before .before .before .before .before .before .before .before .pre .0) (c .before .before .before .before .before .before .before .before .before .before .before .before .note-lists .ensures) _ (c .before .before .before .before .before .before .before .before .n .given .1),
-  search needs,
-  finishes _ _ _ _ (c .before .before .before .before .before .before .before .before .before .before .before .before .before .before .before .before .before .pre .0) (c .before .before .before .before .before .before .before .before .before .before .before .before .note-lists .ensures) _ _ (c .before .before .before .before .before .before .before .before .n .given .1) (c .before .before .before .write-lists .ensures),
+write-lists-requires c κs = (
+  c .before .before .before .before .before .before .before .before .before .before .before .before .before .pre .0,
+  (let g = c .before .before .before .before .before .before .before .before .before .before .before .before .before .pre .0 in search needs),
+  noted-long _ _ _ _ (c .before .before .before .before .before .before .before .before .before .before .before .before .before .pre .0) (c .before .before .before .before .before .before .before .before .note-lists .ensures) _ (c .before .before .before .before .n .given .1),
+  few-added _ _ _ _ (c .before .before .before .before .before .before .before .before .before .before .before .before .before .pre .0) (c .before .before .before .before .before .before .before .before .note-lists .ensures) _ (c .before .before .before .before .n .given .1),
+  c .before .before .if1 .left,
+  result-balanced _ _ _ _ (c .before .before .before .before .before .before .before .before .before .before .before .before .before .pre .0) (c .before .before .before .before .before .before .before .before .note-lists .ensures) _ (c .before .before .before .before .n .given .1),
 )
 
 same-length-3 : tie.Need-same-length-3
@@ -71,7 +66,7 @@ same-length-4 c = search needs
 
 returns-3 : tie.Need-returns-3
 returns-3 c =
-    resolved _ _ _ _ (c .before .before .before .before .before .before .before .before .before .before .before .before .before .before .before .before .before .before .before .before .pre .0) (c .before .before .before .before .before .before .before .before .before .before .before .before .before .before .before .note-lists .ensures) _ _ (c .before .before .before .before .before .before .before .before .before .before .before .n .given .1) (c .before .before .before .before .before .before .write-lists .ensures) (c .before .before .before .before .before .before .before .before .before .if1 .left) (c .before .before .finish .ensures)
+    resolved _ _ _ _ (c .before .before .before .before .before .before .before .before .before .before .before .before .before .before .before .before .pre .0) (c .before .before .before .before .before .before .before .before .before .before .before .note-lists .ensures) _ _ (c .before .before .before .before .before .before .before .n .given .1) (c .before .before .before .before .before .if1 .left) (c .before .before .write-lists .ensures)
 
 pub settle-spec : {M : Type 1} → statement M
 settle-spec =
@@ -91,7 +86,6 @@ settle-spec =
     same-length-2
     returns-2
     write-lists-requires
-    finish-requires
     same-length-3
     same-length-4
     returns-3)
