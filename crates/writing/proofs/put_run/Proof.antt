@@ -16,7 +16,7 @@ marker-requires : tie.Need-marker-requires
 marker-requires c κs = search needs
 
 put-closings-requires : tie.Need-put-closings-requires
-put-closings-requires c κs = (c .before .before .before .before .pre .0, (c .before .before .before .before .pre .1 .0, (c .before .before .before .before .pre .1 .1 .0, closing-fits _ _ _ _ _ (c .before .marker .ensures) (c .before .before .before .before .pre .1 .1 .1))))
+put-closings-requires c κs = (search needs, (search needs, (search needs, search (needs, closing-fits))))
 
 left-requires : tie.Need-left-requires
 left-requires c κs = search needs
@@ -25,7 +25,7 @@ add-end : tie.Need-add-end
 add-end c = search needs
 
 put-leftover-requires : tie.Need-put-leftover-requires
-put-leftover-requires c κs = leftover-fits (c .before .before .before .before .before .before .before .before .before .before .pre .0) (c .before .before .before .before .before .before .before .before .before .before .pre .1 .0) _ _ _ _ (c .before .before .before .before .before .before .before .marker .ensures) (c .before .before .before .before .before .put-closings .ensures .1 .0) (c .before .left .ensures .0) (c .before .before .before .before .before .put-closings .ensures .0) (c .before .before .before .before .before .before .before .before .before .before .pre .1 .1 .1)
+put-leftover-requires c κs = search (needs, leftover-fits)
 
 put-openings-requires : tie.Need-put-openings-requires
 put-openings-requires c κs = (c .before .before .before .before .before .before .before .before .before .before .before .before .before .before .pre .0, (c .before .before .before .before .before .before .before .before .before .before .before .before .before .before .pre .1 .0, (search needs, openings-fit (c .before .before .before .before .before .before .before .before .before .before .before .before .before .before .pre .0) (c .before .before .before .before .before .before .before .before .before .before .before .before .before .before .pre .1 .0) _ _ _ _ (c .before .before .before .before .before .before .before .before .before .before .before .marker .ensures) (c .before .before .before .before .before .before .before .before .before .put-closings .ensures .1 .0) (c .before .before .before .before .before .left .ensures .0) (c .before .before .before .before .before .before .before .before .before .put-closings .ensures .0) (c .before .before .before .put-leftover .ensures) (c .before .before .before .before .before .before .before .before .before .before .before .before .before .before .pre .1 .1 .1))))
