@@ -11,7 +11,7 @@ use lib.Dec.{eqb}
 use borrow.Author.Tests.{eq-eqb, ne-eqb}
 use Rattle.record.specs.Choice.{choose}
 use Rattle.record.specs.Bytes.{u32At}
-use Rattle.record.specs.Event.{enter, exit, eventAt, eventsBy}
+use Rattle.record.specs.Event.{eventAt, eventsBy}
 use Rattle.record.specs.Stack.{nth}
 use Rattle.record.specs.declared.event.Event.{Event}
 use Rattle.record.proofs.Parts.{less, further, event-room, length-events, drop-events, nth-event, events-cons}
@@ -128,38 +128,6 @@ ends s from w n opened skipped last unclosed kept eo lo es ls el ll ec lc ek lk 
       front = omega arith;
       whole = omega arith;
     }
-
--- four events, one after the other: each finds its place, and together they are a text's
-module _ {d : List ℕ} {p : Pen} (from end : ℕ) (f : Fits d p (textRound from end)) where
-  pub first-fits : Fits d p (enter 13 from ∷ [])
-  first-fits = fits-first (enter 13 from ∷ []) (enter 0 from ∷ exit 0 end ∷ exit 13 end ∷ []) f
-
-  module _ {d₁ : List ℕ} {p₁ : Pen} (w₁ : Put d p (enter 13 from ∷ []) d₁ p₁) where
-    others : Fits d₁ p₁ (enter 0 from ∷ exit 0 end ∷ exit 13 end ∷ [])
-    others = fits-then (enter 13 from ∷ []) (enter 0 from ∷ exit 0 end ∷ exit 13 end ∷ []) w₁ f
-
-    pub second-fits : Fits d₁ p₁ (enter 0 from ∷ [])
-    second-fits = fits-first (enter 0 from ∷ []) (exit 0 end ∷ exit 13 end ∷ []) others
-
-    module _ {d₂ : List ℕ} {p₂ : Pen} (w₂ : Put d₁ p₁ (enter 0 from ∷ []) d₂ p₂) where
-      exits : Fits d₂ p₂ (exit 0 end ∷ exit 13 end ∷ [])
-      exits = fits-then (enter 0 from ∷ []) (exit 0 end ∷ exit 13 end ∷ []) w₂ others
-
-      pub third-fits : Fits d₂ p₂ (exit 0 end ∷ [])
-      third-fits = fits-first (exit 0 end ∷ []) (exit 13 end ∷ []) exits
-
-      pub fourth-fits : {d₃ : List ℕ} {p₃ : Pen} → Put d₂ p₂ (exit 0 end ∷ []) d₃ p₃ → Fits d₃ p₃ (exit 13 end ∷ [])
-      fourth-fits w₃ = fits-then (exit 0 end ∷ []) (exit 13 end ∷ []) w₃ exits
-
-pub rounded : {d d₁ d₂ d₃ d₄ : List ℕ} {p p₁ p₂ p₃ p₄ : Pen} (from end : ℕ)
-    → Put d p (enter 13 from ∷ []) d₁ p₁
-    → Put d₁ p₁ (enter 0 from ∷ []) d₂ p₂
-    → Put d₂ p₂ (exit 0 end ∷ []) d₃ p₃
-    → Put d₃ p₃ (exit 13 end ∷ []) d₄ p₄
-    → Put d p (textRound from end) d₄ p₄
-rounded from end w₁ w₂ w₃ w₄ =
-    put-then (enter 13 from ∷ []) (enter 0 from ∷ exit 0 end ∷ exit 13 end ∷ []) w₁
-    (put-then (enter 0 from ∷ []) (exit 0 end ∷ exit 13 end ∷ []) w₂ (put-then (exit 0 end ∷ []) (exit 13 end ∷ []) w₃ w₄))
 
 module _ (s : List ℕ) (from w n before through : ℕ) (x : Ends (eventsBy w n s from) n before through) where
   -- no text
