@@ -3,7 +3,7 @@
 use mathlib.Core.Path.{_≡_, refl, sym, ap, _∙_}
 use mathlib.Core.Bool.{Bool, true, false}
 use mathlib.Core.List.{List, [], _∷_, _++_, reverse, reverse-append}
-use Prim.Native.Nat.{ℕ, suc, _+_, _*_, _-_, _≤_, _<_}
+use Prim.Native.Nat.{ℕ, zero, suc, _+_, _*_, _-_, _≤_, _<_}
 use native.Mathlib.Omega.{arith}
 use lib.ListN.{length, length-append}
 use Rattle.record.specs.Choice.{choose}
@@ -114,3 +114,23 @@ module _ {s : List ℕ} {from w n : ℕ} {is : Event → Bool} {end left : ℕ} 
       let z : left ≡ 0 = omega arith in
       let e : throughLast is (eventsBy w left s from) ≡ 0 = ap (throughLast is) (events-none w left s from z) in
       (z ∙ sym e ∙ v .rest, v .low)
+
+-- among the events up to the last such one, it is the last again
+through-again : (is : Event → Bool) (s : List ℕ) (from w n : ℕ) → throughLast is (eventsBy w n s from) ≡ throughLast is (eventsBy w (throughLast is (eventsBy w n s from)) s from)
+unfolding throughLast beforeFirst eventsBy choose
+through-again is s from w zero = refl
+through-again is s from w (suc n) =
+    go (is (eventAt s (from + w * n)))
+    (ap (throughLast is) (events-last w (suc n) n s from (omega arith)) ∙ through-last is (eventsBy w n s from) (eventAt s (from + w * n)))
+    (through-again is s from w n)
+  where
+    through : ℕ → ℕ
+    through k = throughLast is (eventsBy w k s from)
+
+    go : (b : Bool) → through (suc n) ≡ choose b (suc (length (eventsBy w n s from))) (through n) → through n ≡ through (through n) → through (suc n) ≡ through (through (suc n))
+    go true t h = sym (ap through (t ∙ ap suc (length-events w n s from)))
+    go false t h = t ∙ h ∙ sym (ap through t)
+
+pub still-last : (is : Event → Bool) (s : List ℕ) (from w n last m : ℕ) → last ≡ throughLast is (eventsBy w n s from) → m ≡ last → (last ≡ throughLast is (eventsBy w m s from)) × (last ≤ m)
+still-last is s from w n last m el em =
+    (el ∙ through-again is s from w n ∙ ap (λ (k : ℕ). throughLast is (eventsBy w k s from)) (sym el ∙ sym em), omega arith)

@@ -68,6 +68,11 @@ pub fn text_of(s: &[u8], from: usize, width: usize, n: usize) -> Text
     let start = from + width * before;
     let last = through_last(s, start, width, n - before, Sought::DataOrRun);
     let unclosed = before_closing(s, start, width, last);
+    // Most headings have no closing run: then the last event is known.
+    if unclosed == last {
+        let through = before + last;
+        return Text { before, through };
+    }
     let through = before + through_last(s, start, width, unclosed, Sought::DataOrRun);
     Text { before, through }
 }

@@ -26,6 +26,7 @@ use Rattle.record.proofs.Soundness.{Stands, stands, sound-rest, after-enter, af
 use Rattle.list.specs.Walk.{onward, nearest, markIn, offendersIn, note, notes, adds, added}
 use Rattle.list.specs.Noting.{Noted}
 use Rattle.list.specs.declared.chain.Findings.the-variants.{Added, Offends}
+use Rattle.list.proofs.Nearest.{Found, nothing-found, found-behind, found-on, found-here}
 use Rattle.list.proofs.Onward.{onward-none, onward-some, onward-whole}
 
 -- how many of some open names are items
@@ -84,7 +85,7 @@ store w i v r h =
     ∙ append-assoc (take i w) (v ∷ []) r
 
 -- the loop's invariant; `held` are the open names
-pub record Noting (document : List ℕ) (f : Form) (s : List ℕ) (d e : ℕ) (work marks : List ℕ) (opened : ℕ) (joined behind : Bool) (count i : ℕ) : Type 0 where
+pub record Noting (document : List ℕ) (f : Form) (s : List ℕ) (d e : ℕ) (work marks : List ℕ) (opened found : ℕ) (joined behind : Bool) (count i : ℕ) : Type 0 where
   pub within : i ≤ e
   pub room : 2048 ≤ length work
   pub array : length marks ≡ 64
@@ -95,11 +96,12 @@ pub record Noting (document : List ℕ) (f : Form) (s : List ℕ) (d e : ℕ) (w
   pub good : soundFrom 64 d last held (onward f s d e i) ≡ true
   pub open-items : items held ≡ opened
   pub bad : offendersIn document i behind (onward f s d e i) ≡ offendersIn document 0 false (onward f s d e 0)
+  pub seen : Found document found (onward f s d e i)
   pub noted : take i work ++ notes document joined (upTo opened marks) (onward f s d e i) ≡ notes document false [] (onward f s d e 0)
   pub sum : count + added (notes document joined (upTo opened marks) (onward f s d e i)) ≡ added (notes document false [] (onward f s d e 0))
 
 pub start : (f : Form) (s : List ℕ) (d e : ℕ) (work marks : List ℕ) → GoodIn f s d e → 2048 ≤ length work → length marks ≡ 64 →
-    Noting (documentIn f s d) f s d e work marks 0 false false 0 0
+    Noting (documentIn f s d) f s d e work marks 0 0 false false 0 0
 unfolding items
 start f s d e work marks c r l =
     record {
@@ -113,6 +115,7 @@ start f s d e work marks c r l =
       good = ap (λ es. soundFrom 64 d 0 [] es) (onward-whole f s d e) ∙ c .sound-events;
       open-items = refl;
       bad = refl;
+      seen = nothing-found _ _;
       noted = refl;
       sum = zero-add _;
     }
@@ -126,7 +129,7 @@ same-offence i k q = cc
 same-added : (m n : ℕ) → Added m ≡ Added n → m ≡ n
 same-added m n q = cc
 
-module _ {f : Form} {s : List ℕ} {d e : ℕ} {work marks : List ℕ} {opened : ℕ} {joined behind : Bool} {count i : ℕ} (v : Noting (documentIn f s d) f s d e work marks opened joined behind count i) where
+module _ {f : Form} {s : List ℕ} {d e : ℕ} {work marks : List ℕ} {opened found : ℕ} {joined behind : Bool} {count i : ℕ} (v : Noting (documentIn f s d) f s d e work marks opened found joined behind count i) where
   -- the end
   pub finished : e ≤ i → Noted f s d e (Added count) work
   unfolding offendersIn notes added
@@ -170,6 +173,9 @@ module _ {f : Form} {s : List ℕ} {d e : ℕ} {work marks : List ℕ} {opened :
     bad-here : offendersIn (documentIn f s d) i behind (eventAt s at ∷ onward f s d e (i + 1)) ≡ offendersIn (documentIn f s d) 0 false (onward f s d e 0)
     bad-here = sym (ap (λ es. offendersIn (documentIn f s d) i behind es) on) ∙ v .bad
 
+    seen-here : Found (documentIn f s d) found (eventAt s at ∷ onward f s d e (i + 1))
+    seen-here = rw on at (v .seen)
+
     -- the next note is n, and then come ns
     module _ (n : ℕ) (ns : List ℕ) (q : notes (documentIn f s d) joined (upTo opened marks) (eventAt s at ∷ onward f s d e (i + 1)) ≡ n ∷ ns) where
       from-here : notes (documentIn f s d) joined (upTo opened marks) (onward f s d e i) ≡ n ∷ ns
@@ -186,7 +192,7 @@ module _ {f : Form} {s : List ℕ} {d e : ℕ} {work marks : List ℕ} {opened :
           omega arith
 
     -- an event of another name
-    pub other : (getD s (at + 1) 0 ≡ 15 → ⊥) → 2048 ≤ length work → e ≤ 2048 → Noting (documentIn f s d) f s d e (set work i 0) marks opened joined false count (i + 1)
+    pub other : (getD s (at + 1) 0 ≡ 15 → ⊥) → 2048 ≤ length work → e ≤ 2048 → Noting (documentIn f s d) f s d e (set work i 0) marks opened found joined false count (i + 1)
     unfolding offendersIn notes choose and
     other h r limit =
         let t : and (eqb (getD s at 0) 0) false ≡ false = and-false (eqb (getD s at 0) 0) false refl in
@@ -204,6 +210,7 @@ module _ {f : Form} {s : List ℕ} {d e : ℕ} {work marks : List ℕ} {opened :
           good = next;
           open-items = items-other here h ∙ v .open-items;
           bad = rw (ne-eqb _ _ h, t, u) at bad-here;
+          seen = found-on seen-here h;
           noted = noted-next 0 _ q (omega arith);
           sum = omega arith;
         }
@@ -213,6 +220,9 @@ module _ {f : Form} {s : List ℕ} {d e : ℕ} {work marks : List ℕ} {opened :
       module _ (k : getD s at 0 ≡ 0) where
         pub room-inside : opened < 64
         room-inside = let r = here .room k in omega (arith, items-few (v .held), v .open-items)
+
+        pub coming : (found ≡ 0 → ⊥) → found ≡ markIn (documentIn f s d) (onward f s d e (i + 1))
+        coming = found-here seen-here h k
 
         pub right-behind : behind ≡ true → Noted f s d e (Offends i) work
         unfolding offendersIn choose and
@@ -227,7 +237,7 @@ module _ {f : Form} {s : List ℕ} {d e : ℕ} {work marks : List ℕ} {opened :
               offends-here _ more (rw (eq-eqb _ _ h, eq-eqb _ _ k, b, eq-eqb _ _ y) at bad-here)
 
           pub entered : (mark ≡ 0 → ⊥) → 2048 ≤ length work → e ≤ 2048 → (n m : ℕ) → n ≡ note joined mark → m ≡ adds n → m ≤ 1 →
-              Noting (documentIn f s d) f s d e (set work i n) (set marks opened mark) (opened + 1) false behind (count + m) (i + 1)
+              Noting (documentIn f s d) f s d e (set work i n) (set marks opened mark) (opened + 1) 0 false behind (count + m) (i + 1)
           unfolding offendersIn notes choose and
           entered z r limit n m en em′ l =
               let y : markIn (documentIn f s d) (onward f s d e (i + 1)) ≡ 0 → ⊥ = λ w. z (em ∙ w) in
@@ -245,6 +255,7 @@ module _ {f : Form} {s : List ℕ} {d e : ℕ} {work marks : List ℕ} {opened :
                 good = next;
                 open-items = items-enter here h k ∙ ap (λ (j : ℕ). j + 1) (v .open-items);
                 bad = rw b (rw (eq-eqb _ _ h, eq-eqb _ _ k, b, ne-eqb _ _ y, ne-eqb (getD s at 0) 1 (λ w. omega arith)) at bad-here);
+                seen = nothing-found _ _;
                 noted = noted-next n _ q (omega arith);
                 sum = sum-next n _ q m em′;
               }
@@ -259,7 +270,7 @@ module _ {f : Form} {s : List ℕ} {d e : ℕ} {work marks : List ℕ} {opened :
 
         pub left-one : 2048 ≤ length work → e ≤ 2048 → (mark after-mark : ℕ) → mark ≡ getD marks (opened - 1) 0 → after-mark ≡ nearest (documentIn f s d) 0 (onward f s d e (i + 1)) →
             (n m : ℕ) → n ≡ note (eqb after-mark mark) mark → m ≡ adds n → m ≤ 1 →
-            Noting (documentIn f s d) f s d e (set work i n) marks (opened - 1) (eqb after-mark mark) true (count + m) (i + 1)
+            Noting (documentIn f s d) f s d e (set work i n) marks (opened - 1) after-mark (eqb after-mark mark) true (count + m) (i + 1)
         unfolding offendersIn notes choose and
         left-one r limit mark after-mark ea eb n m en em l =
             let w = some-open in
@@ -278,6 +289,7 @@ module _ {f : Form} {s : List ℕ} {d e : ℕ} {work marks : List ℕ} {opened :
               good = next;
               open-items = omega (arith, v .open-items, u);
               bad = rw (eq-eqb _ _ h, ne-eqb _ _ k, eq-eqb _ _ one) at bad-here;
+              seen = found-behind _ _ _ eb;
               noted = noted-next n _ q (omega arith);
               sum = sum-next n _ q m em;
             }

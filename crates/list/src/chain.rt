@@ -2,7 +2,7 @@
 //
 // An item's mark is known where it enters, and is kept until its exit on a stack of 64. At its exit a look onward finds the neighbouring
 // item: it passes only pairs that hold no item, so that no event is passed by two such looks, and the item that it finds is the next one
-// to enter. One bool carries the finding there.
+// to enter. Its mark is carried there, so that no item is read twice, with a bool that says whether the two have one mark.
 
 use crate::item::item_mark;
 use record::form::Form;
@@ -21,7 +21,7 @@ ghost use lib.ListN.{length};
 ghost use Rattle.record.specs.Event.{documentIn};
 ghost use Rattle.record.specs.Good.{GoodIn};
 ghost use Rattle.list.specs.Lists.{between, listName};
-ghost use Rattle.list.specs.Walk.{onward, passing, nearest, note, adds};
+ghost use Rattle.list.specs.Walk.{onward, markIn, passing, nearest, note, adds};
 ghost use Rattle.list.specs.Noting.{Noted};
 
 // The marks of the items that are open.
@@ -94,6 +94,17 @@ pub fn next_mark(s: &[u8], form: Form, d: usize, e: usize, i: usize) -> u8
     0
 }
 
+// The mark of the item whose enter is the event before i, or 0 where its shape is broken. A look onward has found it already unless `found` is 0.
+pub fn mark_here(s: &[u8], form: Form, d: usize, e: usize, i: usize, found: u8) -> u8
+    requires { ⌜ GoodIn form (now s) d e × (i ≤ e) × ((found ≡ 0 → ⊥) → found ≡ markIn (documentIn form (now s) d) (onward form (now s) d e i)) ⌝ }
+    ensures { λ r. ⌜ r ≡ markIn (documentIn form (now (s .entry)) d) (onward form (now (s .entry)) d e i) ⌝ }
+{
+    if found != 0 {
+        return found;
+    }
+    item_mark(s, form, d, e, i)
+}
+
 // The name of the list of items with this mark.
 pub fn list_name(mark: u8) -> u8
     ensures { λ r. ⌜ r ≡ listName mark ⌝ }
@@ -136,6 +147,7 @@ pub fn note_lists(s: &[u8], form: Form, d: usize, e: usize, work: &mut [u8]) -> 
         marks: [0u8; 64],
         open: 0,
     };
+    let mut found = 0u8;
     let mut joined = false;
     let mut behind = false;
     let mut count = 0;
@@ -153,7 +165,7 @@ pub fn note_lists(s: &[u8], form: Form, d: usize, e: usize, work: &mut [u8]) -> 
             if behind {
                 return Findings::Offends(i);
             }
-            let mark = item_mark(s, form, d, e, i + 1);
+            let mark = mark_here(s, form, d, e, i + 1, found);
             if mark == 0 {
                 return Findings::Offends(i);
             }
@@ -162,13 +174,15 @@ pub fn note_lists(s: &[u8], form: Form, d: usize, e: usize, work: &mut [u8]) -> 
             count += more(n);
             held.marks[open] = mark;
             held.open = open + 1;
+            found = 0;
             joined = false;
             i += 1;
             continue;
         }
         let top = open - 1;
         let mark = held.marks[top];
-        joined = next_mark(s, form, d, e, i + 1) == mark;
+        found = next_mark(s, form, d, e, i + 1);
+        joined = found == mark;
         let n = unless_joined(joined, mark);
         work[i] = n;
         count += more(n);

@@ -1,6 +1,7 @@
 -- `heading::text::text_of` meets its contract: each step of the search is what the function for it promises.
 -- Assumes nothing.
 use Rattle.heading.proofs.Lists.{front-room, rest-room}
+use Rattle.heading.proofs.Seeking.{still-last}
 use Rattle.heading.proofs.Texts.{after-room, ends}
 use borrow.Author.Needs.{needs}
 use Rattle.heading.proofs.text.text_of.Statement.{statement}
@@ -39,14 +40,22 @@ through-last-requires c κs = let h = after-room _ _ _ _ _ _ (c .before .before 
 before-closing-requires : tie.Need-before-closing-requires
 before-closing-requires c κs = let h = front-room _ _ _ _ _ (after-room _ _ _ _ _ _ (c .before .before .before .before .pre .1) (c .before .before .through-opening .ensures .1) (c .before .before-first .ensures .1)) (c .through-last .ensures .1) in search needs
 
-through-last-requires-2 : tie.Need-through-last-requires-2
-through-last-requires-2 c κs = let h = front-room _ _ _ _ _ (front-room _ _ _ _ _ (after-room _ _ _ _ _ _ (c .before .before .before .before .before .pre .1) (c .before .before .before .through-opening .ensures .1) (c .before .before .before-first .ensures .1)) (c .before .through-last .ensures .1)) (c .before-closing .ensures .1) in search needs
-
 add-through : tie.Need-add-through
 add-through c = search needs
 
 returns : tie.Need-returns
-returns c = ends _ _ _ _ _ _ _ _ _ (c .before .before .before .before .through-opening .ensures .0) (c .before .before .before .before .through-opening .ensures .1) (c .before .before .before .before-first .ensures .0) (c .before .before .before .before-first .ensures .1) (c .before .before .through-last .ensures .0) (c .before .before .through-last .ensures .1) (c .before .before-closing .ensures .0) (c .before .before-closing .ensures .1) (c .through-last2 .ensures .0) (c .through-last2 .ensures .1)
+returns c =
+    let l = still-last _ _ _ _ _ _ _ (c .before .before .through-last .ensures .0) (c .if1 .taken) in
+    ends _ _ _ _ _ _ _ _ _ (c .before .before .before .before .through-opening .ensures .0) (c .before .before .before .before .through-opening .ensures .1) (c .before .before .before .before-first .ensures .0) (c .before .before .before .before-first .ensures .1) (c .before .before .through-last .ensures .0) (c .before .before .through-last .ensures .1) (c .before .before-closing .ensures .0) (c .before .before-closing .ensures .1) (l .0) (l .1)
+
+through-last-requires-2 : tie.Need-through-last-requires-2
+through-last-requires-2 c κs = let h = front-room _ _ _ _ _ (front-room _ _ _ _ _ (after-room _ _ _ _ _ _ (c .before .before .before .before .before .before .pre .1) (c .before .before .before .before .through-opening .ensures .1) (c .before .before .before .before-first .ensures .1)) (c .before .before .through-last .ensures .1)) (c .before .before-closing .ensures .1) in search needs
+
+add-through-2 : tie.Need-add-through-2
+add-through-2 c = search needs
+
+returns-2 : tie.Need-returns-2
+returns-2 c = ends _ _ _ _ _ _ _ _ _ (c .before .before .before .before .before .through-opening .ensures .0) (c .before .before .before .before .before .through-opening .ensures .1) (c .before .before .before .before .before-first .ensures .0) (c .before .before .before .before .before-first .ensures .1) (c .before .before .before .through-last .ensures .0) (c .before .before .before .through-last .ensures .1) (c .before .before .before-closing .ensures .0) (c .before .before .before-closing .ensures .1) (c .through-last2 .ensures .0) (c .through-last2 .ensures .1)
 
 pub text-of-spec : {M : Type 1} → statement M
 text-of-spec =
@@ -63,6 +72,8 @@ text-of-spec =
     sub-through-last
     through-last-requires
     before-closing-requires
-    through-last-requires-2
     add-through
-    returns)
+    returns
+    through-last-requires-2
+    add-through-2
+    returns-2)

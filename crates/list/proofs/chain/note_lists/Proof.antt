@@ -6,23 +6,23 @@ use Prim.Native.Nat.{_-_}
 use lib.ListN.{length}
 use Rattle.record.specs.Event.{documentIn}
 use Rattle.list.proofs.Onward.{lies}
-use Rattle.list.proofs.Notings.{Noting, start, finished, other, room-inside, right-behind, broken, entered, some-open, left-one}
+use Rattle.list.proofs.Notings.{Noting, start, finished, other, room-inside, coming, right-behind, broken, entered, some-open, left-one}
 use borrow.Author.Needs.{needs}
 use Rattle.list.proofs.chain.note_lists.Statement.{statement}
 use Rattle.list.proofs.chain.note_lists.Tie as tie
 use Rattle.list.proofs.chain.note_lists.Reads as reads
 use Rattle.list.proofs.chain.note_lists.Lts as lts
+use Rattle.list.proofs.chain.mark_here.Reads as mark-here-reads
 use Rattle.list.proofs.chain.more.Reads as more-reads
 use Rattle.list.proofs.chain.next_mark.Reads as next-mark-reads
 use Rattle.list.proofs.chain.unless_joined.Reads as unless-joined-reads
-use Rattle.list.proofs.item.item_mark.Reads as item-mark-reads
 use Rattle.record.proofs.form.place_of.Reads as place-of-reads
 
 abbrev Inv-loop : tie.InvT-loop
-Inv-loop s f d e work₀ held₀ joined₀ behind₀ count₀ i₀ work held joined behind count i = (length work ≡ length work₀) × Noting (documentIn f s d) f s d e work (held .marks) (held .open) joined behind count i
+Inv-loop s f d e work₀ held₀ found₀ joined₀ behind₀ count₀ i₀ work held found joined behind count i = (length work ≡ length work₀) × Noting (documentIn f s d) f s d e work (held .marks) (held .open) found joined behind count i
 
 abbrev μ-loop : tie.MeasureT-loop
-μ-loop s f d e work₀ held₀ joined₀ behind₀ count₀ i₀ work held joined behind count i = e - i
+μ-loop s f d e work₀ held₀ found₀ joined₀ behind₀ count₀ i₀ work held found joined behind count i = e - i
 
 loop-holds : tie.Need-loop-holds Inv-loop μ-loop
 loop-holds c = (refl, start _ _ _ _ _ _ (c .before .before .pre .0) (c .before .before .pre .1) refl)
@@ -57,17 +57,17 @@ same-length c = search needs
 returns : tie.Need-returns Inv-loop μ-loop
 returns c = right-behind (c .before .before .before .before .before .before .before .loop .inv .1) (c .before .before .before .before .before .before .loop-test .taken) _ (c .before .before .before .before .before .place-of .ensures) (c .before .before .before .if1 .left) (c .before .if2 .taken) (c .if3 .taken)
 
-add-item-mark : tie.Need-add-item-mark Inv-loop μ-loop
-add-item-mark c = search needs
+add-mark-here : tie.Need-add-mark-here Inv-loop μ-loop
+add-mark-here c = search needs
 
-item-mark-requires : tie.Need-item-mark-requires Inv-loop μ-loop
-item-mark-requires c κs = search needs
+mark-here-requires : tie.Need-mark-here-requires Inv-loop μ-loop
+mark-here-requires c κs = (c .before .before .before .before .before .before .before .before .before .before .pre .0, search needs, coming (c .before .before .before .before .before .before .before .loop .inv .1) (c .before .before .before .before .before .before .loop-test .taken) _ (c .before .before .before .before .before .place-of .ensures) (c .before .before .before .if1 .left) (c .before .if2 .taken))
 
 same-length-2 : tie.Need-same-length-2 Inv-loop μ-loop
 same-length-2 c = search needs
 
 returns-2 : tie.Need-returns-2 Inv-loop μ-loop
-returns-2 c = broken (c .before .before .before .before .before .before .before .before .before .loop .inv .1) (c .before .before .before .before .before .before .before .before .loop-test .taken) _ (c .before .before .before .before .before .before .before .place-of .ensures) (c .before .before .before .before .before .if1 .left) (c .before .before .before .if2 .taken) (c .before .before .if3 .left) _ (c .before .item-mark .ensures) (c .if4 .taken)
+returns-2 c = broken (c .before .before .before .before .before .before .before .before .before .loop .inv .1) (c .before .before .before .before .before .before .before .before .loop-test .taken) _ (c .before .before .before .before .before .before .before .place-of .ensures) (c .before .before .before .before .before .if1 .left) (c .before .before .before .if2 .taken) (c .before .before .if3 .left) _ (c .before .mark-here .ensures) (c .if4 .taken)
 
 unless-joined-requires : tie.Need-unless-joined-requires Inv-loop μ-loop
 unless-joined-requires c κs = search needs
@@ -94,7 +94,7 @@ loop-less-2 : tie.Need-loop-less-2 Inv-loop μ-loop
 loop-less-2 c = search needs
 
 loop-again-2 : tie.Need-loop-again-2 Inv-loop μ-loop
-loop-again-2 c = (search needs, entered (c .before .before .before .before .before .before .before .before .before .before .before .loop .inv .1) (c .before .before .before .before .before .before .before .before .before .before .loop-test .taken) _ (c .before .before .before .before .before .before .before .before .before .place-of .ensures) (c .before .before .before .before .before .before .before .if1 .left) (c .before .before .before .before .before .if2 .taken) (c .before .before .before .before .if3 .left) _ (c .before .before .before .item-mark .ensures) (c .before .before .if4 .left) (c .before .before .before .before .before .before .before .before .before .before .before .loop .inv .1 .room) (c .before .before .before .before .before .before .before .before .before .before .before .before .before .before .pre .0 .few) _ _ (c .before .unless-joined .ensures) (c .more .ensures .0) (c .more .ensures .1))
+loop-again-2 c = (search needs, entered (c .before .before .before .before .before .before .before .before .before .before .before .loop .inv .1) (c .before .before .before .before .before .before .before .before .before .before .loop-test .taken) _ (c .before .before .before .before .before .before .before .before .before .place-of .ensures) (c .before .before .before .before .before .before .before .if1 .left) (c .before .before .before .before .before .if2 .taken) (c .before .before .before .before .if3 .left) _ (c .before .before .before .mark-here .ensures) (c .before .before .if4 .left) (c .before .before .before .before .before .before .before .before .before .before .before .loop .inv .1 .room) (c .before .before .before .before .before .before .before .before .before .before .before .before .before .before .pre .0 .few) _ _ (c .before .unless-joined .ensures) (c .more .ensures .0) (c .more .ensures .1))
 
 sub-top : tie.Need-sub-top Inv-loop μ-loop
 sub-top c = let l = some-open (c .before .before .before .before .before .before .loop .inv .1) (c .before .before .before .before .before .loop-test .taken) _ (c .before .before .before .before .place-of .ensures) (c .before .before .if1 .left) (c .if2 .left) in search needs
@@ -152,8 +152,8 @@ note-lists-spec =
     shared-slice-read-if2
     same-length
     returns
-    add-item-mark
-    item-mark-requires
+    add-mark-here
+    mark-here-requires
     same-length-2
     returns-2
     unless-joined-requires
