@@ -99,7 +99,7 @@
  * Each call needs an output and a work memory of its own; what is only read may be shared. A call that is never gone on with (longjmp out of a
  * handler, a thread that is killed) may leave its work memory unwiped.
  *
- * STACK. Under 4 KiB: at most 3,424 bytes were measured, for lark_resolve_attention in either form, the caller's frame and memset's included, and 1,176
+ * STACK. Under 4 KiB: at most 3,424 bytes were measured, for lark_resolve_attention in either form, the caller's frame and memset's included, and 1,144
  * for any other call. Where memset is bound lazily its very first call takes some KiB more, for the dynamic linker; -Wl,-z,now avoids that.
  * docs/PERFORMANCE.md has every call.
  *
