@@ -7,15 +7,12 @@ use Rattle.list.proofs.chain.unless_joined.Reads as reads
 use Rattle.list.proofs.chain.unless_joined.Lts as lts
 use Rattle.list.proofs.chain.list_name.Reads as list-name-reads
 
--- src/chain.rt:112:9
 returns : tie.Need-returns
 returns c = search needs
 
--- src/chain.rt:114:5
 list-name-requires : tie.Need-list-name-requires
 list-name-requires c κs = search needs
 
--- src/chain.rt:108:1
 returns-2 : tie.Need-returns-2
 returns-2 c = cc
 
