@@ -21,7 +21,7 @@ use Rattle.heading.specs.Text.{WithTexts}
 use Rattle.list.specs.Lists.{lists}
 use Rattle.list.specs.Listing.{Listing}
 use Rattle.list.specs.Gathered.{Gathered, OneListWhereLinked}
-use Rattle.ledgerlark.specs.Answers.{AttentionAs, HeadingsAs, ListsAs}
+use Rattle.ledgerlark.specs.Answers.{AttentionBy, HeadingsBy, ListsBy}
 use Rattle.ledgerlark.specs.declared.resolve.LarkResolved.{LarkResolved}
 use Rattle.claims.specs.Records.{docOf, allEvents, Accepts}
 
@@ -35,7 +35,7 @@ pub record AttentionNests (profile : Profile) (h : Handed) (s : List ℕ) (out :
 abbrev pub AcceptedAttention : Type 0
 AcceptedAttention =
     (profile : Profile) (h : Handed) (s : List ℕ) (out work : List ℕ) (r : LarkResolved) (out′ work′ : List ℕ) →
-    AttentionAs profile h s out work r out′ work′ → r .number ≡ 0 → AttentionNests profile h s out r out′
+    AttentionBy profile h s out work r out′ work′ → r .number ≡ 0 → AttentionNests profile h s out r out′
 
 -- headings: the result is sound, at most one event deeper than a record may be, and its events outside headings are those of the record; in each heading
 -- stands what document 01's words say of its inner events, part by part
@@ -48,7 +48,7 @@ pub record HeadingsNest (h : Handed) (s out : List ℕ) (r : LarkResolved) (out�
 abbrev pub AcceptedHeadings : Type 0
 AcceptedHeadings =
     (h : Handed) (s : List ℕ) (out work : List ℕ) (r : LarkResolved) (out′ work′ : List ℕ) →
-    HeadingsAs h s out work r out′ work′ → r .number ≡ 0 → HeadingsNest h s out r out′
+    HeadingsBy h s out work r out′ work′ → r .number ≡ 0 → HeadingsNest h s out r out′
 
 -- lists: the result is sound, at most twice as deep as a record may be, and it is the record's events with lists added, each round an item; what is
 -- added is what document 01's words over event numbers say, and two items stand in one list exactly where a chain of neighbours links them
@@ -62,4 +62,4 @@ pub record ListsNest (h : Handed) (s out : List ℕ) (r : LarkResolved) (out′ 
 abbrev pub AcceptedLists : Type 0
 AcceptedLists =
     (h : Handed) (s : List ℕ) (out work : List ℕ) (r : LarkResolved) (out′ work′ : List ℕ) →
-    ListsAs h s out work r out′ work′ → r .number ≡ 0 → ListsNest h s out r out′
+    ListsBy h s out work r out′ work′ → r .number ≡ 0 → ListsNest h s out r out′

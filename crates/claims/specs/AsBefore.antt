@@ -36,7 +36,7 @@ use Rattle.runs.specs.Output.{replaced}
 use Rattle.attention.specs.Attention.{unlessOffended}
 use Rattle.attention.specs.declared.call.Answer.{Answer}
 use Rattle.attention.specs.declared.call.Answer.the-variants.{Resolved, Refused}
-use Rattle.ledgerlark.specs.Answers.{larkAttention, AttentionAs}
+use Rattle.ledgerlark.specs.Answers.{larkAttention, AttentionBy}
 use Rattle.ledgerlark.specs.declared.resolve.LarkResolved.{LarkResolved}
 use Rattle.claims.specs.Records.{docOf, allEvents}
 
@@ -121,8 +121,8 @@ Ascii doc = (at : ℕ) → at < length doc → getD doc at 0 < 128
 abbrev pub AnswersAsBefore : Type 0
 AnswersAsBefore =
     (profile : Profile) (h : Handed) (s : List ℕ) (out work : List ℕ) (r : LarkResolved) (out′ work′ : List ℕ) → Ascii (docOf h s) →
-    (AttentionAs profile h s out work r out′ work′ → AttentionBefore profile h s out work r out′ work′)
-    × (AttentionBefore profile h s out work r out′ work′ → AttentionAs profile h s out work r out′ work′)
+    (AttentionBy profile h s out work r out′ work′ → AttentionBefore profile h s out work r out′ work′)
+    × (AttentionBefore profile h s out work r out′ work′ → AttentionBy profile h s out work r out′ work′)
 
 -- what differs, computed: of `«_a_»` there was no group, since « was other bytes, and there is one now
 on-quotation : (matchingBefore crate 59 (194 ∷ 171 ∷ 95 ∷ 97 ∷ 95 ∷ 194 ∷ 187 ∷ []) (enter 1 2 ∷ exit 1 3 ∷ enter 1 4 ∷ exit 1 5 ∷ []) .groups ≡ [])

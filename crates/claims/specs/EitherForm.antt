@@ -13,11 +13,9 @@ use Rattle.record.specs.Form.{old, second}
 use Rattle.record.specs.Outcome.{onto}
 use Rattle.record.specs.Partners.{sectionIn, recordIn}
 use Rattle.record.specs.declared.event.Event.{Event}
-use Rattle.record.specs.declared.form.Handed.{Handed}
-use Rattle.record.specs.declared.form.Handed.the-variants.{Old, Second}
 use Rattle.partners.specs.EitherForm.{Writable, Alike}
 use Rattle.runs.specs.Rule.{Profile}
-use Rattle.ledgerlark.specs.Answers.{ReadAs, Read2As, AttentionAs, HeadingsAs, ListsAs}
+use Rattle.ledgerlark.specs.Answers.{ReadAs, Read2As, AttentionAs, Attention2As, HeadingsAs, Headings2As, ListsAs, Lists2As}
 use Rattle.ledgerlark.specs.declared.resolve.LarkReading.{LarkReading}
 use Rattle.ledgerlark.specs.declared.resolve.LarkReading2.{LarkReading2}
 use Rattle.ledgerlark.specs.declared.resolve.LarkResolved.{LarkResolved}
@@ -58,18 +56,19 @@ pub record SameInBoth (d e : ℕ) (out₁ out₂ : List ℕ) (r₁ r₂ : LarkRe
   pub no-room-in-second : r₂ .number ≡ 8 → (r₁ .number ≡ 8) ⊎ (r₁ .number ≡ 0)
   pub written : r₁ .number ≡ 0 → r₂ .number ≡ 0 → SameEvents out₁ out₂ out₁′ out₂′
 
--- of one of the three resolvers: `As` is its promise
-abbrev pub ResolvedInBoth : (Handed → List ℕ → List ℕ → List ℕ → LarkResolved → List ℕ → List ℕ → Type 0) → Type 0
-ResolvedInBoth As =
+-- of one of the three resolvers: `As` and `As2` are the promises of its calls
+abbrev pub ResolvedInBoth : (List ℕ → ℕ → List ℕ → List ℕ → LarkResolved → List ℕ → List ℕ → Type 0) →
+    (List ℕ → List ℕ → List ℕ → LarkResolved → List ℕ → List ℕ → Type 0) → Type 0
+ResolvedInBoth As As2 =
     (options : ℕ) (document : List ℕ) (es : List Event) (out₁ out₂ work₁ work₂ : List ℕ) (r₁ r₂ : LarkResolved) (out₁′ out₂′ work₁′ work₂′ : List ℕ) →
-    Writable document es → length work₁ ≡ length work₂ → As (Old options) (recordIn old options document es) out₁ work₁ r₁ out₁′ work₁′ →
-    As Second (recordIn second options document es) out₂ work₂ r₂ out₂′ work₂′ → SameInBoth (length document) (length es) out₁ out₂ r₁ r₂ out₁′ out₂′
+    Writable document es → length work₁ ≡ length work₂ → As (recordIn old options document es) options out₁ work₁ r₁ out₁′ work₁′ →
+    As2 (recordIn second options document es) out₂ work₂ r₂ out₂′ work₂′ → SameInBoth (length document) (length es) out₁ out₂ r₁ r₂ out₁′ out₂′
 
 abbrev pub AttentionInBoth : Type 0
-AttentionInBoth = (profile : Profile) → ResolvedInBoth (AttentionAs profile)
+AttentionInBoth = (profile : Profile) → ResolvedInBoth (AttentionAs profile) (Attention2As profile)
 
 abbrev pub HeadingsInBoth : Type 0
-HeadingsInBoth = ResolvedInBoth HeadingsAs
+HeadingsInBoth = ResolvedInBoth HeadingsAs Headings2As
 
 abbrev pub ListsInBoth : Type 0
-ListsInBoth = ResolvedInBoth ListsAs
+ListsInBoth = ResolvedInBoth ListsAs Lists2As

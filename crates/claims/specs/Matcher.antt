@@ -39,7 +39,7 @@ use Rattle.groups.specs.Containers.{NeverCrosses, OneContainer}
 use Rattle.output.specs.Accepted.{Accepted}
 use Rattle.output.specs.Tiling.{allPieces, holding, Marker}
 use Rattle.attention.specs.Start.{Cleared}
-use Rattle.ledgerlark.specs.Answers.{AttentionAs}
+use Rattle.ledgerlark.specs.Answers.{AttentionBy}
 use Rattle.ledgerlark.specs.declared.resolve.LarkResolved.{LarkResolved}
 use Rattle.slots.specs.Layout.{Room}
 use Rattle.loading.specs.Promise.{Loads}
@@ -73,7 +73,7 @@ pub record AsThePlainRule (profile : Profile) (h : Handed) (s : List ℕ) (out :
 abbrev pub AcceptedAsThePlainRule : Type 0
 AcceptedAsThePlainRule =
     (profile : Profile) (h : Handed) (s : List ℕ) (out work : List ℕ) (r : LarkResolved) (out′ work′ : List ℕ) →
-    AttentionAs profile h s out work r out′ work′ → r .number ≡ 0 → AsThePlainRule profile h s out r out′
+    AttentionBy profile h s out work r out′ work′ → r .number ≡ 0 → AsThePlainRule profile h s out r out′
 
 -- of an accepted record: no two groups cross; no group crosses a container, that is any pair of the record that is no run, and both its runs stand in
 -- one; each group is where its pieces are; and each marker byte of a run lies in exactly one piece of a group or one leftover, which hold no
@@ -91,7 +91,7 @@ pub record Nests (profile : Profile) (h : Handed) (s : List ℕ) : Type 0 where
 abbrev pub AcceptedNests : Type 0
 AcceptedNests =
     (profile : Profile) (h : Handed) (s : List ℕ) (out work : List ℕ) (r : LarkResolved) (out′ work′ : List ℕ) →
-    AttentionAs profile h s out work r out′ work′ → r .number ≡ 0 → Nests profile h s
+    AttentionBy profile h s out work r out′ work′ → r .number ≡ 0 → Nests profile h s
 
 -- the chained matcher forms the same groups in the same order, and tries exactly as many candidates: whatever runs the memory held before the first
 -- match, after it the memory holds the plain rule's groups of them in match order
@@ -120,7 +120,7 @@ AcceptedGroups =
 abbrev pub AcceptedHasRoom : Type 0
 AcceptedHasRoom =
     (profile : Profile) (h : Handed) (s : List ℕ) (out work : List ℕ) (r : LarkResolved) (out′ work′ : List ℕ) →
-    AttentionAs profile h s out work r out′ work′ → r .number ≡ 0 → (n : ℕ) (found : Found) (w w′ : List ℕ) →
+    AttentionBy profile h s out work r out′ work′ → r .number ≡ 0 → (n : ℕ) (found : Found) (w w′ : List ℕ) →
     Fresh w (begin profile (optionsOf h s) (docOf h s) (allEvents h s)) n → Answers (profile .rule (optionsOf h s)) w n found w′ → (found ≡ TooMany → ⊥)
 
 -- where the matcher stands after a run, as Positions.antt has it, the plain rule stands too: it has made as many groups, which the memory holds, and

@@ -26,7 +26,7 @@ use Rattle.runs.specs.Rule.{Profile}
 use Rattle.attention.specs.Attention.{attention}
 use Rattle.heading.specs.Headings.{headings}
 use Rattle.list.specs.Lists.{lists}
-use Rattle.ledgerlark.specs.Answers.{ReadAs, Read2As, AttentionAs, HeadingsAs, ListsAs, HeadedAs}
+use Rattle.ledgerlark.specs.Answers.{ReadAs, Read2As, AttentionBy, HeadingsBy, ListsBy, HeadedAs}
 use Rattle.ledgerlark.specs.declared.resolve.LarkReading.{LarkReading}
 use Rattle.ledgerlark.specs.declared.resolve.LarkReading2.{LarkReading2}
 use Rattle.ledgerlark.specs.declared.resolve.LarkResolved.{LarkResolved}
@@ -83,18 +83,18 @@ pub record ResolvedReadsBack (h : Handed) (made : Resolution) (s : List ℕ) (r 
 abbrev pub AttentionReadsBack : Type 0
 AttentionReadsBack =
     (profile : Profile) (h : Handed) (s : List ℕ) (out work : List ℕ) (r : LarkResolved) (out′ work′ : List ℕ) →
-    AttentionAs profile h s out work r out′ work′ → r .number ≡ 0 →
+    AttentionBy profile h s out work r out′ work′ → r .number ≡ 0 →
     ResolvedReadsBack h (attention profile (optionsOf h s) (docOf h s) (allEvents h s)) s r out′
 
 abbrev pub HeadingsReadBack : Type 0
 HeadingsReadBack =
     (h : Handed) (s : List ℕ) (out work : List ℕ) (r : LarkResolved) (out′ work′ : List ℕ) →
-    HeadingsAs h s out work r out′ work′ → r .number ≡ 0 → ResolvedReadsBack h (headings (allEvents h s)) s r out′
+    HeadingsBy h s out work r out′ work′ → r .number ≡ 0 → ResolvedReadsBack h (headings (allEvents h s)) s r out′
 
 abbrev pub ListsReadBack : Type 0
 ListsReadBack =
     (h : Handed) (s : List ℕ) (out work : List ℕ) (r : LarkResolved) (out′ work′ : List ℕ) →
-    ListsAs h s out work r out′ work′ → r .number ≡ 0 → ResolvedReadsBack h (lists (docOf h s) (allEvents h s)) s r out′
+    ListsBy h s out work r out′ work′ → r .number ≡ 0 → ResolvedReadsBack h (lists (docOf h s) (allEvents h s)) s r out′
 
 -- the heading reader's output, where it finds a heading: a record of the line. Its section is of the old form. Two of its events are open at most, so the
 -- depth allows it

@@ -30,7 +30,7 @@ use Rattle.heading.specs.Shape.{Broken as HeadingOffends}
 use Rattle.list.specs.Lists.{lists}
 use Rattle.list.specs.Promise as listsCall
 use Rattle.list.specs.Offence.{Offends as ItemOffends}
-use Rattle.ledgerlark.specs.Answers.{ReadAs, Read2As, AttentionAs, HeadingsAs, ListsAs}
+use Rattle.ledgerlark.specs.Answers.{ReadAs, Read2As, AttentionBy, HeadingsBy, ListsBy}
 use Rattle.ledgerlark.specs.declared.resolve.LarkReading.{LarkReading}
 use Rattle.ledgerlark.specs.declared.resolve.LarkReading2.{LarkReading2}
 use Rattle.ledgerlark.specs.declared.resolve.LarkResolved.{LarkResolved}
@@ -130,18 +130,18 @@ AttentionClaim =
     (profile : Profile) (h : Handed) (s : List ℕ) →
     Claim h s (RunOffends (docOf h s) (optionsOf h s) (allEvents h s)) (attention profile (optionsOf h s) (docOf h s) (allEvents h s))
     (length (outcome profile (optionsOf h s) (docOf h s) (allEvents h s) .groups)) (outcome profile (optionsOf h s) (docOf h s) (allEvents h s) .tried)
-    (AttentionAs profile h s) (λ outs works. bytesWritten (formOf h) (attentionCall.outcomeOf profile h s outs works))
+    (AttentionBy profile h s) (λ outs works. bytesWritten (formOf h) (attentionCall.outcomeOf profile h s outs works))
 
 -- lark_resolve_headings and lark_resolve_headings2: what offends is a heading
 abbrev pub HeadingsClaim : Type 0
 HeadingsClaim =
     (h : Handed) (s : List ℕ) →
-    Claim h s (HeadingOffends (allEvents h s)) (headings (allEvents h s)) 0 0 (HeadingsAs h s)
+    Claim h s (HeadingOffends (allEvents h s)) (headings (allEvents h s)) 0 0 (HeadingsBy h s)
     (λ outs works. bytesWritten (formOf h) (headingsCall.outcomeOf h s outs works))
 
 -- lark_resolve_lists and lark_resolve_lists2: what offends is an item
 abbrev pub ListsClaim : Type 0
 ListsClaim =
     (h : Handed) (s : List ℕ) →
-    Claim h s (ItemOffends (docOf h s) (allEvents h s)) (lists (docOf h s) (allEvents h s)) 0 0 (ListsAs h s)
+    Claim h s (ItemOffends (docOf h s) (allEvents h s)) (lists (docOf h s) (allEvents h s)) 0 0 (ListsBy h s)
     (λ outs works. bytesWritten (formOf h) (listsCall.outcomeOf h s outs works))

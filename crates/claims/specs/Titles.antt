@@ -20,7 +20,7 @@ use Rattle.scan.specs.Line.{lineOf}
 use Rattle.atx.specs.Heading.{isHeading, split, eventsFrom, headingEvents}
 use Rattle.atx.specs.Content.{content, contentFrom, contentTo}
 use Rattle.heading.specs.Headings.{withText, headings}
-use Rattle.ledgerlark.specs.Answers.{HeadingsAs, HeadedAs}
+use Rattle.ledgerlark.specs.Answers.{HeadingsBy, HeadedAs}
 use Rattle.ledgerlark.specs.declared.resolve.LarkResolved.{LarkResolved}
 use Rattle.ledgerlark.specs.declared.line.LarkHeaded.{LarkHeaded}
 use Rattle.claims.specs.Records.{resolved}
@@ -58,5 +58,5 @@ CallsReadTheStandard =
     (s : List ℕ) (options column : ℕ) (out : List ℕ) (r : LarkHeaded) (out′ : List ℕ) → HeadedAs s options column out r out′ → r .found ≡ 1 → r .events ≤ 2048 →
     (h : Handed) (options₂ : ℕ) (out₂ work : List ℕ) (r₂ : LarkResolved) (out₂′ work′ : List ℕ) → With h options₂ → options₂ ≤ 63 → 65536 ≤ length work →
     4 + formOf h .width * length (heading (lineOf s)) ≤ length out₂ →
-    HeadingsAs h (recordIn (formOf h) options₂ (lineOf s) (sectionAt out′ 0)) out₂ work r₂ out₂′ work′ →
+    HeadingsBy h (recordIn (formOf h) options₂ (lineOf s) (sectionAt out′ 0)) out₂ work r₂ out₂′ work′ →
     (r₂ ≡ resolved (length (heading (lineOf s))) 0 0) × (sectionAtIn (formOf h) out₂′ 0 ≡ heading (lineOf s))

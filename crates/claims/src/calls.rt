@@ -9,7 +9,7 @@ use ledgerlark::resolve::LarkReading2;
 use ledgerlark::resolve::LarkResolved;
 use record::form::Handed;
 ghost use Rattle.runs.specs.Rule.{crate};
-ghost use Rattle.ledgerlark.specs.Answers.{ReadAs, Read2As, AttentionAs, HeadingsAs, ListsAs, SpacesAs, ItemAs, GoingAs, HeadedAs};
+ghost use Rattle.ledgerlark.specs.Answers.{ReadAs, Read2As, AttentionAs, Attention2As, HeadingsAs, Headings2As, ListsAs, Lists2As, SpacesAs, ItemAs, GoingAs, HeadedAs};
 
 // What is claimed of `ReadAs` holds of `lark_read`; and so on below.
 pub fn read(s: &[u8], options: u32, work: &mut [u8]) -> LarkReading
@@ -19,19 +19,19 @@ pub fn read(s: &[u8], options: u32, work: &mut [u8]) -> LarkReading
 }
 
 pub fn resolve_attention(s: &[u8], options: u32, out: &mut [u8], work: &mut [u8]) -> LarkResolved
-    ensures { λ r. ⌜ AttentionAs crate (Handed.Old options) (now (s .entry)) (now (out .entry)) (now (work .entry)) r (now (out .exit)) (now (work .exit)) ⌝ }
+    ensures { λ r. ⌜ AttentionAs crate (now (s .entry)) options (now (out .entry)) (now (work .entry)) r (now (out .exit)) (now (work .exit)) ⌝ }
 {
     ledgerlark::resolve::lark_resolve_attention(s, options, out, work)
 }
 
 pub fn resolve_headings(s: &[u8], options: u32, out: &mut [u8], work: &mut [u8]) -> LarkResolved
-    ensures { λ r. ⌜ HeadingsAs (Handed.Old options) (now (s .entry)) (now (out .entry)) (now (work .entry)) r (now (out .exit)) (now (work .exit)) ⌝ }
+    ensures { λ r. ⌜ HeadingsAs (now (s .entry)) options (now (out .entry)) (now (work .entry)) r (now (out .exit)) (now (work .exit)) ⌝ }
 {
     ledgerlark::resolve::lark_resolve_headings(s, options, out, work)
 }
 
 pub fn resolve_lists(s: &[u8], options: u32, out: &mut [u8], work: &mut [u8]) -> LarkResolved
-    ensures { λ r. ⌜ ListsAs (Handed.Old options) (now (s .entry)) (now (out .entry)) (now (work .entry)) r (now (out .exit)) (now (work .exit)) ⌝ }
+    ensures { λ r. ⌜ ListsAs (now (s .entry)) options (now (out .entry)) (now (work .entry)) r (now (out .exit)) (now (work .exit)) ⌝ }
 {
     ledgerlark::resolve::lark_resolve_lists(s, options, out, work)
 }
@@ -43,19 +43,19 @@ pub fn read2(s: &[u8], work: &mut [u8]) -> LarkReading2
 }
 
 pub fn resolve_attention2(s: &[u8], out: &mut [u8], work: &mut [u8]) -> LarkResolved
-    ensures { λ r. ⌜ AttentionAs crate Handed.Second (now (s .entry)) (now (out .entry)) (now (work .entry)) r (now (out .exit)) (now (work .exit)) ⌝ }
+    ensures { λ r. ⌜ Attention2As crate (now (s .entry)) (now (out .entry)) (now (work .entry)) r (now (out .exit)) (now (work .exit)) ⌝ }
 {
     ledgerlark::resolve::lark_resolve_attention2(s, out, work)
 }
 
 pub fn resolve_headings2(s: &[u8], out: &mut [u8], work: &mut [u8]) -> LarkResolved
-    ensures { λ r. ⌜ HeadingsAs Handed.Second (now (s .entry)) (now (out .entry)) (now (work .entry)) r (now (out .exit)) (now (work .exit)) ⌝ }
+    ensures { λ r. ⌜ Headings2As (now (s .entry)) (now (out .entry)) (now (work .entry)) r (now (out .exit)) (now (work .exit)) ⌝ }
 {
     ledgerlark::resolve::lark_resolve_headings2(s, out, work)
 }
 
 pub fn resolve_lists2(s: &[u8], out: &mut [u8], work: &mut [u8]) -> LarkResolved
-    ensures { λ r. ⌜ ListsAs Handed.Second (now (s .entry)) (now (out .entry)) (now (work .entry)) r (now (out .exit)) (now (work .exit)) ⌝ }
+    ensures { λ r. ⌜ Lists2As (now (s .entry)) (now (out .entry)) (now (work .entry)) r (now (out .exit)) (now (work .exit)) ⌝ }
 {
     ledgerlark::resolve::lark_resolve_lists2(s, out, work)
 }

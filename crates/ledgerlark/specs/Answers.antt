@@ -138,16 +138,36 @@ abbrev pub Read2As : List ℕ → List ℕ → LarkReading2 → List ℕ → Typ
 Read2As s = ReadBy Second s (larkReading2 (optionsOf Second s))
 
 -- the calls that write, over any form: however the record is handed over. Attention is over any profile too; the contract of a call says which
-abbrev pub AttentionAs : Profile → Handed → List ℕ → List ℕ → List ℕ → LarkResolved → List ℕ → List ℕ → Type 0
-AttentionAs profile h s out work r out′ work′ =
+abbrev pub AttentionBy : Profile → Handed → List ℕ → List ℕ → List ℕ → LarkResolved → List ℕ → List ℕ → Type 0
+AttentionBy profile h s out work r out′ work′ =
     Writes (formOf h) (attention.outcomeOf profile h s) (λ (o : Outcome). larkAttention (attention.answerOf profile h s o)) out work r out′ work′
 
-abbrev pub HeadingsAs : Handed → List ℕ → List ℕ → List ℕ → LarkResolved → List ℕ → List ℕ → Type 0
-HeadingsAs h s out work r out′ work′ =
+abbrev pub HeadingsBy : Handed → List ℕ → List ℕ → List ℕ → LarkResolved → List ℕ → List ℕ → Type 0
+HeadingsBy h s out work r out′ work′ =
     Writes (formOf h) (heading.outcomeOf h s) (λ (o : Outcome). larkHeadings (heading.answerOf o)) out work r out′ work′
 
-abbrev pub ListsAs : Handed → List ℕ → List ℕ → List ℕ → LarkResolved → List ℕ → List ℕ → Type 0
-ListsAs h s out work r out′ work′ = Writes (formOf h) (list.outcomeOf h s) (λ (o : Outcome). larkLists (list.answerOf o)) out work r out′ work′
+abbrev pub ListsBy : Handed → List ℕ → List ℕ → List ℕ → LarkResolved → List ℕ → List ℕ → Type 0
+ListsBy h s out work r out′ work′ = Writes (formOf h) (list.outcomeOf h s) (λ (o : Outcome). larkLists (list.answerOf o)) out work r out′ work′
+
+-- the old form's calls, with options beside the record
+abbrev pub AttentionAs : Profile → List ℕ → ℕ → List ℕ → List ℕ → LarkResolved → List ℕ → List ℕ → Type 0
+AttentionAs profile s options = AttentionBy profile (Old options) s
+
+abbrev pub HeadingsAs : List ℕ → ℕ → List ℕ → List ℕ → LarkResolved → List ℕ → List ℕ → Type 0
+HeadingsAs s options = HeadingsBy (Old options) s
+
+abbrev pub ListsAs : List ℕ → ℕ → List ℕ → List ℕ → LarkResolved → List ℕ → List ℕ → Type 0
+ListsAs s options = ListsBy (Old options) s
+
+-- and form 2's
+abbrev pub Attention2As : Profile → List ℕ → List ℕ → List ℕ → LarkResolved → List ℕ → List ℕ → Type 0
+Attention2As profile = AttentionBy profile Second
+
+abbrev pub Headings2As : List ℕ → List ℕ → List ℕ → LarkResolved → List ℕ → List ℕ → Type 0
+Headings2As = HeadingsBy Second
+
+abbrev pub Lists2As : List ℕ → List ℕ → List ℕ → LarkResolved → List ℕ → List ℕ → Type 0
+Lists2As = ListsBy Second
 
 abbrev pub SpacesAs : List ℕ → ℕ → ℕ → ℕ → ℕ → LarkSpaces → Type 0
 SpacesAs s options column min max r = r ≡ larkSpaces (spacesOf s options column min max)

@@ -5,7 +5,7 @@ use record::form::Handed;
 use record::form::options_of;
 ghost use mathlib.Core.Path.{_≡_};
 ghost use Rattle.runs.specs.Rule.{crate};
-ghost use Rattle.ledgerlark.specs.Answers.{larkReading, larkReading2, larkAttention, larkHeadings, larkLists, ReadAs, Read2As, AttentionAs, HeadingsAs, ListsAs};
+ghost use Rattle.ledgerlark.specs.Answers.{larkReading, larkReading2, larkAttention, larkHeadings, larkLists, ReadAs, Read2As, AttentionAs, Attention2As, HeadingsAs, Headings2As, ListsAs, Lists2As};
 
 #[repr(C)]
 pub struct LarkReading {
@@ -178,7 +178,7 @@ pub extern "C" fn lark_resolve_attention(
     out: &mut [u8],
     work: &mut [u8],
 ) -> LarkResolved
-    ensures { λ r. ⌜ AttentionAs crate (Handed.Old options) (now (s .entry)) (now (out .entry)) (now (work .entry)) r (now (out .exit)) (now (work .exit)) ⌝ }
+    ensures { λ r. ⌜ AttentionAs crate (now (s .entry)) options (now (out .entry)) (now (work .entry)) r (now (out .exit)) (now (work .exit)) ⌝ }
 {
     attention_of(attention::call::resolve_attention(Handed::Old(options), s, out, work))
 }
@@ -191,7 +191,7 @@ pub extern "C" fn lark_resolve_headings(
     out: &mut [u8],
     work: &mut [u8],
 ) -> LarkResolved
-    ensures { λ r. ⌜ HeadingsAs (Handed.Old options) (now (s .entry)) (now (out .entry)) (now (work .entry)) r (now (out .exit)) (now (work .exit)) ⌝ }
+    ensures { λ r. ⌜ HeadingsAs (now (s .entry)) options (now (out .entry)) (now (work .entry)) r (now (out .exit)) (now (work .exit)) ⌝ }
 {
     headings_of(heading::resolve::resolve_headings(Handed::Old(options), s, out, work))
 }
@@ -204,7 +204,7 @@ pub extern "C" fn lark_resolve_lists(
     out: &mut [u8],
     work: &mut [u8],
 ) -> LarkResolved
-    ensures { λ r. ⌜ ListsAs (Handed.Old options) (now (s .entry)) (now (out .entry)) (now (work .entry)) r (now (out .exit)) (now (work .exit)) ⌝ }
+    ensures { λ r. ⌜ ListsAs (now (s .entry)) options (now (out .entry)) (now (work .entry)) r (now (out .exit)) (now (work .exit)) ⌝ }
 {
     lists_of(list::call::resolve_lists(Handed::Old(options), s, out, work))
 }
@@ -222,21 +222,21 @@ pub extern "C" fn lark_read2(s: &[u8], work: &mut [u8]) -> LarkReading2
 
 #[no_mangle]
 pub extern "C" fn lark_resolve_attention2(s: &[u8], out: &mut [u8], work: &mut [u8]) -> LarkResolved
-    ensures { λ r. ⌜ AttentionAs crate Handed.Second (now (s .entry)) (now (out .entry)) (now (work .entry)) r (now (out .exit)) (now (work .exit)) ⌝ }
+    ensures { λ r. ⌜ Attention2As crate (now (s .entry)) (now (out .entry)) (now (work .entry)) r (now (out .exit)) (now (work .exit)) ⌝ }
 {
     attention_of(attention::call::resolve_attention(Handed::Second, s, out, work))
 }
 
 #[no_mangle]
 pub extern "C" fn lark_resolve_headings2(s: &[u8], out: &mut [u8], work: &mut [u8]) -> LarkResolved
-    ensures { λ r. ⌜ HeadingsAs Handed.Second (now (s .entry)) (now (out .entry)) (now (work .entry)) r (now (out .exit)) (now (work .exit)) ⌝ }
+    ensures { λ r. ⌜ Headings2As (now (s .entry)) (now (out .entry)) (now (work .entry)) r (now (out .exit)) (now (work .exit)) ⌝ }
 {
     headings_of(heading::resolve::resolve_headings(Handed::Second, s, out, work))
 }
 
 #[no_mangle]
 pub extern "C" fn lark_resolve_lists2(s: &[u8], out: &mut [u8], work: &mut [u8]) -> LarkResolved
-    ensures { λ r. ⌜ ListsAs Handed.Second (now (s .entry)) (now (out .entry)) (now (work .entry)) r (now (out .exit)) (now (work .exit)) ⌝ }
+    ensures { λ r. ⌜ Lists2As (now (s .entry)) (now (out .entry)) (now (work .entry)) r (now (out .exit)) (now (work .exit)) ⌝ }
 {
     lists_of(list::call::resolve_lists(Handed::Second, s, out, work))
 }

@@ -10,6 +10,7 @@ pub mod Formed
 pub mod Names
 pub mod Events
 pub mod Whole
+pub mod Front
 pub mod Good
 pub mod Soundness
 pub mod Depth

@@ -3,14 +3,16 @@
 use mathlib.Core.Path.{_≡_, refl}
 use mathlib.Core.List.{List, [], _∷_, _++_, map}
 use Prim.Native.Nat.{ℕ, _/_, _%_}
-use lib.ListN.{getD}
+use lib.ListN.{length, getD}
 use Rattle.record.specs.Choice.{choose, and}
 use Rattle.record.specs.Bytes.{u32At, u32Bytes}
 use Rattle.record.specs.Form.{old}
 use Rattle.record.specs.Event.{storedAt, enter, exit, flat, allStoredAt}
+use Rattle.record.specs.Partners.{flatWith}
 use Rattle.record.specs.Stack.{fitsOpen, after}
 use Rattle.record.specs.Sound.{placed}
 use Rattle.record.specs.Check.{refuse, countAt, firstReturn, formed, paired, truly, judge, insideOf, endOf, eventCountOf, checkedIn, fronted, admitted}
+use Rattle.record.specs.declared.event.Event.{Event}
 use Rattle.record.specs.declared.form.Handed.the-variants.{Second}
 use Rattle.record.specs.declared.check.Reading.{Reading}
 use Rattle.record.specs.declared.check.Reading.the-variants.{Good}
@@ -60,6 +62,10 @@ pub computed : map (λ (c : Case). checkedIn old (c .bytes)) cases ≡ map (λ (
 unfolding cases flat checkedIn countAt eventCountOf endOf insideOf firstReturn allStoredAt judge paired truly formed placed fitsOpen after choose and
 computed = refl
 
+-- a record of form 2 without a document: some events, and the number that each carries
+abbrev pub carrying : List Event → List ℕ → List ℕ
+carrying es numbers = u32Bytes 1 ++ (0 ∷ u32Bytes 0 ++ u32Bytes (length es) ++ flatWith es numbers)
+
 -- form 2: the first section, what it does to the places behind it, and partner numbers
 unfoldable pub fronts : List Case
 fronts =
@@ -76,12 +82,23 @@ fronts =
     ∷ case (u32Bytes 1 ++ (0 ∷ u32Bytes 0)) (refuse 3 9)
     ∷ case (u32Bytes 1 ++ (0 ∷ u32Bytes 0 ++ u32Bytes 0 ++ (0 ∷ []))) (refuse 3 13)
     -- a pair that is true; the enter's number untrue; the exit's; an enter left open, whatever its number
-    ∷ case (u32Bytes 1 ++ (0 ∷ u32Bytes 0 ++ u32Bytes 2 ++ flat (enter 0 0 ∷ []) ++ u32Bytes 1 ++ flat (exit 0 0 ∷ []) ++ u32Bytes 0)) (Good 0 2)
-    ∷ case (u32Bytes 1 ++ (0 ∷ u32Bytes 0 ++ u32Bytes 2 ++ flat (enter 0 0 ∷ []) ++ u32Bytes 0 ++ flat (exit 0 0 ∷ []) ++ u32Bytes 0)) (refuse 5 25)
-    ∷ case (u32Bytes 1 ++ (0 ∷ u32Bytes 0 ++ u32Bytes 2 ++ flat (enter 0 0 ∷ []) ++ u32Bytes 1 ++ flat (exit 0 0 ∷ []) ++ u32Bytes 1)) (refuse 5 25)
-    ∷ case (u32Bytes 1 ++ (0 ∷ u32Bytes 0 ++ u32Bytes 1 ++ flat (enter 0 0 ∷ []) ++ u32Bytes 0)) (refuse 5 25)
+    ∷ case (carrying (enter 0 0 ∷ exit 0 0 ∷ []) (1 ∷ 0 ∷ [])) (Good 0 2)
+    ∷ case (carrying (enter 0 0 ∷ exit 0 0 ∷ []) (0 ∷ 0 ∷ [])) (refuse 5 25)
+    ∷ case (carrying (enter 0 0 ∷ exit 0 0 ∷ []) (1 ∷ 1 ∷ [])) (refuse 5 25)
+    ∷ case (carrying (enter 0 0 ∷ []) (0 ∷ [])) (refuse 5 25)
+    -- true but for a higher byte
+    ∷ case (carrying (enter 0 0 ∷ exit 0 0 ∷ []) (257 ∷ 0 ∷ [])) (refuse 5 25)
+    ∷ case (carrying (enter 0 0 ∷ exit 0 0 ∷ []) (65537 ∷ 0 ∷ [])) (refuse 5 25)
+    ∷ case (carrying (enter 0 0 ∷ exit 0 0 ∷ []) (1 ∷ 16777216 ∷ [])) (refuse 5 25)
+    -- the second of two pairs untrue; of a pair within another the inner one, and the outer one, which is found at its exit
+    ∷ case (carrying (enter 0 0 ∷ exit 0 0 ∷ enter 0 0 ∷ exit 0 0 ∷ []) (1 ∷ 0 ∷ 3 ∷ 0 ∷ [])) (refuse 5 49)
+    ∷ case (carrying (enter 0 0 ∷ enter 0 0 ∷ exit 0 0 ∷ exit 0 0 ∷ []) (3 ∷ 3 ∷ 1 ∷ 0 ∷ [])) (refuse 5 37)
+    ∷ case (carrying (enter 0 0 ∷ enter 0 0 ∷ exit 0 0 ∷ exit 0 0 ∷ []) (2 ∷ 2 ∷ 1 ∷ 0 ∷ [])) (refuse 5 49)
+    -- an untrue pair and then a name over 24; and that name within an untrue pair
+    ∷ case (carrying (enter 0 0 ∷ exit 0 0 ∷ enter 25 0 ∷ exit 25 0 ∷ []) (9 ∷ 0 ∷ 3 ∷ 2 ∷ [])) (refuse 5 25)
+    ∷ case (carrying (enter 0 0 ∷ enter 25 0 ∷ exit 25 0 ∷ exit 0 0 ∷ []) (9 ∷ 2 ∷ 1 ∷ 0 ∷ [])) (refuse 5 25)
     ∷ []
 
 pub fronts-computed : map (λ (c : Case). admitted Second (c .bytes) 65536) fronts ≡ map (λ (c : Case). c .found) fronts
-unfolding fronts flat admitted fronted checkedIn countAt eventCountOf endOf insideOf firstReturn allStoredAt judge paired truly formed placed fitsOpen after choose and
+unfolding fronts flatWith admitted fronted checkedIn countAt eventCountOf endOf insideOf firstReturn allStoredAt judge paired truly formed placed fitsOpen after choose and
 fronts-computed = refl

@@ -10,6 +10,7 @@ pub mod Partners
 pub mod Sound
 pub mod Good
 pub mod Check
+pub mod Front
 pub mod ReadsBack
 pub mod Order
 pub mod Rows
