@@ -7,7 +7,6 @@ use ledgerlark::line::LarkSpaces;
 use ledgerlark::resolve::LarkReading;
 use ledgerlark::resolve::LarkReading2;
 use ledgerlark::resolve::LarkResolved;
-use record::form::Handed;
 ghost use Rattle.runs.specs.Rule.{crate};
 ghost use Rattle.ledgerlark.specs.Answers.{ReadAs, Read2As, AttentionAs, Attention2As, HeadingsAs, Headings2As, ListsAs, Lists2As, SpacesAs, ItemAs, GoingAs, HeadedAs};
 

@@ -1,12 +1,12 @@
 -- Nothing is found exactly where a record may hold the document and the events.
 -- Assumes nothing.
-use mathlib.Core.Path.{_≡_, refl, ap, _∙_}
+use mathlib.Core.Path.{_≡_, refl}
 use mathlib.Core.Bool.{Bool, true, false}
 use mathlib.Core.List.{List, [], _∷_}
-use Prim.Native.Nat.{ℕ, zero, suc, _+_, _≤_, _<_}
+use Prim.Native.Nat.{ℕ, _+_, _≤_}
 use native.Mathlib.Omega.{arith}
-use lib.ListN.{length, getD}
-use borrow.Author.Tests.{ne-eqb, le-ltb, ltb-false}
+use lib.ListN.{length}
+use borrow.Author.Tests.{le-ltb, ltb-false}
 use Rattle.record.specs.Check.{firstReturn}
 use Rattle.record.specs.Choice.{choose}
 use Rattle.record.specs.ReadsBack.{Holdable}
@@ -14,7 +14,8 @@ use Rattle.record.specs.Sound.{soundFrom}
 use Rattle.record.specs.Stack.{after}
 use Rattle.record.specs.declared.event.Event.{Event}
 use Rattle.record.proofs.Bools.{and-left, and-right, and-both}
-use Rattle.record.proofs.Good.{none-returned}
+use Rattle.record.proofs.Chosen.{first-side}
+use Rattle.record.proofs.Good.{none-returned, passes-all}
 use Rattle.record.proofs.ReadsBack.{sound-storable}
 use Rattle.partners.specs.EitherForm.{Finding, nothing, brokenFrom, found, Writable, NothingFound}
 
@@ -28,22 +29,6 @@ writable {document} {es} h =
       event-count = omega arith;
       places = sound-storable 64 (length document) 0 [] es (h .sound-events) (omega arith);
     }
-
--- a scan that meets no carriage return ends behind the last byte
-passes-all : (n : ℕ) (s : List ℕ) (at : ℕ) → ((k : ℕ) → k < n → getD s (at + k) 0 ≡ 13 → ⊥) → firstReturn n s at ≡ at + n
-unfolding firstReturn choose
-passes-all zero s at f = omega arith
-passes-all (suc n) s at f =
-    let z : at + 0 ≡ at = omega arith in
-    let no : getD s at 0 ≡ 13 → ⊥ = λ q. f 0 (omega arith) (ap (λ (m : ℕ). getD s m 0) z ∙ q) in
-    let there : at + 1 + n ≡ at + suc n = omega arith in
-    let more : (k : ℕ) → k < n → getD s (at + 1 + k) 0 ≡ 13 → ⊥ =
-    λ k h q. let y : at + suc k ≡ at + 1 + k = omega arith in f (suc k) (omega arith) (ap (λ (m : ℕ). getD s m 0) y ∙ q) in
-    rw (ne-eqb _ _ no) (passes-all n s (at + 1) more ∙ there)
-
-first-side : (b : Bool) (x y z : Finding) → b ≡ true → x ≡ z → choose b x y ≡ z
-unfolding choose
-first-side b x y z p q = rw p q
 
 -- a choice that comes to nothing, one side of which is a finding, is its other side
 passed : (b : Bool) (x y : Finding) → (y ≡ nothing → ⊥) → choose b x y ≡ nothing → (b ≡ true) × (x ≡ nothing)

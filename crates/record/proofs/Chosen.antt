@@ -1,4 +1,4 @@
--- A choice read backwards: which side was taken, and why.
+-- A choice: which side is taken, and read backwards which was, and why.
 -- Assumes nothing.
 use mathlib.Core.Path.{_≡_, refl}
 use mathlib.Core.Bool.{Bool, true, false}
@@ -9,3 +9,11 @@ pub chosen : {A : Type 0} (b : Bool) (x y r : A) → r ≡ choose b x y → ((b 
 unfolding choose
 chosen true x y r q = inl (refl, q)
 chosen false x y r q = inr (refl, q)
+
+pub first-side : {A : Type 0} (b : Bool) (x y z : A) → b ≡ true → x ≡ z → choose b x y ≡ z
+unfolding choose
+first-side b x y z q h = rw q h
+
+pub second-side : {A : Type 0} (b : Bool) (x y z : A) → b ≡ false → y ≡ z → choose b x y ≡ z
+unfolding choose
+second-side b x y z q h = rw q h

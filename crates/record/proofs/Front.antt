@@ -1,18 +1,15 @@
 -- What stands before a record's document, by its bytes.
 -- Assumes nothing.
-use Prim.Native.Nat.{ℕ, zero, suc, _+_, _*_, _≤_, _<_}
+use Prim.Native.Nat.{ℕ, _+_, _*_}
 use native.Mathlib.Omega.{arith}
 use mathlib.Core.Path.{_≡_, refl, sym, _∙_}
 use mathlib.Core.List.{List, [], _∷_}
-use lib.ListN.{length}
-use borrow.Author.Tests.{lt-ltb}
 use Rattle.record.specs.Bytes.{u32At}
-use Rattle.record.specs.Choice.{choose}
-use Rattle.record.specs.Check.{refuse, checkedIn, fronted}
+use Rattle.record.specs.Check.{checkedIn}
 use Rattle.record.specs.Front.{FirstSectionByBytes, OptionsOver}
 use Rattle.record.specs.Handed.{formOf}
 use Rattle.record.specs.declared.form.Handed.the-variants.{Old, Second}
-use Rattle.record.proofs.Whole.{short-count, wrong-count, no-options, wrong-options, enough-work}
+use Rattle.record.proofs.Whole.{options-over, short-count, wrong-count, no-options, wrong-options, enough-work}
 
 -- of four bytes that make 1, the lowest is 1
 bytes-of-one : (a b c d : ℕ) (rest : List ℕ) → u32At (a ∷ b ∷ c ∷ d ∷ rest) 0 ≡ 1 → a ∷ b ∷ c ∷ d ∷ [] ≡ 1 ∷ 0 ∷ 0 ∷ 0 ∷ []
@@ -35,7 +32,5 @@ first-section-by-bytes works enough =
           sym (wrong-options (1 ∷ 0 ∷ 0 ∷ 0 ∷ options ∷ rest) _ (omega arith) 1 refl refl (omega arith) h ∙ enough-work Second _ works enough);
     }
 
-pub options-over : OptionsOver
-unfolding fronted choose
-options-over options s works enough h =
-    sym (enough-work (Old options) s works enough) ∙ rw (lt-ltb 63 options h)
+pub beside-over : OptionsOver
+beside-over options s works enough h = sym (options-over s _ options h ∙ enough-work (Old options) s works enough)

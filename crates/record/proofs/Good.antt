@@ -32,12 +32,12 @@ never : (n p d e : ℕ) → refuse n p ≡ Good d e → ⊥
 never n p d e q = let z : _≡_ {A = ℕ} 0 1 = cc in omega arith
 
 -- a choice that is `Good`, with a refusal as its other side, is its first side, and its test held
-held-test : (b : Bool) (x : Reading) (n p d e : ℕ) → choose b x (refuse n p) ≡ Good d e → b ≡ true
+pub held-test : (b : Bool) (x : Reading) (n p d e : ℕ) → choose b x (refuse n p) ≡ Good d e → b ≡ true
 unfolding choose
 held-test true x n p d e q = refl
 held-test false x n p d e q = absurd (never n p d e q)
 
-held-side : (b : Bool) (x : Reading) (n p d e : ℕ) → choose b x (refuse n p) ≡ Good d e → x ≡ Good d e
+pub held-side : (b : Bool) (x : Reading) (n p d e : ℕ) → choose b x (refuse n p) ≡ Good d e → x ≡ Good d e
 unfolding choose
 held-side true x n p d e q = q
 held-side false x n p d e q = absurd (never n p d e q)
@@ -85,13 +85,13 @@ judged-zeros w mates (suc n) s d i at last held opens good a b q (suc k) h =
     (judged-zeros w mates n s d (i + 1) (at + w) (u32At s (at + 4)) (after (storedAt s at .what) (getD s (at + 1) 0) held) (after (storedAt s at .what) i opens) good a b (held-side _ _ _ _ _ _ q) k (omega arith))
 
 -- and each exit and its enter carry each other's number, where events carry any
-true-mates : (w a b i k : ℕ) → paired w a b i k ≡ true → 12 ≤ w → (a ≡ i) × (b ≡ k)
+pub true-mates : (w a b i k : ℕ) → paired w a b i k ≡ true → 12 ≤ w → (a ≡ i) × (b ≡ k)
 unfolding paired choose
 true-mates w a b i k q h =
     let t : and (eqb a i) (eqb b k) ≡ true = rw (le-ltb w 12 h) at q in
     (eqb-true _ _ (and-left _ _ t), eqb-true _ _ (and-right _ _ t))
 
-truly-mates : (w : ℕ) (mates : ℕ → ℕ) (e : Event) (k : ℕ) (opens : List ℕ) → truly w mates e k opens ≡ true → 12 ≤ w → (e .kind ≡ 0 → ⊥) →
+pub truly-mates : (w : ℕ) (mates : ℕ → ℕ) (e : Event) (k : ℕ) (opens : List ℕ) → truly w mates e k opens ≡ true → 12 ≤ w → (e .kind ≡ 0 → ⊥) →
     (mates k ≡ innermostOf opens) × (mates (innermostOf opens) ≡ k)
 unfolding truly choose
 truly-mates w mates e k opens q h z = true-mates w (mates k) (mates (innermostOf opens)) (innermostOf opens) k (rw (ne-eqb (e .kind) 0 z) at q) h
@@ -129,6 +129,18 @@ none-returned (suc n) s at h zero l e =
 none-returned (suc n) s at h (suc k) l e =
     let z : at + suc k ≡ at + 1 + k = omega arith in
     none-returned n s (at + 1) (none-by _ _ _ _ h .1) k (omega arith) (ap (λ (m : ℕ). getD s m 0) (sym z) ∙ e)
+
+-- a scan that meets no carriage return ends behind the last byte
+pub passes-all : (n : ℕ) (s : List ℕ) (at : ℕ) → ((k : ℕ) → k < n → getD s (at + k) 0 ≡ 13 → ⊥) → firstReturn n s at ≡ at + n
+unfolding firstReturn choose
+passes-all zero s at f = omega arith
+passes-all (suc n) s at f =
+    let z : at + 0 ≡ at = omega arith in
+    let no : getD s at 0 ≡ 13 → ⊥ = λ q. f 0 (omega arith) (ap (λ (m : ℕ). getD s m 0) z ∙ q) in
+    let there : at + 1 + n ≡ at + suc n = omega arith in
+    let more : (k : ℕ) → k < n → getD s (at + 1 + k) 0 ≡ 13 → ⊥ =
+    λ k h q. let y : at + suc k ≡ at + 1 + k = omega arith in f (suc k) (omega arith) (ap (λ (m : ℕ). getD s m 0) y ∙ q) in
+    rw (ne-eqb _ _ no) (passes-all n s (at + 1) more ∙ there)
 
 good-end : (f : Form) (s : List ℕ) (d′ e′ d e : ℕ) → Fitted s (f .front) 16384 1 d′ → Fitted s (4 + f .front + d′) 2048 (f .width) e′ → endOf f s d′ e′ ≡ Good d e → Known f → GoodIn f s d e
 unfolding endOf insideOf eventsIn

@@ -12,6 +12,7 @@ pub mod Events
 pub mod Whole
 pub mod Front
 pub mod Good
+pub mod Untrue
 pub mod Soundness
 pub mod Depth
 pub mod Pairs

@@ -11,6 +11,7 @@ pub mod Sound
 pub mod Good
 pub mod Check
 pub mod Front
+pub mod Untrue
 pub mod ReadsBack
 pub mod Order
 pub mod Rows
