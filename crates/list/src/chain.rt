@@ -2,7 +2,7 @@
 //
 // An item's mark is known where it enters, and is kept until its exit on a stack of 64. At its exit a look onward finds the neighbouring
 // item: it passes only pairs that hold no item, so that no event is passed by two such looks, and the item that it finds is the next one
-// to enter. Its mark is carried there, so that no item is read twice, with a bool that says whether the two have one mark.
+// to enter. Its mark is carried there, so that it is not read again, with a bool that says whether the two have one mark.
 
 use crate::item::item_mark;
 use record::form::Form;

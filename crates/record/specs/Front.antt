@@ -8,7 +8,7 @@ use lib.ListN.{length}
 use Rattle.record.specs.Check.{refuse, admitted}
 use Rattle.record.specs.declared.form.Handed.the-variants.{Old, Second}
 
--- form 2, with work memory enough: no count; a count that is not 1, whatever follows; none behind it; an option byte over 63, whatever follows
+-- form 2, with work memory enough: no count; a count that is not 1, whatever follows; the count 1 and nothing behind it; an option byte over 63, whatever follows
 pub record FirstSection (works : ℕ) : Type 0 where
   pub no-count : (s : List ℕ) → length s < 4 → admitted Second s works ≡ refuse 3 0
   pub other-count : (a b c d : ℕ) (rest : List ℕ) → (a ∷ b ∷ c ∷ d ∷ [] ≡ 1 ∷ 0 ∷ 0 ∷ 0 ∷ [] → ⊥) →

@@ -23,11 +23,11 @@ pub record Renumbered (d e : ℕ) (t s : List ℕ) : Type 0 where
   pub as-long : length s ≡ length t
   pub else-same : (i : ℕ) → ((k j : ℕ) → k < e → j < 4 → i ≡ 13 + d + 12 * k + 8 + j → ⊥) → getD s i 0 ≡ getD t i 0
 
--- event k has its number, and the event of that number, which is its partner, has its own
+-- in s event k carries the number that it has in t, and so does its partner, which is the event of that number
 abbrev pub PairKept : ℕ → List ℕ → List ℕ → ℕ → Type 0
 PairKept d t s k = (numberOf d s k ≡ numberOf d t k) × (numberOf d s (numberOf d t k) ≡ numberOf d t (numberOf d t k))
 
--- of the exits, whose kinds are not 0, the first of which this is not so
+-- k is the first exit of which this is not so. An exit is an event whose kind is not 0: the record t is good
 pub record FirstUntrue (d e : ℕ) (t s : List ℕ) (k : ℕ) : Type 0 where
   pub inside : k < e
   pub exits : kindOf d t k ≡ 0 → ⊥
