@@ -40,7 +40,6 @@ check: $(BUILT)
 	LARK_ARCHIVE='$(ARCHIVE)' tests/run
 	tests/script
 	tests/lark
-	LARK_ARCHIVE='$(ARCHIVE)' tests/archive
 
 # What stands for itself in the second part of sed's `s|..|..|`.
 for_sed = $(subst |,\|,$(subst &,\&,$(subst \,\\,$1)))

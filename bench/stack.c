@@ -71,8 +71,6 @@ static void attention2(void) { refused = lark_resolve_attention2(record2.bytes, 
 static void resolve_headings2(void) { refused = lark_resolve_headings2(record2.bytes, record2.length, out, OUT, work, WORK).number; }
 static void lists2(void) { refused = lark_resolve_lists2(record2.bytes, record2.length, out, OUT, work, WORK).number; }
 static void reads2(void) { refused = lark_read2(record2.bytes, record2.length, work, WORK).number; }
-static void forward(void) { refused = lark_move_forward(record.bytes, record.length, OPTIONS, out, OUT, work, WORK).number; }
-static void back(void) { refused = lark_move_back(record2.bytes, record2.length, out, OUT, work, WORK).number; }
 static void spaces(void) { answered = lark_space_or_tab(line, sizeof line, OPTIONS, 0, 0, 9999).found; }
 static void item(void) { answered = lark_list_item(line, sizeof line, OPTIONS, 0, 0).found; }
 static void going(void) { answered = lark_continuation(line, sizeof line, OPTIONS, 0, 2, 0, '-').found; }
@@ -112,8 +110,6 @@ int main(void) {
                  {"lark_resolve_attention2", wide_runs, attention2, 0},
                  {"lark_resolve_headings2", headings, resolve_headings2, 0},
                  {"lark_resolve_lists2", items, lists2, 0},
-                 {"lark_move_forward", items, forward, 0},
-                 {"lark_move_back", items, back, 0},
                  {"lark_space_or_tab", blanks, spaces, 1},
                  {"lark_list_item", digits, item, 1},
                  {"lark_continuation", blanks, going, 1},

@@ -1,6 +1,6 @@
 /* Ledgerlark: Markdown resolved over records of events.
  *
- * Fourteen calls, all there is to the library. It allocates nothing, keeps nothing between calls and calls nothing of yours. Everything it
+ * Twelve calls, all there is to the library. It allocates nothing, keeps nothing between calls and calls nothing of yours. Everything it
  * reads and writes is lent to it for the time of one call. For C99 and C++, where no call throws.
  *
  *     lark_read               is this a good record?
@@ -9,8 +9,6 @@
  *     lark_resolve_lists      neighbouring list items get a list round them
  *     lark_read2, lark_resolve_attention2, lark_resolve_headings2, lark_resolve_lists2
  *                             the same for a record of form 2
- *     lark_move_forward       an old record and its options become a record of form 2
- *     lark_move_back          a record of form 2 becomes an old one, and its options are told
  *     lark_space_or_tab       with how many columns of spaces and tabs does a line begin?
  *     lark_list_item          does a list item start on this line?
  *     lark_continuation       does this line go on with a list item?
@@ -23,7 +21,7 @@
  *     count E, then E events of 8 bytes: kind, name, 0, 0, place
  *
  * The kind is LARK_ENTER or LARK_EXIT, the name one of LARK_NAME_.., the place an offset in the document (4 bytes). Places never fall, and
- * each exit closes the innermost event that is open. A SECTION, which is what a resolver writes, is the second of these two lines alone: count
+ * each exit closes the innermost event that is open. A SECTION, which is what a call writes, is the second of these two lines alone: count
  * and events. Event i of a section stands at 4 + 8 * i; event i of a record at 8 + D + 8 * i.
  *
  * FORM 2 of a record has its options in it, and in each event the number of its PARTNER: an enter has that of its exit, an exit that of its enter.
@@ -36,20 +34,9 @@
  *
  *     struct lark_event2 matching = lark_event_at2(out, event.partner);
  *
- * The four calls whose names end in 2 and lark_move_back take this form, with no options beside it. What a resolver of these writes is its last line:
- * event i of that section stands at 4 + 12 * i, and its partner is numbered in that section and not in the record. Event i of a record stands at
- * 13 + D + 12 * i. All else, limits included, is as in the old form.
- *
- * FROM ONE FORM TO THE OTHER. A move writes a whole record: the same document and the same events in the other form. An archive is moved record by
- * record, in any order. Forward, each is given the options that it was resolved with so far:
- *
- *     struct lark_moved moved = lark_move_forward(old, old_length, options, out, sizeof out, work, sizeof work);
- *     if (moved.number == LARK_ACCEPTED) store(out, moved.bytes);
- *
- * Back, the old form has no place for them. So a desk that goes back keeps `moved.options` beside the old record. Nothing is lost on the way: forward
- * and then back gives the same bytes and options, back and then forward the same bytes. What is not a good record of its form is refused as its reader
- * refuses it, and can stay in the archive as it is. No bytes are a good record in both forms: a record that was moved already is refused by the same
- * move, so that a run over an archive can be begun again, and the two readers tell the forms of a mixed one apart.
+ * The four calls whose names end in 2 take this form, with no options beside it. What they write is its last line: event i of that section stands
+ * at 4 + 12 * i, and its partner is numbered in that section and not in the record. Event i of a record stands at 13 + D + 12 * i. All else, limits
+ * included, is as in the old form.
  *
  * YOU BRING THE EVENTS. The library has no tokenizer: where the runs, headings and items of a document are comes from you, in part by the line
  * readers. A record is begun with its document, in a buffer of yours, and gets its events one by one:
@@ -93,9 +80,8 @@
  * empty slice. NULL with another length is not allowed, nor is a length that passes the end of your memory: the library cannot see either.
  *
  * MEMORY. The calls on a record need LARK_WORK_BYTES of work memory; what it holds before does not matter. LARK_OUT_BYTES of output are enough for
- * every call, LARK_OUT2_BYTES for one that writes a section of form 2, LARK_RECORD2_BYTES for a move in either direction; less is enough wherever
- * the section or the moved record fits. Every call wipes all the work memory that it is lent, however much, and takes time for it: more than
- * LARK_WORK_BYTES gains nothing. More output costs nothing.
+ * every call, LARK_OUT2_BYTES for one that writes events of form 2; less is enough wherever the section fits. Every call wipes all the work memory
+ * that it is lent, however much, and takes time for it: more than LARK_WORK_BYTES gains nothing. More output costs nothing.
  *
  * ANSWERS. An answer is a struct by value. `number` is 0 if the call was accepted. Otherwise it is one of LARK_REFUSED_.., `place` says
  * where, and all other fields are 0. If several refusals apply, the lowest number is given, and for 3, 4 and 5 its earliest place. Places are
@@ -105,8 +91,8 @@
  * nothing is written. `found` is 1 where the thing asked for is there. After a refusal `found` is 0 too, so look at `number` first.
  *
  * WHAT IS LEFT OF A MESSAGE. After every call, accepted or refused, all of the work memory is zero. After a refusal or a finding the output
- * is as it was. After acceptance the section or the moved record stands at its start, and every byte past that is as it was. What is answered and
- * written depends on the bytes read, the options, the other arguments and the lengths alone, never on what the output or the work memory held.
+ * is as it was. After acceptance the section stands at its start, and every byte past the section is as it was. What is answered and written
+ * depends on the bytes read, the options, the other arguments and the lengths alone, never on what the output or the work memory held.
  *
  *
  * THREADS AND SIGNALS. There is no state, so any number of threads may call at once, and a signal handler may call while a call stands still.
@@ -145,9 +131,9 @@
 extern "C" {
 #endif
 
-#define LARK_VERSION "0.8.0"
+#define LARK_VERSION "0.7.0"
 #define LARK_VERSION_MAJOR 0
-#define LARK_VERSION_MINOR 8
+#define LARK_VERSION_MINOR 7
 #define LARK_VERSION_PATCH 0
 
 /* Limits. */
@@ -164,10 +150,6 @@ extern "C" {
 #define LARK_OUT2_BYTES (4 + 12 * LARK_MAX_RESULT)                          /* and for one of form 2 */
 #define LARK_RECORD_BYTES (8 + LARK_MAX_DOCUMENT + 8 * LARK_MAX_EVENTS)     /* the longest good record */
 #define LARK_RECORD2_BYTES (13 + LARK_MAX_DOCUMENT + 12 * LARK_MAX_EVENTS)  /* and that of form 2 */
-
-/* The bytes of a good record whose document has so many bytes, with so many events; and in form 2. */
-#define LARK_RECORD_BYTES_FOR(document, events) (8 + (document) + 8 * (events))
-#define LARK_RECORD2_BYTES_FOR(document, events) (13 + (document) + 12 * (events))
 
 /* Options, summed. */
 #define LARK_OPTION_ATTENTION 1u      /* runs of `*` and `_` */
@@ -224,7 +206,7 @@ extern "C" {
                                 * its exit */
 #define LARK_REFUSED_SHAPE 6   /* a run, heading or list item that the resolver cannot take: the place of its enter event */
 #define LARK_REFUSED_RESULT 7  /* the section would have over LARK_MAX_RESULT events. Place 0 */
-#define LARK_REFUSED_OUTPUT 8  /* the output is shorter than the section, or than the moved record. Place 0 */
+#define LARK_REFUSED_OUTPUT 8  /* the output is shorter than the section. Place 0 */
 
 /* A refusal in words. Any number may be asked for. */
 static inline const char *lark_refusal_text(size_t number) LARK_NOEXCEPT {
@@ -424,14 +406,6 @@ struct lark_resolved {
     size_t tried;  /* attention: openers looked at on the way. Otherwise 0 */
 };
 
-/* The answer of a move. */
-struct lark_moved {
-    size_t number;  /* 0, or the refusal */
-    size_t place;   /* where, in the record that was to be moved */
-    size_t bytes;   /* bytes of the moved record, all of which were written */
-    size_t options; /* its options: forward those that were given, back those that the record had in it */
-};
-
 /* The answer of lark_space_or_tab. */
 struct lark_spaces {
     size_t number; /* 0, or the refusal */
@@ -544,30 +518,6 @@ struct lark_resolved lark_resolve_headings2(const uint8_t *record, size_t record
 /* lark_resolve_lists for a record of form 2. What is written and refused differs as it does for lark_resolve_attention2. */
 struct lark_resolved lark_resolve_lists2(const uint8_t *record, size_t record_length, uint8_t *out, size_t out_length, uint8_t *work,
                                          size_t work_length) LARK_NOEXCEPT;
-
-/* An old record becomes a record of form 2 that has these options in it. Document and events stay as they are; each event gets its partner.
- *
- *     59 and  `*a*`      +1@0 -1@1 +0@1 -0@2 +1@2 -1@3
- *     become  59, `*a*`  +1@0/1 -1@1/0 +0@1/3 -0@2/2 +1@2/5 -1@3/4
- *
- * Reads the record. Writes the moved record to the output, and zeros over all of the work memory. lark_read2 accepts what is written, with the same
- * document, events and options; lark_move_back gives the old record and the options again, byte by byte.
- *
- * Refuses with 1 to 5 as lark_read does, and then with 8 where the output is under LARK_RECORD2_BYTES_FOR(document, events), by lark_read's answer.
- * Number 6 is not given: a run, heading or item that a resolver refuses is moved as it is. Nor is 7. */
-struct lark_moved lark_move_forward(const uint8_t *record, size_t record_length, uint32_t options, uint8_t *out, size_t out_length, uint8_t *work,
-                                    size_t work_length) LARK_NOEXCEPT;
-
-/* A record of form 2 becomes an old one. Its options are in the answer and nowhere else: keep them beside it. Document and events stay as they are, but
- * for the partners, which the old form does not have.
- *
- * Reads the record. Writes the moved record to the output, and zeros over all of the work memory. lark_read accepts what is written, with the same
- * document and events; with the options of the answer lark_move_forward gives the record of form 2 again, byte by byte.
- *
- * Refuses with 1 to 5 as lark_read2 does, and then with 8 where the output is under LARK_RECORD_BYTES_FOR(document, events), by lark_read2's answer.
- * Numbers 6 and 7 are not given. */
-struct lark_moved lark_move_back(const uint8_t *record, size_t record_length, uint8_t *out, size_t out_length, uint8_t *work,
-                                 size_t work_length) LARK_NOEXCEPT;
 
 /* The spaces and tabs that a line begins with, at most `max` columns of them; a tab may be cut there. Fewer columns than `min` is the finding "too
  * few", also where `min` is more than `max`; the part of a cut tab that is taken counts. Any `min` and `max` will do: 0 and SIZE_MAX set no bound.

@@ -12,7 +12,6 @@
 enum {
     READ, RESOLVE_ATTENTION, RESOLVE_HEADINGS, RESOLVE_LISTS,
     READ2, RESOLVE_ATTENTION2, RESOLVE_HEADINGS2, RESOLVE_LISTS2,
-    MOVE_FORWARD, MOVE_BACK,
     SPACE_OR_TAB, LIST_ITEM, CONTINUATION, HEADING
 };
 
@@ -20,7 +19,7 @@ enum {
 enum { INPUT, OUT, WORK, SLICES };
 
 struct call {
-    uint32_t name;           /* which of the fourteen */
+    uint32_t name;           /* which of the twelve */
     uint32_t options;        /* beside what is read; 0 in form 2, which has them in it */
     uint64_t place[SLICES];  /* where each slice stands in what is shared; 0 is NULL */
     uint64_t length[SLICES]; /* and its length */

@@ -37,8 +37,6 @@ static void make(struct call *c) {
     case RESOLVE_ATTENTION2: ANSWER(lark_resolved, lark_resolve_attention2(in, in_length, out, out_length, work, work_length)); break;
     case RESOLVE_HEADINGS2: ANSWER(lark_resolved, lark_resolve_headings2(in, in_length, out, out_length, work, work_length)); break;
     case RESOLVE_LISTS2: ANSWER(lark_resolved, lark_resolve_lists2(in, in_length, out, out_length, work, work_length)); break;
-    case MOVE_FORWARD: ANSWER(lark_moved, lark_move_forward(in, in_length, options, out, out_length, work, work_length)); break;
-    case MOVE_BACK: ANSWER(lark_moved, lark_move_back(in, in_length, out, out_length, work, work_length)); break;
     case SPACE_OR_TAB: ANSWER(lark_spaces, lark_space_or_tab(in, in_length, options, column, c->argument[0], c->argument[1])); break;
     case LIST_ITEM: ANSWER(lark_item, lark_list_item(in, in_length, options, column, flag)); break;
     case CONTINUATION: ANSWER(lark_going, lark_continuation(in, in_length, options, column, c->argument[0], blank, mark)); break;

@@ -1,4 +1,4 @@
-/* The near side of the bridge: the fourteen calls for a processor that is not x86-64, so that programs which cannot be compiled for x86-64 here are
+/* The near side of the bridge: the twelve calls for a processor that is not x86-64, so that programs which cannot be compiled for x86-64 here are
  * tested with the library all the same. Each call is made by a second process (far.c), which the emulator runs. FAR is that process's command
  * line: strings with commas between them.
  *
@@ -103,7 +103,7 @@ static struct call cross(struct call c, const uint8_t *in, size_t in_length, uin
     return c;
 }
 
-/* The fourteen calls, as the header has them. */
+/* The twelve calls, as the header has them. */
 
 struct lark_reading lark_read(const uint8_t *record, size_t record_length, uint32_t options, uint8_t *work, size_t work_length) {
     struct call c = {.name = READ, .options = options};
@@ -141,19 +141,6 @@ RESOLVER(lark_resolve_lists, RESOLVE_LISTS)
 RESOLVER2(lark_resolve_attention2, RESOLVE_ATTENTION2)
 RESOLVER2(lark_resolve_headings2, RESOLVE_HEADINGS2)
 RESOLVER2(lark_resolve_lists2, RESOLVE_LISTS2)
-
-struct lark_moved lark_move_forward(const uint8_t *record, size_t record_length, uint32_t options, uint8_t *out, size_t out_length, uint8_t *work,
-                                    size_t work_length) {
-    struct call c = {.name = MOVE_FORWARD, .options = options};
-    c = cross(c, record, record_length, out, out_length, work, work_length);
-    return (struct lark_moved){c.answer[0], c.answer[1], c.answer[2], c.answer[3]};
-}
-
-struct lark_moved lark_move_back(const uint8_t *record, size_t record_length, uint8_t *out, size_t out_length, uint8_t *work, size_t work_length) {
-    struct call c = {.name = MOVE_BACK};
-    c = cross(c, record, record_length, out, out_length, work, work_length);
-    return (struct lark_moved){c.answer[0], c.answer[1], c.answer[2], c.answer[3]};
-}
 
 struct lark_spaces lark_space_or_tab(const uint8_t *line, size_t line_length, uint32_t options, size_t column, size_t min, size_t max) {
     struct call c = {.name = SPACE_OR_TAB, .options = options, .column = column, .argument = {min, max}};

@@ -3,13 +3,12 @@
  * What must come is not known here, but what must hold of it is. Each call is made twice, in memory that held other bytes and with a page that
  * may not be touched behind the slices the first time and before them the second; both must answer and write alike. A refusal says its number
  * and place and nothing else. What a resolver writes is again a list of sound events, in form 2 with true partners. A record that is not broken is
- * answered alike in both forms, but for places. A record moves or is refused as it is read, and what is moved comes back as it was. At the end each
- * kind of answer must have come up.
+ * answered alike in both forms, but for places. At the end each kind of answer must have come up.
  */
 #include "check.h"
 
 /* RESOLVE and one of the resolvers is its call. The calls before SPACES are on a record, and are made in either form. */
-enum { READ, RESOLVE, MOVE = RESOLVE + RESOLVERS, SPACES, ITEM, GOING, HEADING, CALLS };
+enum { READ, RESOLVE, SPACES = RESOLVE + RESOLVERS, ITEM, GOING, HEADING, CALLS };
 enum { INPUTS = 1500, FIELDS = 8 };
 
 static uint32_t state = 2463534242u;
@@ -108,8 +107,8 @@ struct given {
     size_t out_length, work_length, column, min, max;
 };
 
-static const char *const call_names[CALLS] = {"lark_read", "lark_resolve_attention", "lark_resolve_headings", "lark_resolve_lists", "a move",
-                                              "lark_space_or_tab", "lark_list_item", "lark_continuation", "lark_heading"};
+static const char *const call_names[CALLS] = {"lark_read",         "lark_resolve_attention", "lark_resolve_headings", "lark_resolve_lists",
+                                              "lark_space_or_tab", "lark_list_item",         "lark_continuation",     "lark_heading"};
 
 /* The fields of the answer, and what was written. */
 static void make(int call, struct given g, size_t fields[FIELDS], struct bytes *wrote) {
@@ -128,12 +127,6 @@ static void make(int call, struct given g, size_t fields[FIELDS], struct bytes *
         struct lark_resolved r = resolve(call - RESOLVE, in.p, in.n, g.options, out.p, out.n, work.p, work.n);
         memcpy(fields, &r, sizeof r);
         n = r.number ? 0 : 4 + widths[form] * r.events;
-        break;
-    }
-    case MOVE: {
-        struct lark_moved r = move_record(in.p, in.n, g.options, out.p, out.n, work.p, work.n);
-        memcpy(fields, &r, sizeof r);
-        n = r.bytes;
         break;
     }
     case SPACES: {
@@ -159,10 +152,10 @@ static void make(int call, struct given g, size_t fields[FIELDS], struct bytes *
     }
     wrote->n = 0;
     if (n > out.n) {
-        fail("the length of what is written", n, out.n);
+        fail("the section's length", n, out.n);
     } else {
         put(wrote, out.p, n);
-        all_are("output past what is written", out.p + n, out.n - n, way_dirt[way]);
+        all_are("output past the section", out.p + n, out.n - n, way_dirt[way]);
     }
     all_are("work memory", work.p, work.n, 0);
     if (fields[0] > 8) fail("number", fields[0], 8);
@@ -207,25 +200,6 @@ static void section_is_sound(struct given g, const struct bytes *wrote, size_t e
     }
 }
 
-/* A moved record is one of the other form, with the same document, events and options, and comes back as it was. */
-static void move_is_sound(struct given g, const struct bytes *wrote, size_t options) {
-    static uint8_t again[LARK_RECORD2_BYTES], work[LARK_WORK_BYTES];
-    struct lark_reading2 r = read_record(g.in->at, g.in->n, g.options, work, sizeof work), moved;
-    struct lark_moved back;
-    equal("options of what was moved", options, r.options);
-    form = !form;
-    moved = read_record(wrote->at, wrote->n, (uint32_t)options, work, sizeof work);
-    back = move_record(wrote->at, wrote->n, (uint32_t)options, again, sizeof again, work, sizeof work);
-    form = !form;
-    equal("number for what was moved", moved.number, 0);
-    equal("document of what was moved", moved.document, r.document);
-    equal("events of what was moved", moved.events, r.events);
-    equal("options in what was moved", moved.options, r.options);
-    equal("options, moved back,", back.options, r.options);
-    equal("bytes, moved back,", back.bytes, g.in->n);
-    same("the record moved back", again, g.in->at, g.in->n);
-}
-
 /* A call made both ways: the fields of its answer, and what was written. */
 struct made {
     size_t fields[FIELDS];
@@ -245,16 +219,7 @@ static void both_ways(int call, struct given g, struct made *first) {
     if (first->fields[0] <= 8) answers[form][call][first->fields[0]]++;
     if (call >= SPACES && !first->fields[0] && !first->fields[2]) findings[call]++;
     if (call >= SPACES && call <= GOING && first->fields[2] && first->fields[4]) cut_is_sound(call, g, first->fields);
-    if (call >= RESOLVE && call < MOVE && !first->fields[0]) section_is_sound(g, &first->wrote, first->fields[2]);
-    if (call == MOVE && !first->fields[0]) move_is_sound(g, &first->wrote, first->fields[3]);
-}
-
-/* A record moves, or there is no room, where it is read; else it is refused as it is there. */
-static void moves_as_read(const struct made *read, const struct made *moved) {
-    case_name = call_names[MOVE];
-    if (read->fields[0] == 0 && moved->fields[0] == 8) return;
-    equal("number, beside the reader's,", moved->fields[0], read->fields[0]);
-    equal("place, beside the reader's,", moved->fields[1], read->fields[1]);
+    if (call >= RESOLVE && call < SPACES && !first->fields[0]) section_is_sound(g, &first->wrote, first->fields[2]);
 }
 
 /* A record in both forms: the same answers, and the same events, each where that form has it. */
@@ -271,17 +236,9 @@ static void alike(int call, const struct made *old, const struct made *second) {
     for (i = 0; i < old->fields[2]; i++) same("an event in form 2", second->wrote.at + 4 + 12 * i, old->wrote.at + 4 + 8 * i, 8);
 }
 
-/* A record that is moved to the other form is what the builder has made in that form. */
-static void moves_as_built(const struct made *moved, const struct bytes *other) {
-    case_name = call_names[MOVE];
-    if (moved->fields[0]) return;
-    equal("bytes, beside the builder's,", moved->wrote.n, other->n);
-    same("the record beside the builder's", moved->wrote.at, other->at, other->n);
-}
-
 int main(void) {
     static struct made done[FORMS][SPACES], on_line;
-    static struct bytes line, wholes[FORMS];
+    static struct bytes line, whole;
     int i, call;
     size_t number;
     watch();
@@ -299,23 +256,19 @@ int main(void) {
         start = state;
         for (form = 0; form < FORMS; form++) {
             const struct bytes *r;
-            struct bytes *whole = &wholes[form];
             state = start;
             make_record();
             r = handed(&record_bytes, options);
-            whole->n = 0;
-            put(whole, r->at, r->n);
-            if (broken) break_bytes(whole);
-            g.in = whole;
-            g.options = form == OLD ? options : whole->n > 4 ? whole->at[4] : 0;
+            whole.n = 0;
+            put(&whole, r->at, r->n);
+            if (broken) break_bytes(&whole);
+            g.in = &whole;
+            g.options = form == OLD ? options : whole.n > 4 ? whole.at[4] : 0;
             g.out_length = (no_room ? 0 : widths[form] * room) + more;
             for (call = READ; call < SPACES; call++) both_ways(call, g, &done[form][call]);
-            moves_as_read(&done[form][READ], &done[form][MOVE]);
         }
-        for (call = READ; call < MOVE; call++)
+        for (call = READ; call < SPACES; call++)
             if (!broken && options <= 255) alike(call, &done[OLD][call], &done[SECOND][call]);
-        for (form = 0; form < FORMS; form++)
-            if (!broken) moves_as_built(&done[form][MOVE], &wholes[!form]);
         form = OLD;
         make_line(&line);
         g.in = &line;
@@ -328,7 +281,7 @@ int main(void) {
             for (number = 0; number < 9; number++) {
                 int a_line = call >= SPACES, writes = call != READ && (!a_line || call == HEADING);
                 int can = number == 0 || (number == 1 && !a_line) || (number >= 2 && number <= 4) || (number == 5 && !a_line) ||
-                          (number == 6 && writes && !a_line && call != MOVE) || (number == 8 && writes);
+                          (number == 6 && writes && !a_line) || (number == 8 && writes);
                 size_t came = answers[form][call][number];
                 if (a_line && number == 3) can = 0; /* no line here is that long */
                 case_name = call_names[call];

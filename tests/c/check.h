@@ -315,22 +315,15 @@ static inline struct lark_reading2 read_record(const uint8_t *record, size_t rec
     return got;
 }
 
-/* A move of a record as it was handed over: forward in the old form, back in form 2. */
-static inline struct lark_moved move_record(const uint8_t *record, size_t record_length, uint32_t options, uint8_t *out, size_t out_length,
-                                            uint8_t *work, size_t work_length) {
-    if (form == SECOND) return lark_move_back(record, record_length, out, out_length, work, work_length);
-    return lark_move_forward(record, record_length, options, out, out_length, work, work_length);
-}
-
-/* The output is the section or the moved record, if there is one, and behind it as dirty as before. */
+/* The output is the section, if there is one, and behind it as dirty as before. */
 static inline void output_is(struct slice out, const struct bytes *want) {
     size_t n = want ? want->n : 0;
     if (n > out.n) {
-        fail("the length of what is written", out.n, n);
+        fail("the section's length", out.n, n);
         return;
     }
-    if (n) same("what is written", out.p, want->at, n);
-    if (out.n > n) all_are(n ? "output past what is written" : "output that must stay", out.p + n, out.n - n, way_dirt[way]);
+    if (n) same("the section", out.p, want->at, n);
+    if (out.n > n) all_are(n ? "output past the section" : "output that must stay", out.p + n, out.n - n, way_dirt[way]);
 }
 
 /* A record that was handed over is read. */
@@ -406,33 +399,6 @@ static inline struct lark_resolved refusal(size_t number, size_t place) {
 
 static inline void refuses(int which, const struct bytes *r, uint32_t options, size_t out_length, size_t work_length, size_t number, size_t place) {
     resolves_handed(which, handed(r, options), options, out_length, work_length, refusal(number, handed_place(number, place)), NULL);
-}
-
-/* A record that was handed over is moved to the other form. */
-static inline void moves_handed(const struct bytes *r, uint32_t options, size_t out_length, size_t work_length, struct lark_moved want,
-                                const struct bytes *result) {
-    struct slice in = lend_bytes(r->at, r->n), out = lend(out_length), work = lend(work_length);
-    struct lark_moved got = move_record(in.p, in.n, options, out.p, out.n, work.p, work.n);
-    equal("number", got.number, want.number);
-    equal("place", got.place, want.place);
-    equal("bytes", got.bytes, want.bytes);
-    equal("options", got.options, want.options);
-    same("the record", in.p, r->at, r->n);
-    output_is(out, result);
-    all_are("work memory", work.p, work.n, 0);
-    take_back(in);
-    take_back(out);
-    take_back(work);
-}
-
-/* It is not moved, into ample output and into none. */
-static inline void stays(const struct bytes *r, uint32_t options, size_t work_length, size_t number, size_t place) {
-    struct lark_moved want;
-    want.number = number;
-    want.place = place;
-    want.bytes = want.options = 0;
-    moves_handed(r, options, LARK_RECORD2_BYTES, work_length, want, NULL);
-    moves_handed(r, options, 0, work_length, want, NULL);
 }
 
 /* Refused with 6 at a place, with ample output and with none. */

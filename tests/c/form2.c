@@ -1,7 +1,7 @@
 /* What form 2 has of its own: its first section, its places, its partners, and results of 12 bytes for each event. A record stands here as it is lent,
  * with its first section, and a place as it is answered; options are 63 where nothing else is said. Places and partners are worked out by hand: the
  * document's count at 5, its bytes from 9 on, the events' count at 9 + D, event i at 13 + D + 12 * i. What both forms have in common is in record.c,
- * attention.c, headings.c and lists.c; what is moved from and to it, in moves.c.
+ * attention.c, headings.c and lists.c.
  */
 #include "check.h"
 
@@ -15,7 +15,7 @@ static const struct bytes *lent(const char *text, size_t n) {
 #define LENT(text) lent(text, sizeof(text) - 1)
 static const struct bytes *whole(const char *text, const char *events) { return handed(record(text, events), 63); }
 
-/* All five refuse alike. */
+/* All four refuse alike. */
 static void all_refuse_with(const struct bytes *r, size_t work_length, size_t number, size_t place) {
     struct lark_reading2 want = {number, place, 0, 0, 0};
     int i;
@@ -24,7 +24,6 @@ static void all_refuse_with(const struct bytes *r, size_t work_length, size_t nu
         resolves_handed(i, r, 0, LARK_OUT2_BYTES, work_length, refusal(number, place), NULL);
         resolves_handed(i, r, 0, 0, work_length, refusal(number, place), NULL);
     }
-    stays(r, 0, work_length, number, place);
 }
 static void all_refuse(const struct bytes *r, size_t number, size_t place) { all_refuse_with(r, LARK_WORK_BYTES, number, place); }
 

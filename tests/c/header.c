@@ -32,8 +32,6 @@ SILENT(lark_read2(NULL, 0, NULL, 0));
 SILENT(lark_resolve_attention2(NULL, 0, NULL, 0, NULL, 0));
 SILENT(lark_resolve_headings2(NULL, 0, NULL, 0, NULL, 0));
 SILENT(lark_resolve_lists2(NULL, 0, NULL, 0, NULL, 0));
-SILENT(lark_move_forward(NULL, 0, 0, NULL, 0, NULL, 0));
-SILENT(lark_move_back(NULL, 0, NULL, 0, NULL, 0));
 SILENT(lark_space_or_tab(NULL, 0, 0, 0, 0, 0));
 SILENT(lark_list_item(NULL, 0, 0, 0, 0));
 SILENT(lark_continuation(NULL, 0, 0, 0, 0, 0, 0));
@@ -361,13 +359,6 @@ int main(void) {
     holds("sizes in form 2", LARK_OUT2_BYTES == 96004 && LARK_RECORD2_BYTES == 40973);
     holds("sizes as parts of something else", 2 * LARK_WORK_BYTES == 131072 && 2 * LARK_OUT_BYTES == 128008 && 2 * LARK_RECORD_BYTES == 65552 &&
                                                   2 * LARK_OUT2_BYTES == 192008 && 2 * LARK_RECORD2_BYTES == 81946);
-    holds("sizes by counts", LARK_RECORD_BYTES_FOR(0, 0) == 8 && LARK_RECORD2_BYTES_FOR(0, 0) == 13 && LARK_RECORD_BYTES_FOR(3, 6) == 59 &&
-                                 LARK_RECORD2_BYTES_FOR(3, 6) == 88 && LARK_RECORD_BYTES_FOR(LARK_MAX_DOCUMENT, LARK_MAX_EVENTS) == LARK_RECORD_BYTES &&
-                                 LARK_RECORD2_BYTES_FOR(LARK_MAX_DOCUMENT, LARK_MAX_EVENTS) == LARK_RECORD2_BYTES);
-    holds("sizes by counts of several parts, and as parts of something else",
-          2 * LARK_RECORD_BYTES_FOR(1 | 2, 4 + 2) == 118 && 2 * LARK_RECORD2_BYTES_FOR(1 | 2, 4 + 2) == 176);
-    holds("sizes by counts are as wide as these", sizeof(LARK_RECORD_BYTES_FOR((size_t)0, (size_t)0)) == sizeof(size_t) &&
-                                                      sizeof(LARK_RECORD2_BYTES_FOR((size_t)0, (size_t)0)) == sizeof(size_t));
     holds("options are unsigned", LARK_OPTION_ATTENTION - 64 > 63 && LARK_OPTION_STRIKETHROUGH - 64 > 63 && LARK_OPTION_SINGLE_TILDE - 64 > 63 &&
                                       LARK_OPTION_HEADING - 64 > 63 && LARK_OPTION_LIST_ITEM - 64 > 63 && LARK_OPTION_CODE_INDENTED - 64 > 63 &&
                                       LARK_MAX_OPTIONS - 64 > 63);
@@ -397,7 +388,6 @@ int main(void) {
     FIELD(lark_reading2, events, 4), FIELDS(lark_reading2, 5);
     FIELD(lark_resolved, number, 0), FIELD(lark_resolved, place, 1), FIELD(lark_resolved, events, 2), FIELD(lark_resolved, groups, 3);
     FIELD(lark_resolved, tried, 4), FIELDS(lark_resolved, 5);
-    FIELD(lark_moved, number, 0), FIELD(lark_moved, place, 1), FIELD(lark_moved, bytes, 2), FIELD(lark_moved, options, 3), FIELDS(lark_moved, 4);
     FIELD(lark_spaces, number, 0), FIELD(lark_spaces, place, 1), FIELD(lark_spaces, found, 2), FIELD(lark_spaces, taken, 3);
     FIELD(lark_spaces, left, 4), FIELDS(lark_spaces, 5);
     FIELD(lark_item, number, 0), FIELD(lark_item, place, 1), FIELD(lark_item, found, 2), FIELD(lark_item, taken, 3);

@@ -61,41 +61,8 @@ static void read_lengths(void) {
     munmap(in, OVER + PAGES);
 }
 
-/* A move with an output of OVER bytes, then of a record that OVER bytes follow. `ab` with a pair of Data has 26 bytes, in form 2 39. */
-static void move_lengths(void) {
-    static struct bytes want;
-    const struct bytes *r;
-    uint8_t *in, *out = vast(NULL, 0);
-    struct lark_moved got;
-    begin("a move");
-    form = !form;
-    r = handed(record("ab", "+0@0 -0@2"), 63);
-    want.n = 0;
-    put(&want, r->at, r->n);
-    form = !form;
-    r = handed(record("ab", "+0@0 -0@2"), 63);
-    in = vast(r->at, r->n);
-    got = move_record(in, r->n, 63, out, OVER, work, sizeof work);
-    equal("number", got.number, 0);
-    equal("bytes", got.bytes, form == OLD ? 39 : 26);
-    equal("options", got.options, 63);
-    same("the moved record", out, want.at, want.n);
-    all_are("output past the moved record", out + want.n, PAGES - want.n, 0xa5);
-    is_wiped();
-    memset(out, 0xa5, want.n);
-    got = move_record(in, OVER + r->n, 63, out, PAGES, work, sizeof work);
-    equal("number, with a record too long,", got.number, 3);
-    equal("place, with a record too long,", got.place, r->n);
-    equal("bytes, with a record too long,", got.bytes, 0);
-    all_are("output that must stay", out, PAGES, 0xa5);
-    is_wiped();
-    munmap(in, OVER + PAGES);
-    munmap(out, OVER + PAGES);
-}
-
 static void record_lengths(void) {
     read_lengths();
-    move_lengths();
     resolver_lengths("lark_resolve_attention", ATTENTION, record("*a*", "+1@0 -1@1 +0@1 -0@2 +1@2 -1@3"), 1,
                      section("+2@0 +3@0 -3@1 +4@1 +0@1 -0@2 -4@2 +3@2 -3@3 -2@3"));
     resolver_lengths("lark_resolve_headings", HEADINGS, record("# a", "+11@0 +12@0 -12@1 +14@1 -14@2 +0@2 -0@3 -11@3"), 0,

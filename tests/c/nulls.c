@@ -62,26 +62,6 @@ static void resolver_nulls(const struct resolver *call) {
     holds("all three", refused(call, 0, 0, 0, 1));
 }
 
-/* The same for a move: forward, or back. */
-static int stayed(int back, int with_record, int with_out, int with_work, size_t number) {
-    const uint8_t *in = !with_record ? NULL : back ? empty2 : empty;
-    size_t in_length = !with_record ? 0 : back ? sizeof empty2 : sizeof empty, out_length = with_out ? sizeof out : 0;
-    size_t work_length = with_work ? sizeof work : 0;
-    uint8_t *o = with_out ? out : NULL, *w = with_work ? work : NULL;
-    struct lark_moved r = back ? lark_move_back(in, in_length, o, out_length, w, work_length)
-                               : lark_move_forward(in, in_length, 63, o, out_length, w, work_length);
-    return r.number == number && r.place == 0 && r.bytes == 0 && r.options == 0 && (!with_work || wiped());
-}
-
-static void move_nulls(int back) {
-    printf("%s\n", back ? "lark_move_back" : "lark_move_forward");
-    holds("record", stayed(back, 0, 1, 1, 3));
-    holds("output", stayed(back, 1, 0, 1, 8));
-    holds("work memory", stayed(back, 1, 1, 0, 1));
-    holds("record and output", stayed(back, 0, 0, 1, 3));
-    holds("all three", stayed(back, 0, 0, 0, 1));
-}
-
 int main(void) {
     struct lark_reading r;
     struct lark_reading2 r2;
@@ -110,8 +90,6 @@ int main(void) {
     holds("both", r2.number == 1 && r2.place == 0 && r2.options == 0 && r2.document == 0 && r2.events == 0);
 
     for (call = 0; call < sizeof resolvers / sizeof *resolvers; call++) resolver_nulls(&resolvers[call]);
-    move_nulls(0);
-    move_nulls(1);
 
     printf("lark_space_or_tab\n");
     s = lark_space_or_tab(NULL, 0, 63, 0, 0, 3);

@@ -1,10 +1,10 @@
 /* What all calls on a record have in common, in either form: numbers 1 to 5 of document 01's table, each at its boundary, and the limits that are
- * still good. Each case runs through lark_read and through the three resolvers, with ample output and with none; what is refused also through the move
- * to the other form. What form 2 has of its own, its first section and partners, is in form2.c; what is moved, in moves.c.
+ * still good. Each case runs through lark_read and through the three resolvers, with ample output and with none. What form 2 has of its own, its first
+ * section and partners, is in form2.c.
  */
 #include "check.h"
 
-/* All five refuse alike. In form 2 the options are a byte: greater ones cannot be given. */
+/* All four refuse alike. In form 2 the options are a byte: greater ones cannot be given. */
 static void all_refuse_with(const struct bytes *r, uint32_t options, size_t work_length, size_t number, size_t place) {
     int i;
     if (form == SECOND && options > 255) return;
@@ -13,7 +13,6 @@ static void all_refuse_with(const struct bytes *r, uint32_t options, size_t work
         refuses(i, r, options, ample[form], work_length, number, place);
         refuses(i, r, options, 0, work_length, number, place);
     }
-    stays(handed(r, options), options, work_length, number, handed_place(number, place));
 }
 
 static void all_refuse(const struct bytes *r, size_t number, size_t place) {
@@ -267,7 +266,6 @@ static void reused(void) {
     static uint8_t out[LARK_OUT2_BYTES], work[LARK_WORK_BYTES];
     struct lark_reading2 got;
     struct lark_resolved done;
-    struct lark_moved moved;
     size_t n, count = fronts[form] + 31;
     int i;
     begin("a buffer that is used again");
@@ -291,11 +289,6 @@ static void reused(void) {
             all_are("output that must stay", out, sizeof out, 0xa5);
             all_are("work memory", work, sizeof work, 0);
         }
-        moved = move_record(r->at, n, 63, out, sizeof out, work, sizeof work);
-        equal("number", moved.number, 3);
-        equal("place", moved.place, count);
-        all_are("output that must stay", out, sizeof out, 0xa5);
-        all_are("work memory", work, sizeof work, 0);
     }
 }
 

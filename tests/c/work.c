@@ -9,7 +9,7 @@ enum { PIECE = 1 << 21 };
 #define OVER ((size_t)1 << 32)
 
 int main(void) {
-    uint8_t out[13], *work = (uint8_t *)sure(mmap(NULL, OVER, PROT_NONE, MAP_PRIVATE | MAP_ANONYMOUS, -1, 0));
+    uint8_t out[4], *work = (uint8_t *)sure(mmap(NULL, OVER, PROT_NONE, MAP_PRIVATE | MAP_ANONYMOUS, -1, 0));
     int file = memfd_create("work", 0), i;
     size_t at;
     watch();
@@ -27,10 +27,6 @@ int main(void) {
             equal("number", resolve(i, empty->at, empty->n, 63, out, sizeof out, work, OVER).number, 0);
             all_are("work memory", work, PIECE, 0);
         }
-        begin("a move");
-        memset(work, 0xa5, PIECE);
-        equal("number", move_record(empty->at, empty->n, 63, out, sizeof out, work, OVER).number, 0);
-        all_are("work memory", work, PIECE, 0);
     }
     return report();
 }

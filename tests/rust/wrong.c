@@ -13,8 +13,6 @@ struct lark_reading2 right_lark_read2(const uint8_t *, size_t, uint8_t *, size_t
 struct lark_resolved right_lark_resolve_attention2(const uint8_t *, size_t, uint8_t *, size_t, uint8_t *, size_t);
 struct lark_resolved right_lark_resolve_headings2(const uint8_t *, size_t, uint8_t *, size_t, uint8_t *, size_t);
 struct lark_resolved right_lark_resolve_lists2(const uint8_t *, size_t, uint8_t *, size_t, uint8_t *, size_t);
-struct lark_moved right_lark_move_forward(const uint8_t *, size_t, uint32_t, uint8_t *, size_t, uint8_t *, size_t);
-struct lark_moved right_lark_move_back(const uint8_t *, size_t, uint8_t *, size_t, uint8_t *, size_t);
 struct lark_headed right_lark_heading(const uint8_t *, size_t, uint32_t, size_t, uint8_t *, size_t);
 struct lark_spaces right_lark_space_or_tab(const uint8_t *, size_t, uint32_t, size_t, size_t, size_t);
 struct lark_item right_lark_list_item(const uint8_t *, size_t, uint32_t, size_t, uint32_t);
@@ -185,116 +183,6 @@ struct lark_resolved lark_resolve_lists2(const uint8_t *record, size_t record_le
     r = right_lark_resolve_lists2(record, record_length, out, out_length, work, work_length);
 #if WRONG == 33 /* headings_and_lists: one byte past the output of form 2 is written */
     if (!r.number) out[out_length] = 0;
-#endif
-    return r;
-}
-
-/* The number with which attention refuses a record of the old form, or 0. */
-static inline size_t refused_by_attention(const uint8_t *record, size_t n, uint32_t options, uint8_t *work, size_t work_length) {
-    uint8_t section[LARK_OUT_BYTES];
-    return right_lark_resolve_attention(record, n, options, section, sizeof section, work, work_length).number;
-}
-
-/* The section of a record of form 2. */
-static inline uint8_t *section_of(uint8_t *record) { return record + 9 + lark_number_at(record + 5); }
-
-struct lark_moved lark_move_forward(const uint8_t *record, size_t record_length, uint32_t options, uint8_t *out, size_t out_length, uint8_t *work,
-                                    size_t work_length) {
-    struct lark_moved r;
-    uint8_t *section;
-    size_t i, events;
-#if WRONG == 34 /* moves: options over 63 are cut to six bits */
-    options &= LARK_MAX_OPTIONS;
-#elif WRONG == 35 /* moves: the output's last byte is not used */
-    if (out_length) out_length--;
-#elif WRONG == 36 /* moves: a record is not moved where attention refuses a run */
-    if (refused_by_attention(record, record_length, options, work, work_length) == LARK_REFUSED_SHAPE) record_length = 0;
-#elif WRONG == 37 /* moves: a record is not moved where attention's result has too many events */
-    if (refused_by_attention(record, record_length, options, work, work_length) == LARK_REFUSED_RESULT) record_length = 0;
-#endif
-#if WRONG == 38 /* moves: output and work memory are taken for each other */
-    r = right_lark_move_forward(record, record_length, options, work, work_length, out, out_length);
-#else
-    r = right_lark_move_forward(record, record_length, options, out, out_length, work, work_length);
-#endif
-    section = r.number ? NULL : section_of(out);
-    events = r.number ? 0 : lark_number_at(section);
-    (void)section, (void)events, (void)i;
-#if WRONG == 39 /* moves: partners are left zero */
-    for (i = 0; i < events; i++) lark_put_number(partner(section, i), 0);
-#elif WRONG == 40 /* moves: only exits have partners */
-    for (i = 0; i < events; i++)
-        if (section[4 + 12 * i] == LARK_ENTER) lark_put_number(partner(section, i), 0);
-#elif WRONG == 41 /* moves: the partner of an event is the one beside it */
-    for (i = 0; i < events; i++) lark_put_number(partner(section, i), i ^ 1);
-#elif WRONG == 42 /* moves: of a partner's number only the lowest byte is written */
-    for (i = 0; i < events; i++) partner(section, i)[1] = 0;
-#elif WRONG == 43 /* moves: the option byte is not written */
-    if (!r.number) out[4] = 0;
-#elif WRONG == 44 /* moves: the options that were given are not told */
-    r.options = 0;
-#elif WRONG == 45 /* moves: the length that is told is the old record's */
-    if (!r.number) r.bytes = record_length;
-#elif WRONG == 46 /* moves: one byte past the moved record is written */
-    if (!r.number && out_length > r.bytes) out[r.bytes] = 0;
-#elif WRONG == 47 /* moves: one byte past the output is written */
-    if (!r.number) out[out_length] = 0;
-#elif WRONG == 48 /* moves: the first count is written before room is asked for */
-    if (r.number == LARK_REFUSED_OUTPUT && out_length >= 4) lark_put_number(out, 1);
-#elif WRONG == 49 /* refusals: the first count is written before the events are looked at */
-    if (r.number == LARK_REFUSED_EVENT && out_length >= 4) lark_put_number(out, 1);
-#elif WRONG == 50 /* refusals: room is asked for before the events are looked at */
-    if (r.number == LARK_REFUSED_EVENT && out_length < record_length) r.number = LARK_REFUSED_OUTPUT, r.place = 0;
-#elif WRONG == 51 /* refusals: a carriage return has the place that it has in form 2 */
-    if (r.number == LARK_REFUSED_RETURN) r.place += 5;
-#elif WRONG == 52 /* moves: with a refusal the options are told */
-    r.options = options;
-#elif WRONG == 53 /* moves: without room the length is told that is needed */
-    if (r.number == LARK_REFUSED_OUTPUT) r.bytes = 13 + lark_number_at(record) + 12 * lark_number_at(record + 4 + lark_number_at(record));
-#elif WRONG == 54 /* moves: without room the place is the output's end */
-    if (r.number == LARK_REFUSED_OUTPUT) r.place = out_length;
-#elif WRONG == 55 /* moves: the work memory's last byte is not wiped */
-    if (work_length) work[work_length - 1] = 1;
-#endif
-    return r;
-}
-
-struct lark_moved lark_move_back(const uint8_t *record, size_t record_length, uint8_t *out, size_t out_length, uint8_t *work, size_t work_length) {
-    struct lark_moved r;
-    uint8_t copy[LARK_RECORD2_BYTES], own[LARK_WORK_BYTES];
-    (void)copy, (void)own;
-#if WRONG == 56 /* moves: as much room is asked for as the record of form 2 takes */
-    if (out_length < record_length) out_length = 0;
-#elif WRONG == 57 /* form2: what number an enter has for its partner does not matter on the way back */
-    record = with_enters_linked(record, record_length, copy);
-#elif WRONG == 58 /* form2: bytes behind the last section are not seen on the way back */
-    record_length = counted(record, record_length);
-#endif
-#if WRONG == 59 /* moves: any work memory is enough */
-    r = right_lark_move_back(record, record_length, out, out_length, own, sizeof own);
-    if (work_length) memset(work, 0, work_length);
-#else
-    r = right_lark_move_back(record, record_length, out, out_length, work, work_length);
-#endif
-#if WRONG == 60 /* moves: the option byte is dropped on the way back */
-    r.options = 0;
-#elif WRONG == 61 /* moves: the events stay twelve bytes wide on the way back */
-    if (!r.number && out_length >= record_length - 5) memcpy(out, record + 5, record_length - 5), r.bytes = record_length - 5;
-#elif WRONG == 62 /* moves: the length that is told is that of the record of form 2 */
-    if (!r.number && out_length >= record_length) r.bytes = record_length;
-#elif WRONG == 63 /* moves: the output is wiped behind the moved record */
-    if (!r.number) memset(out + r.bytes, 0, out_length - r.bytes);
-#elif WRONG == 64 /* moves: without room all of the output is wiped */
-    if (r.number == LARK_REFUSED_OUTPUT && out_length) memset(out, 0, out_length);
-#elif WRONG == 65 /* form2: an event has the place that it has in the moved record */
-    if (r.number == LARK_REFUSED_EVENT) {
-        size_t document = lark_number_at(record + 5);
-        r.place = 8 + document + (r.place - 13 - document) / 12 * 8;
-    }
-#elif WRONG == 66 /* moves: with a refusal the options are told on the way back */
-    if (r.number >= LARK_REFUSED_COUNT && record_length > 4) r.options = record[4];
-#elif WRONG == 67 /* moves: without room the length of the moved record is told on the way back */
-    if (r.number == LARK_REFUSED_OUTPUT) r.bytes = record_length - 5;
 #endif
     return r;
 }

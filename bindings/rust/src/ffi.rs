@@ -38,15 +38,6 @@ pub struct Resolved {
     pub tried: usize,
 }
 
-/// The numbers of a move's answer.
-#[repr(C)]
-pub struct Moved {
-    pub number: usize,
-    pub place: usize,
-    pub bytes: usize,
-    pub options: usize,
-}
-
 /// The numbers of an answer of `lark_space_or_tab`.
 #[repr(C)]
 pub struct Spaces {
@@ -150,17 +141,6 @@ extern "C" {
         work: *mut u8,
         work_length: usize,
     ) -> Resolved;
-    fn lark_move_forward(
-        record: *const u8,
-        record_length: usize,
-        options: u32,
-        out: *mut u8,
-        out_length: usize,
-        work: *mut u8,
-        work_length: usize,
-    ) -> Moved;
-    fn lark_move_back(record: *const u8, record_length: usize, out: *mut u8, out_length: usize, work: *mut u8, work_length: usize)
-        -> Moved;
     fn lark_space_or_tab(line: *const u8, line_length: usize, options: u32, column: usize, min: usize, max: usize) -> Spaces;
     fn lark_list_item(line: *const u8, line_length: usize, options: u32, column: usize, interrupting: u32) -> Item;
     fn lark_continuation(line: *const u8, line_length: usize, options: u32, column: usize, size: usize, blank: u32, mark: u32) -> Going;
@@ -221,35 +201,6 @@ fn resolve2(resolver: Resolver2, record: &[u8], out: &mut [u8], work: &mut [u8])
     // SAFETY: as for `resolve`: three slices that lie apart, and one of the library's three resolvers of form 2.
     unsafe {
         resolver(
-            record.as_ptr(),
-            record.len(),
-            out.as_mut_ptr(),
-            out.len(),
-            work.as_mut_ptr(),
-            work.len(),
-        )
-    }
-}
-
-pub fn move_forward(record: &[u8], options: u32, out: &mut [u8], work: &mut [u8]) -> Moved {
-    // SAFETY: three slices with their own lengths; `out` and `work` are `&mut`, so all three lie apart.
-    unsafe {
-        lark_move_forward(
-            record.as_ptr(),
-            record.len(),
-            options,
-            out.as_mut_ptr(),
-            out.len(),
-            work.as_mut_ptr(),
-            work.len(),
-        )
-    }
-}
-
-pub fn move_back(record: &[u8], out: &mut [u8], work: &mut [u8]) -> Moved {
-    // SAFETY: as for `move_forward`.
-    unsafe {
-        lark_move_back(
             record.as_ptr(),
             record.len(),
             out.as_mut_ptr(),

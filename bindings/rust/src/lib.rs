@@ -15,9 +15,6 @@
 //! made by [`record2()`] or [`record2_into`], which take events without partners, and goes to [`read2`], [`resolve_attention2`], [`resolve_headings2`] and
 //! [`resolve_lists2`]. What these write is read by [`Events2`], in order or by number, so that the exit of an enter is one step away.
 //!
-//! An archive goes from one form to the other record by record: [`move_forward`] takes an old record and its options and writes the record of form 2,
-//! [`move_back`] writes the old one again and answers the options. Nothing is lost on the way, in either direction.
-//!
 //! What a call answers and writes depends on the record or line, the options, the arguments and the lengths of the buffers alone. It never
 //! depends on what a buffer held before. A [`Refusal`] leaves the output as it was. The work memory is zero after every call.
 //!
@@ -50,7 +47,6 @@ mod events;
 mod ffi;
 mod limits;
 mod lines;
-mod moves;
 mod options;
 mod records;
 mod refusal;
@@ -63,9 +59,6 @@ pub use limits::{MAX_COLUMN, MAX_DEPTH, MAX_DOCUMENT, MAX_EVENTS, MAX_LINE, MAX_
 #[cfg(feature = "alloc")]
 pub use lines::heading_to_vec;
 pub use lines::{continuation, heading, list_item, space_or_tab, Container, Continuation, Item, ListKind, Spaces};
-pub use moves::{move_back, move_forward, Moved};
-#[cfg(feature = "alloc")]
-pub use moves::{move_back_to_vec, move_forward_to_vec};
 pub use options::Options;
 #[cfg(feature = "alloc")]
 pub use records::{record, record2};

@@ -47,7 +47,7 @@ pub enum Refusal {
     },
     /// Number 7: the result would have over [`MAX_RESULT`](crate::MAX_RESULT) events.
     Result,
-    /// Number 8: the output is too short for the result, or for the moved record.
+    /// Number 8: the output is too short for the result.
     Output,
     /// A number that this version of the crate does not know: the archive is of another version.
     Other {

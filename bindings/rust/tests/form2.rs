@@ -4,8 +4,8 @@ mod common;
 
 use common::{is_dirty, record2, refused, refuses, Lent, OnRecord, Resolver, ATTENTION2, HEADINGS2, LISTS2};
 use ledgerlark::{
-    move_back, read2, record2_into, record_length2, resolve_attention2, resolve_headings2, resolve_lists2, section_length2, Events2,
-    Options, Reading2, Refusal, Work, MAX_RESULT,
+    read2, record2_into, record_length2, resolve_attention2, resolve_headings2, resolve_lists2, section_length2, Events2, Options,
+    Reading2, Refusal, Work, MAX_RESULT,
 };
 
 const OPTIONS: Options = Options::from_bits(59);
@@ -82,16 +82,15 @@ fn good_records() {
     assert_eq!((reading.options, reading.document, reading.events), (Options::NONE, 0, 128));
 }
 
-/// The five calls on a record of form 2.
-const ON_RECORDS: [OnRecord; 5] = [
+/// The four calls on a record of form 2.
+const ON_RECORDS: [OnRecord; 4] = [
     |record, _, _, work| read2(record, work).map(drop),
-    |record, _, out, work| move_back(record, out, work).map(drop),
     |record, _, out, work| resolve_attention2(record, out, work).map(drop),
     |record, _, out, work| resolve_headings2(record, out, work).map(drop),
     |record, _, out, work| resolve_lists2(record, out, work).map(drop),
 ];
 
-/// All five refuse a record.
+/// All four refuse a record.
 fn refused_with(record: &[u8], refusal: Refusal) {
     refused(&ON_RECORDS, record, OPTIONS, Work::LENGTH, refusal);
 }

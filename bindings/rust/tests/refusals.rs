@@ -5,22 +5,21 @@ mod common;
 
 use common::{record, refuses, Lent, OnRecord};
 use ledgerlark::{
-    continuation, heading, list_item, move_forward, read, resolve_attention, resolve_headings, resolve_lists, section_length, space_or_tab,
-    Container, ListKind, Options, Refusal, Work,
+    continuation, heading, list_item, read, resolve_attention, resolve_headings, resolve_lists, section_length, space_or_tab, Container,
+    ListKind, Options, Refusal, Work,
 };
 
 const OPTIONS: Options = Options::from_bits(59);
 const OVER: [Options; 3] = [Options::from_bits(64), Options::from_bits(256), Options::from_bits(u32::MAX)];
 
-const ON_RECORDS: [OnRecord; 5] = [
+const ON_RECORDS: [OnRecord; 4] = [
     |record, options, _, work| read(record, options, work).map(drop),
-    |record, options, out, work| move_forward(record, options, out, work).map(drop),
     |record, options, out, work| resolve_attention(record, options, out, work).map(drop),
     |record, options, out, work| resolve_headings(record, options, out, work).map(drop),
     |record, options, out, work| resolve_lists(record, options, out, work).map(drop),
 ];
 
-/// All five calls on a record refuse it.
+/// All four calls on a record refuse it.
 fn refused(record: &[u8], options: Options, work_length: usize, refusal: Refusal) {
     common::refused(&ON_RECORDS, record, options, work_length, refusal);
 }

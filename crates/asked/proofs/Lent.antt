@@ -1,4 +1,4 @@
--- What `asked::made` goes by: the events of a record's parts that are lent to the check, its first bytes, are sound, and so balanced.
+-- What `asked::made` goes by: the events of a record's parts that are lent to the check, its first bytes, are sound, and can be put by a pen.
 -- Assumes nothing.
 use mathlib.Core.Path.{◌≡◌, refl, sym, ap, ◌∙◌}
 use mathlib.Core.Bool.{true}
@@ -18,7 +18,11 @@ use Rattle.record.specs.declared.check.Reading.TheVariants.{Good}
 use Rattle.record.specs.declared.form.Form.{Form}
 use Rattle.record.specs.declared.form.Handed.{Handed}
 use Rattle.record.proofs.Good.{good_record, form_known}
+use Rattle.record.proofs.Parts.{length_events}
+use Rattle.partners.specs.Pen.{Fits}
+use Rattle.partners.specs.declared.Pen.{Pen}
 use Rattle.partners.proofs.Laws.{sound_balanced}
+use Rattle.partners.proofs.Pens.{start, all_fit}
 
 -- n events of eight bytes have the same bytes in one list from `at` on as in another from `k` on
 Same : ℕ → List ℕ → ℕ → List ℕ → ℕ → Type 0
@@ -73,12 +77,15 @@ judged f parts n d e k l q =
     let z : n - 0 ≡ n = omega arith in
     first_judged f parts n d e k l (sym (rw z at q))
 
--- these events are balanced, wherever they are read from
-pub events_balanced : (f : Form) (parts : List ℕ) (d e first : ℕ) → first ≡ 4 + f.front + d + 4 → sound 64 d (events_by 8 e parts (8 + f.front + d)) ≡ true →
-    balanced (events_by 8 e parts first) ≡ true
-events_balanced f parts d e first there s =
+-- these events are put into what is lent of the record from their count on
+pub events_fit : (f : Form) (lent parts : List ℕ) (d e first : ℕ) {p : Pen} → Known f → e ≤ 2048 → first ≡ 4 + f.front + d + 4 → 4 + f.width * e ≤ length lent →
+    sound 64 d (events_by 8 e parts (8 + f.front + d)) ≡ true → p ≡ record { at = 4; width = f.width; number = 0; held = 12 + 12 * e } →
+    Fits lent p (events_by 8 e parts first)
+events_fit f lent parts d e first k few there room s q =
     let at : first ≡ 8 + f.front + d = omega arith in
-    ap (λ (m : ℕ). balanced (events_by 8 e parts m)) at ∙ sound_balanced 64 d (events_by 8 e parts (8 + f.front + d)) s
+    let b : balanced (events_by 8 e parts first) ≡ true =
+    ap (λ (m : ℕ). balanced (events_by 8 e parts m)) at ∙ sound_balanced 64 d (events_by 8 e parts (8 + f.front + d)) s in
+    all_fit (start f.width e lent (events_by 8 e parts first) q (length_events 8 e parts first) (omega arith) b k.wide room)
 
 -- the form of a record that is handed over is known
 pub known_of : (h : Handed) (f : Form) → f ≡ form_of h → Known f

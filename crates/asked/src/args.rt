@@ -9,8 +9,7 @@ use terminal::number::{LARGEST, Number, spelled};
 use terminal::say::{blame, wrong};
 use terminal::words::{same, word_start};
 
-// What a command takes: a text, a text that is a line, a text and events, a file, a file whose events can be had as text, and a file whose record is of
-// the old form or of form 2, whatever else is asked.
+// What a command takes: a text, a text that is a line, a text and events, a file, a file whose events can be had as text.
 pub const TEXT: u8 = 0;
 
 pub const LINE: u8 = 1;
@@ -20,10 +19,6 @@ pub const TEXT_AND_EVENTS: u8 = 2;
 pub const FILE: u8 = 3;
 
 pub const FILE_OF_EVENTS: u8 = 4;
-
-pub const OLD_FILE: u8 = 5;
-
-pub const SECOND_FILE: u8 = 6;
 
 // What is wrong with the arguments.
 const NO_NUMBER: u8 = 1;
@@ -249,11 +244,10 @@ fn take_other(asked: Asked, i: usize, dashed: bool) -> Asked {
     take_operand(asked, i, dashed)
 }
 
-// Whether an option is -o or --form, each of which awaits its number. Every command has them, since all go by way of a record, but for --form where the
-// command itself says the record's form.
-fn is_of_record(option: u8, takes: u8) -> bool {
+// Whether an option is one that every command has, since all go by way of a record. Each awaits its number.
+fn is_of_all(option: u8) -> bool {
     if option == FORM {
-        return takes < OLD_FILE;
+        return true;
     }
     option == b'o'
 }
@@ -261,7 +255,7 @@ fn is_of_record(option: u8, takes: u8) -> bool {
 // Argument i, by its letter as an option and by whether it looks like one.
 fn take_option(asked: Asked, i: usize, option: u8, dashed: bool) -> Asked {
     let mut asked = asked;
-    if is_of_record(option, asked.takes) {
+    if is_of_all(option) {
         asked.awaits = option;
         return asked;
     }
@@ -356,14 +350,6 @@ fn take(asked: Asked, i: usize) -> Asked {
     take_word(asked, i)
 }
 
-// The form of a record where no --form is given.
-fn usual_form(takes: u8) -> u32 {
-    if takes == SECOND_FILE {
-        return SECOND_FORM;
-    }
-    OLD_FORM
-}
-
 // The arguments from a number on, of a command that takes this.
 pub fn arguments(from: usize, takes: u8) -> Asked {
     let count = os::arg_count();
@@ -371,7 +357,7 @@ pub fn arguments(from: usize, takes: u8) -> Asked {
         takes,
         options: USUAL,
         has_options: false,
-        form: usual_form(takes),
+        form: OLD_FORM,
         as_text: false,
         column: 0,
         interrupting: false,
@@ -439,14 +425,6 @@ fn gives_other_options(asked: Asked) -> bool {
     asked.has_options
 }
 
-// Says that -o cannot be given beside what a command takes.
-fn refuse_options(takes: u8) -> u8 {
-    if takes == SECOND_FILE {
-        return wrong(b"-o does not go with move-back: the record has its options in it");
-    }
-    wrong(b"-o does not go with --form 2 here: the record has its options in it")
-}
-
 // Whether the arguments are good; says what is wrong where they are not.
 pub fn are_good(asked: Asked) -> bool {
     if asked.wrong != 0 {
@@ -462,7 +440,7 @@ pub fn are_good(asked: Asked) -> bool {
         return false;
     }
     if gives_other_options(asked) {
-        refuse_options(asked.takes);
+        wrong(b"-o does not go with --form 2 here: the record has its options in it");
         return false;
     }
     true

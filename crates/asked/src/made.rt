@@ -9,7 +9,7 @@ ghost use Rattle.record.specs.Form.{Known};
 ghost use Rattle.record.specs.Sound.{sound};
 
 use crate::input::{RECORD_ROOM, TEXT_ROOM, memory};
-use partners::{put_front, put_section};
+use partners::{begin, copy};
 use record::bytes::put_u32;
 use record::check::{Reading, Refusal, check};
 use record::form::{Form, Handed, form_of, place_of};
@@ -25,6 +25,17 @@ const WRITTEN: usize = 8;
 pub enum Made {
     Bytes(usize),
     Refused(Refusal),
+}
+
+// Writes what stands before the document's count, which has so many bytes: nothing, or count 1 and the option byte.
+fn put_front(front: usize, options: u32, rec: &mut [u8])
+    requires { (front ≤ length rec.old) × (options ≤ 63) }
+{
+    if front < 5 {
+        return;
+    }
+    put_u32(rec, 0, 1);
+    rec[4] = options as u8;
 }
 
 // Writes a record whose events stand as they are written; its length. RECORD_ROOM bytes have room for any that is over a limit by as much as it
@@ -43,7 +54,7 @@ fn put_parts(
     let front = form.front;
     let d = text.len();
     let size = place_in(section, WRITTEN, events);
-    put_front(rec, form, options);
+    put_front(front, options, rec);
     if d > TEXT_ROOM {
         return front;
     }
@@ -69,7 +80,9 @@ fn put_good(parts: &[u8], form: Form, d: usize, events: usize, rec: &mut [u8]) -
     let behind = 4 + form.front + d;
     let first = behind + 4;
     copy_in(&parts[0..behind], rec, 0);
-    put_section(&mut rec[behind..], form, parts, first, WRITTEN, events);
+    put_u32(rec, behind, events);
+    let pen = begin(form, events);
+    copy(&mut rec[behind..], pen, parts, first, WRITTEN, events);
     end
 }
 

@@ -4,7 +4,7 @@ use mathlib.Core.Path.{◌≡◌, refl, sym, ap, ◌∙◌}
 use mathlib.Core.Bool.{Bool}
 use mathlib.Core.List.{List}
 use mathlib.Core.Option.{none, some}
-use Prim.Native.Nat.{ℕ, ◌+◌, ◌<◌}
+use Prim.Native.Nat.{ℕ, ◌+◌, ◌*◌, ◌<◌}
 use native.Mathlib.Omega.{arith}
 use lib.ListN.{length}
 use Rattle.record.specs.Options.{option_on}
@@ -16,9 +16,7 @@ use Rattle.record.specs.Event.{document_in, events_in}
 use Rattle.record.specs.Good.{GoodIn}
 use Rattle.record.specs.Check.{admitted}
 use Rattle.record.specs.Outcome.{offends, Outcome, refusing, settled, onto, bytes_written}
-use Rattle.record.specs.Partners.{section_in}
 use Rattle.record.specs.Promise.{Answered}
-use Rattle.record.specs.declared.event.Event.{Event}
 use Rattle.record.specs.declared.form.Form.{Form}
 use Rattle.record.specs.declared.form.Handed.{Handed}
 use Rattle.record.specs.declared.check.Refusal.{Refusal}
@@ -66,12 +64,12 @@ offended profile f s d e options outs k q = rw q
 -- a refusal, with the output as it was
 module _ (profile : Profile) (f : Form) (s : List ℕ) (d e options : ℕ) (out : List ℕ) (n p : ℕ) where
   refuses : settled f d (attention profile options (document_in f s d) (events_in f s d e)) (length out) ≡ refusing n p →
-      (r : Answer) (out' : List ℕ) → r ≡ Refused (record { number = n; place = p }) → out' ≡ onto (bytes_written (section_in f) (refusing n p)) out →
+      (r : Answer) (out' : List ℕ) → r ≡ Refused (record { number = n; place = p }) → out' ≡ onto (bytes_written f (refusing n p)) out →
       Made profile f s d e options out r out'
   refuses q r out' er eo =
       record {
-        answer = er ∙ sym (ap (λ (o : Outcome (List Event)). answer_at profile options (document_in f s d) (events_in f s d e) o) q);
-        output = eo ∙ sym (ap (λ (o : Outcome (List Event)). onto (bytes_written (section_in f) o) out) q);
+        answer = er ∙ sym (ap (λ (o : Outcome). answer_at profile options (document_in f s d) (events_in f s d e) o) q);
+        output = eo ∙ sym (ap (λ (o : Outcome). onto (bytes_written f o) out) q);
       }
 
 -- the last step
@@ -81,7 +79,7 @@ module _ {profile : Profile} {f : Form} {s : List ℕ} {d e options n groups tri
       Made profile f s d e options out r out'
   finished_refused k p q r er =
       refuses profile f s d e options out k p (unoffended profile f s d e options (length out) m.none_offends ∙ q) r out' er
-      (en.output ∙ ap (λ (o : Outcome (List Event)). onto (bytes_written (section_in f) o) out) q)
+      (en.output ∙ ap (λ (o : Outcome). onto (bytes_written f o) out) q)
 
   pub finished_written : (events : ℕ) → written ≡ Events events → Made profile f s d e options out (Resolved events groups tried) out'
   finished_written events q =
@@ -91,8 +89,8 @@ module _ {profile : Profile} {f : Form} {s : List ℕ} {d e options n groups tri
       let t : tried ≡ (matching profile options (document_in f s d) (events_in f s d e)).tried = m.made.count in
       let z : events ≡ length (output profile options (document_in f s d) (events_in f s d e)) = a.1 in
       record {
-        answer = rw (z, g, t) (sym (ap (λ (o : Outcome (List Event)). answer_at profile options (document_in f s d) (events_in f s d e) o) (u ∙ a.0)));
-        output = en.output ∙ sym (ap (λ (o : Outcome (List Event)). onto (bytes_written (section_in f) o) out) u);
+        answer = rw (z, g, t) (sym (ap (λ (o : Outcome). answer_at profile options (document_in f s d) (events_in f s d e) o) (u ∙ a.0)));
+        output = en.output ∙ sym (ap (λ (o : Outcome). onto (bytes_written f o) out) u);
       }
 
 -- the matcher's answer, by its case
@@ -159,7 +157,7 @@ module _ {profile : Profile} {f : Form} {s : List ℕ} {d e options : ℕ} {w w'
 -- the whole call
 module _ (profile : Profile) (h : Handed) (s : List ℕ) (works : ℕ) (out : List ℕ) where
   pub refused_call : (r : Refusal) → admitted h s works ≡ readings.Refused r →
-      Answered (section_in (form_of h)) (outcome_of profile h s (length out) works) (answer_of profile h s) out (Refused r) out
+      Answered (form_of h) (outcome_of profile h s (length out) works) (answer_of profile h s) out (Refused r) out
   unfolding outcome_of onto
   refused_call r q =
       record {
@@ -168,7 +166,7 @@ module _ (profile : Profile) (h : Handed) (s : List ℕ) (works : ℕ) (out : Li
       }
 
   pub good_call : (d e : ℕ) (f : Form) (options : ℕ) (r : Answer) (out' : List ℕ) → admitted h s works ≡ readings.Good d e → f ≡ form_of h → options ≡ options_of h s →
-      Made profile f s d e options out r out' → Answered (section_in (form_of h)) (outcome_of profile h s (length out) works) (answer_of profile h s) out r out'
+      Made profile f s d e options out r out' → Answered (form_of h) (outcome_of profile h s (length out) works) (answer_of profile h s) out r out'
   unfolding outcome_of
   good_call d e f options r out' q ef eo made =
       let m : Made profile (form_of h) s d e (options_of h s) out r out' = rw (ef, eo) at made in

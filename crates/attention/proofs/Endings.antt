@@ -11,7 +11,7 @@ use Rattle.record.specs.Choice.{choose}
 use Rattle.record.specs.Bytes.{Wrote, u32_bytes}
 use Rattle.record.specs.Event.{document_in, events_in}
 use Rattle.record.specs.Outcome.{Outcome, accepted, refusing, sized, onto, bytes_written}
-use Rattle.record.specs.Partners.{balanced, section_in}
+use Rattle.record.specs.Partners.{balanced}
 use Rattle.record.specs.Sound.{sound}
 use Rattle.record.specs.declared.event.Event.{Event}
 use Rattle.record.specs.declared.form.Form.{Form}
@@ -43,9 +43,9 @@ sized_fits : (f : Form) (es : List Event) (outs : ℕ) → length es ≤ 8000 �
 unfolding sized choose
 sized_fits f es outs h k = rw (le-ltb _ _ h, le-ltb _ _ k)
 
-unwritten : (f : Form) (o : Outcome (List Event)) (n p : ℕ) (out : List ℕ) → o ≡ refusing n p → out ≡ onto (bytes_written (section_in f) o) out
+unwritten : (f : Form) (o : Outcome) (n p : ℕ) (out : List ℕ) → o ≡ refusing n p → out ≡ onto (bytes_written f o) out
 unfolding onto
-unwritten f o n p out e = sym (ap (λ (x : Outcome (List Event)). onto (bytes_written (section_in f) x) out) e)
+unwritten f o n p out e = sym (ap (λ (x : Outcome). onto (bytes_written f x) out) e)
 
 module _ {profile : Profile} {f : Form} {s : List ℕ} {d e options n groups tried : ℕ} {w : List ℕ}
     (m : Matched profile f s d e options n groups tried w) where
@@ -126,5 +126,5 @@ module _ {profile : Profile} {f : Form} {s : List ℕ} {d e options n groups tri
           short = λ z. let y : ◌≡◌ {A = ℕ} 0 1 = cc in absurd (omega arith);
           output =
               filled_section f result out out₁ out₂ m.good.known.wide (omega (arith, same_room)) a' b'
-              ∙ ap (λ (o : Outcome (List Event)). onto (bytes_written (section_in f) o) out) (sym q);
+              ∙ ap (λ (o : Outcome). onto (bytes_written f o) out) (sym q);
         }

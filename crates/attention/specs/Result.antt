@@ -4,11 +4,9 @@ use Rattle.std.specs.Prelude.{ℕ, zero, suc, ◌+◌, ◌≤◌, ◌≡◌, Lis
 use Rattle.std.proofs.Math.Option.{none}
 use Rattle.record.specs.Choice.{choose}
 use Rattle.record.specs.Event.{document_in, events_in}
-use Rattle.record.specs.declared.event.Event.{Event}
 use Rattle.record.specs.declared.form.Form.{Form}
 use Rattle.record.specs.Good.{GoodIn}
 use Rattle.record.specs.Outcome.{Outcome, accepted, refusing, sized, onto, bytes_written}
-use Rattle.record.specs.Partners.{section_in}
 use Rattle.runs.specs.Runs.{offender, runs_of}
 use Rattle.runs.specs.Rule.{Profile}
 use Rattle.runs.specs.Pieces.{outcome}
@@ -35,7 +33,7 @@ pub record Matched (profile : Profile) (f : Form) (s : List ℕ) (d e options n 
   pub made : GroupsOf (outcome profile options (document_in f s d) (events_in f s d e)) n groups tried w
 
 -- what the result comes to, of the output's length
-abbrev pub result_of : Profile → Form → List ℕ → ℕ → ℕ → ℕ → ℕ → Outcome (List Event)
+abbrev pub result_of : Profile → Form → List ℕ → ℕ → ℕ → ℕ → ℕ → Outcome
 result_of profile f s d e options outs = sized f (output profile options (document_in f s d) (events_in f s d e)) outs
 
 -- the answer, and the output afterwards
@@ -45,4 +43,4 @@ pub record Ended (profile : Profile) (f : Form) (s : List ℕ) (d e options : �
       × (n ≡ length (output profile options (document_in f s d) (events_in f s d e)))
   pub long : r ≡ Long → result_of profile f s d e options (length out) ≡ refusing 7 0
   pub short : r ≡ Short → result_of profile f s d e options (length out) ≡ refusing 8 0
-  pub output : out' ≡ onto (bytes_written (section_in f) (result_of profile f s d e options (length out))) out
+  pub output : out' ≡ onto (bytes_written f (result_of profile f s d e options (length out))) out

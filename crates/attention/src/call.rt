@@ -4,7 +4,6 @@ ghost use Rattle.std.specs.Prelude.{◌≡◌, length};
 ghost use Rattle.record.specs.Event.{document_in, events_in};
 ghost use Rattle.record.specs.Good.{GoodIn};
 ghost use Rattle.record.specs.Handed.{form_of};
-ghost use Rattle.record.specs.Partners.{section_in};
 ghost use Rattle.record.specs.Promise.{Answered};
 ghost use Rattle.runs.specs.Rule.{crate};
 ghost use Rattle.slots.specs.Layout.{Room};
@@ -124,7 +123,7 @@ fn resolve_good(
 
 // The answer and the output; work memory is left in any state.
 fn answer_attention(handed: Handed, s: &[u8], out: &mut [u8], work: &mut [u8]) -> Answer
-    ensures { Answered (section_in (form_of handed)) (outcome_of crate handed s.now (length out.old) (length work.old)) (answer_of crate handed s.now) out.old result out.new }
+    ensures { Answered (form_of handed) (outcome_of crate handed s.now (length out.old) (length work.old)) (answer_of crate handed s.now) out.old result out.new }
 {
     match admit(handed, s, work.len()) {
         Reading::Refused(refusal) => {

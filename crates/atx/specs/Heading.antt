@@ -83,7 +83,7 @@ abbrev pub nothing : Headed → Result
 nothing answer = record { answer = answer; bytes = [] }
 
 -- a section written, or a refusal and nothing written
-abbrev pub headed : Outcome (List Event) → Result
+abbrev pub headed : Outcome → Result
 headed (accepted es) = record { answer = Heading (length es); bytes = section_bytes es }
 headed (refused r) = nothing (Refused r)
 

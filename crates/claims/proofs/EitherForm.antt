@@ -14,7 +14,7 @@ use Rattle.record.specs.Form.{old, second}
 use Rattle.record.specs.Handed.{form_of}
 use Rattle.record.specs.Event.{document_in, events_in}
 use Rattle.record.specs.Outcome.{Resolution, offends, gives, Outcome, accepted, refusing, sized, settled, outcome, onto, bytes_written}
-use Rattle.record.specs.Partners.{record_in, section_in}
+use Rattle.record.specs.Partners.{record_in}
 use Rattle.record.specs.Promise.{Writes}
 use Rattle.record.specs.Rows.{document_count_in, event_count_in}
 use Rattle.record.specs.declared.check.Reading.{Reading}
@@ -64,7 +64,7 @@ read_in_both options document es work₁ work₂ r₁ r₂ work₁' work₂' b n
     (alike_in_both options document es (length work₂) b))
 
 -- what two calls come to
-data Come (d e : ℕ) : Outcome (List Event) → Outcome (List Event) → Type 0 where
+data Come (d e : ℕ) : Outcome → Outcome → Type 0 where
   refused_alike : (n p₁ p₂ : ℕ) → 0 < n → n < 8 → Alike d e (refuse n p₁) (refuse n p₂) → Come d e (refusing n p₁) (refusing n p₂)
   misshapen : (k : ℕ) → Come d e (refusing 6 (8 + d + 8 * k)) (refusing 6 (13 + d + 12 * k))
   over_many : Come d e (refusing 7 0) (refusing 7 0)
@@ -101,11 +101,11 @@ abbrev number : LarkResolved → ℕ
 number r = r.number
 
 -- and how the two calls answer that
-module _ (d e groups tried : ℕ) (a₁ a₂ : Outcome (List Event) → LarkResolved) (R₁ : Reads groups tried a₁) (R₂ : Reads groups tried a₂) where
+module _ (d e groups tried : ℕ) (a₁ a₂ : Outcome → LarkResolved) (R₁ : Reads groups tried a₁) (R₂ : Reads groups tried a₂) where
   refused_so : (n p₁ p₂ : ℕ) → SameAnswer d e (refusal n p₁) (refusal n p₂) → SameAnswer d e (a₁ (refusing n p₁)) (a₂ (refusing n p₂))
   refused_so n p₁ p₂ x = rw (R₁.of_refused n p₁, R₂.of_refused n p₂) x
 
-  answered : (o₁ o₂ : Outcome (List Event)) → Come d e o₁ o₂ → (number (a₁ o₁) ≡ 8 → ⊥) → (number (a₂ o₂) ≡ 8 → ⊥) → SameAnswer d e (a₁ o₁) (a₂ o₂)
+  answered : (o₁ o₂ : Outcome) → Come d e o₁ o₂ → (number (a₁ o₁) ≡ 8 → ⊥) → (number (a₂ o₂) ≡ 8 → ⊥) → SameAnswer d e (a₁ o₁) (a₂ o₂)
   answered o₁ o₂ (refused_alike n p₁ p₂ h h' x) l₁ l₂ = refused_so n p₁ p₂ (by_check n p₁ p₂ x)
   answered o₁ o₂ (misshapen k) l₁ l₂ = refused_so 6 (8 + d + 8 * k) (13 + d + 12 * k) (by_shape k)
   answered o₁ o₂ over_many l₁ l₂ = refused_so 7 0 0 too_many
@@ -115,14 +115,14 @@ module _ (d e groups tried : ℕ) (a₁ a₂ : Outcome (List Event) → LarkReso
   answered o₁ o₂ (both_accepted rs) l₁ l₂ = rw (R₁.of_accepted rs, R₂.of_accepted rs) (both_resolved (length rs) groups tried)
 
   -- a refusal with another number than 8
-  no_eight : {a : Outcome (List Event) → LarkResolved} → Reads groups tried a → (n p : ℕ) → n < 8 → number (a (refusing n p)) ≡ 8 → ⊥
+  no_eight : {a : Outcome → LarkResolved} → Reads groups tried a → (n p : ℕ) → n < 8 → number (a (refusing n p)) ≡ 8 → ⊥
   no_eight reads n p h z = let e : number (refusal n p) ≡ 8 = sym (ap number (reads.of_refused n p)) ∙ z in omega arith
 
-  zero_number : {a : Outcome (List Event) → LarkResolved} → Reads groups tried a → (rs : List Event) → number (a (accepted rs)) ≡ 0
+  zero_number : {a : Outcome → LarkResolved} → Reads groups tried a → (rs : List Event) → number (a (accepted rs)) ≡ 0
   zero_number reads rs = ap number (reads.of_accepted rs)
 
   -- where one answers 8
-  eight_in_old : (o₁ o₂ : Outcome (List Event)) → Come d e o₁ o₂ → number (a₁ o₁) ≡ 8 → (number (a₂ o₂) ≡ 8) ⊎ (number (a₂ o₂) ≡ 0)
+  eight_in_old : (o₁ o₂ : Outcome) → Come d e o₁ o₂ → number (a₁ o₁) ≡ 8 → (number (a₂ o₂) ≡ 8) ⊎ (number (a₂ o₂) ≡ 0)
   eight_in_old o₁ o₂ (refused_alike n p₁ p₂ h h' x) z = absurd (no_eight R₁ n p₁ h' z)
   eight_in_old o₁ o₂ (misshapen k) z = absurd (no_eight R₁ 6 (8 + d + 8 * k) (omega arith) z)
   eight_in_old o₁ o₂ over_many z = absurd (no_eight R₁ 7 0 (omega arith) z)
@@ -131,7 +131,7 @@ module _ (d e groups tried : ℕ) (a₁ a₂ : Outcome (List Event) → LarkReso
   eight_in_old o₁ o₂ (no_room_in_second rs) z = inl (ap number (R₂.of_refused 8 0))
   eight_in_old o₁ o₂ (both_accepted rs) z = inr (zero_number R₂ rs)
 
-  eight_in_second : (o₁ o₂ : Outcome (List Event)) → Come d e o₁ o₂ → number (a₂ o₂) ≡ 8 → (number (a₁ o₁) ≡ 8) ⊎ (number (a₁ o₁) ≡ 0)
+  eight_in_second : (o₁ o₂ : Outcome) → Come d e o₁ o₂ → number (a₂ o₂) ≡ 8 → (number (a₁ o₁) ≡ 8) ⊎ (number (a₁ o₁) ≡ 0)
   eight_in_second o₁ o₂ (refused_alike n p₁ p₂ h h' x) z = absurd (no_eight R₂ n p₂ h' z)
   eight_in_second o₁ o₂ (misshapen k) z = absurd (no_eight R₂ 6 (13 + d + 12 * k) (omega arith) z)
   eight_in_second o₁ o₂ over_many z = absurd (no_eight R₂ 7 0 (omega arith) z)
@@ -140,10 +140,10 @@ module _ (d e groups tried : ℕ) (a₁ a₂ : Outcome (List Event) → LarkReso
   eight_in_second o₁ o₂ (no_room_in_second rs) z = inr (zero_number R₁ rs)
   eight_in_second o₁ o₂ (both_accepted rs) z = inr (zero_number R₁ rs)
 
-  no_zero : {a : Outcome (List Event) → LarkResolved} → Reads groups tried a → (n p : ℕ) → 0 < n → number (a (refusing n p)) ≡ 0 → ⊥
+  no_zero : {a : Outcome → LarkResolved} → Reads groups tried a → (n p : ℕ) → 0 < n → number (a (refusing n p)) ≡ 0 → ⊥
   no_zero reads n p h z = let e : number (refusal n p) ≡ 0 = sym (ap number (reads.of_refused n p)) ∙ z in omega arith
 
-  wrote : (out₁ out₂ out₁' out₂' : List ℕ) (o₁ o₂ : Outcome (List Event)) → Come d e o₁ o₂ → out₁' ≡ onto (bytes_written (section_in old) o₁) out₁ → out₂' ≡ onto (bytes_written (section_in second) o₂) out₂ →
+  wrote : (out₁ out₂ out₁' out₂' : List ℕ) (o₁ o₂ : Outcome) → Come d e o₁ o₂ → out₁' ≡ onto (bytes_written old o₁) out₁ → out₂' ≡ onto (bytes_written second o₂) out₂ →
       number (a₁ o₁) ≡ 0 → number (a₂ o₂) ≡ 0 → SameEvents out₁ out₂ out₁' out₂'
   wrote out₁ out₂ out₁' out₂' o₁ o₂ (refused_alike n p₁ p₂ h h' x) w₁ w₂ z₁ z₂ = absurd (no_zero R₁ n p₁ h z₁)
   wrote out₁ out₂ out₁' out₂' o₁ o₂ (misshapen k) w₁ w₂ z₁ z₂ = absurd (no_zero R₁ 6 (8 + d + 8 * k) (omega arith) z₁)
@@ -154,15 +154,15 @@ module _ (d e groups tried : ℕ) (a₁ a₂ : Outcome (List Event) → LarkReso
   wrote out₁ out₂ out₁' out₂' o₁ o₂ (both_accepted rs) w₁ w₂ z₁ z₂ = record { events = rs; in_old = w₁; in_second = w₂ }
 
 -- the three resolvers, once: each looks at the options, the document and the events, and at nothing else of the record
-in_both : (resolve : ℕ → List ℕ → List Event → Resolution) (groups tried : ℕ) (a₁ a₂ : Outcome (List Event) → LarkResolved) → Reads groups tried a₁ → Reads groups tried a₂ →
+in_both : (resolve : ℕ → List ℕ → List Event → Resolution) (groups tried : ℕ) (a₁ a₂ : Outcome → LarkResolved) → Reads groups tried a₁ → Reads groups tried a₂ →
     (options : ℕ) (document : List ℕ) (es : List Event) (out₁ out₂ work₁ work₂ : List ℕ) (r₁ r₂ : LarkResolved) (out₁' out₂' work₁' work₂' : List ℕ) →
     Writable document es → length work₁ ≡ length work₂ →
-    Writes (section_in old) (λ outs works. comes_to resolve (Old options) (record_in old options document es) works outs) a₁ out₁ work₁ r₁ out₁' work₁' →
-    Writes (section_in second) (λ outs works. comes_to resolve Second (record_in second options document es) works outs) a₂ out₂ work₂ r₂ out₂' work₂' →
+    Writes old (λ outs works. comes_to resolve (Old options) (record_in old options document es) works outs) a₁ out₁ work₁ r₁ out₁' work₁' →
+    Writes second (λ outs works. comes_to resolve Second (record_in second options document es) works outs) a₂ out₂ work₂ r₂ out₂' work₂' →
     SameInBoth (length document) (length es) out₁ out₂ r₁ r₂ out₁' out₂'
 in_both resolve groups tried a₁ a₂ R₁ R₂ options document es out₁ out₂ work₁ work₂ r₁ r₂ out₁' out₂' work₁' work₂' b n p q =
-    let o₁ : Outcome (List Event) = comes_to resolve (Old options) (record_in old options document es) (length work₁) (length out₁) in
-    let o₂ : Outcome (List Event) = comes_to resolve Second (record_in second options document es) (length work₂) (length out₂) in
+    let o₁ : Outcome = comes_to resolve (Old options) (record_in old options document es) (length work₁) (length out₁) in
+    let o₂ : Outcome = comes_to resolve Second (record_in second options document es) (length work₂) (length out₂) in
     let c : Come (length document) (length es) o₁ o₂ = comes in
     record {
       answers = λ l₁ l₂.
@@ -210,7 +210,7 @@ module _ (h : Handed) (options : ℕ) (document : List ℕ) (es : List Event) (b
 -- so what attention counts of the record it counts of these
 counted : (profile : Profile) (h : Handed) (options : ℕ) (document : List ℕ) (es : List Event) → With h options → Writable document es →
     Reads (length (matching profile options document es).groups) (matching profile options document es).tried
-    (λ (o : Outcome (List Event)). lark_attention (attentionCall.answer_of profile h (record_in (form_of h) options document es) o))
+    (λ (o : Outcome). lark_attention (attentionCall.answer_of profile h (record_in (form_of h) options document es) o))
 counted profile h options document es o b =
     let s : List ℕ = record_in (form_of h) options document es in
     record {
@@ -233,11 +233,11 @@ attention_in_both profile options document es out₁ out₂ work₁ work₂ r₁
 pub headings_in_both : HeadingsInBoth
 unfolding headingsCall.outcome_of
 headings_in_both =
-    in_both (λ options document es. headings es) 0 0 (λ (o : Outcome (List Event)). lark_headings (headingsCall.answer_of o)) (λ (o : Outcome (List Event)). lark_headings (headingsCall.answer_of o))
+    in_both (λ options document es. headings es) 0 0 (λ (o : Outcome). lark_headings (headingsCall.answer_of o)) (λ (o : Outcome). lark_headings (headingsCall.answer_of o))
     (record { of_refused = λ n p. refl; of_accepted = λ es. refl }) (record { of_refused = λ n p. refl; of_accepted = λ es. refl })
 
 pub lists_in_both : ListsInBoth
 unfolding listsCall.outcome_of
 lists_in_both =
-    in_both (λ options document es. lists document es) 0 0 (λ (o : Outcome (List Event)). lark_lists (listsCall.answer_of o)) (λ (o : Outcome (List Event)). lark_lists (listsCall.answer_of o))
+    in_both (λ options document es. lists document es) 0 0 (λ (o : Outcome). lark_lists (listsCall.answer_of o)) (λ (o : Outcome). lark_lists (listsCall.answer_of o))
     (record { of_refused = λ n p. refl; of_accepted = λ es. refl }) (record { of_refused = λ n p. refl; of_accepted = λ es. refl })

@@ -4,8 +4,6 @@ pub mod Lines
 pub mod Accepted
 pub mod ReadsBack
 pub mod Titles
-pub mod Moves
-pub mod Bare
 pub mod EitherForm
 pub mod ChainsAsLists
 pub mod Positions

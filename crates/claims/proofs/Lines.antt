@@ -247,11 +247,11 @@ heading_told s options column outs =
 abbrev Silent : Result → Type 0
 Silent x = (lark_headed x.answer).found ≡ 0 → x.bytes ≡ []
 
-silent_outcome : (o : Outcome (List Event)) → Silent (headed o)
+silent_outcome : (o : Outcome) → Silent (headed o)
 silent_outcome (accepted es) q = absurd (omega arith)
 silent_outcome (refused x) q = refl
 
-silent_choice : (z : Bool) (o : Outcome (List Event)) → Silent (choose z (headed o) (nothing NotHeading))
+silent_choice : (z : Bool) (o : Outcome) → Silent (choose z (headed o) (nothing NotHeading))
 unfolding choose
 silent_choice true o q = silent_outcome o q
 silent_choice false o q = refl
@@ -297,7 +297,7 @@ goes_with s options column outs =
     (with_choice (heading_events (line_of s)) outs (is_heading (line_of s) options column))
 
 -- what is written fits
-within_choice : (z : Bool) (a b : Outcome (List Event)) (outs : ℕ) → (z ≡ false → length (headed b).bytes ≤ outs) → length (headed a).bytes ≤ outs →
+within_choice : (z : Bool) (a b : Outcome) (outs : ℕ) → (z ≡ false → length (headed b).bytes ≤ outs) → length (headed a).bytes ≤ outs →
     length (headed (choose z a b)).bytes ≤ outs
 unfolding choose
 within_choice true a b outs f g = g
@@ -310,7 +310,7 @@ within_sized es outs =
     (λ q. within_choice (ltb outs (4 + 8 * length es)) _ _ outs (λ k. let h = ltb-false _ _ k in rw length_section h) (omega arith))
     (omega arith)
 
-within_line : (z : Bool) (o : Outcome (List Event)) (outs : ℕ) → length (headed o).bytes ≤ outs → length (choose z (headed o) (nothing NotHeading)).bytes ≤ outs
+within_line : (z : Bool) (o : Outcome) (outs : ℕ) → length (headed o).bytes ≤ outs → length (choose z (headed o) (nothing NotHeading)).bytes ≤ outs
 unfolding choose
 within_line true o outs h = h
 within_line false o outs h = omega arith

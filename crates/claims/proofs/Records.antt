@@ -16,13 +16,13 @@ use Rattle.record.specs.Form.{old, second}
 use Rattle.record.specs.Handed.{form_of, options_of}
 use Rattle.record.specs.Partners.{section_in}
 use Rattle.record.specs.Rows.{Row, document_count_in, event_count_in}
-use Rattle.record.specs.Written.{WrittenRow, by_check, row_6, row_7, row_8, ExactlyWhen, ExactlyWritten}
-use Rattle.record.specs.Outcome.{Outcome, accepted, refused, refusing, Resolution, gives, outcome, onto, bytes_written}
+use Rattle.record.specs.Written.{WrittenRow, by_check, row_6, row_7, row_8, ExactlyWritten}
+use Rattle.record.specs.Outcome.{Outcome, accepted, refused, refusing, Resolution, outcome, onto, bytes_written}
 use Rattle.record.specs.Promise.{Writes}
 use Rattle.record.specs.declared.check.Reading.{Reading}
-use Rattle.record.specs.declared.check.Refusal.{Refusal}
 use Rattle.record.specs.declared.check.Reading.TheVariants.{Good, Refused}
 use Rattle.record.specs.declared.event.Event.{Event}
+use Rattle.record.specs.declared.form.Form.{Form}
 use Rattle.record.specs.declared.form.Handed.{Handed}
 use Rattle.record.specs.declared.form.Handed.TheVariants.{Old, Second}
 use Rattle.record.proofs.Exactly.{exactly, row_low}
@@ -30,6 +30,7 @@ use Rattle.record.proofs.Good.{admission}
 use Rattle.record.proofs.Parts.{length_document}
 use Rattle.partners.proofs.Written.{length_section_in}
 use Rattle.record.proofs.Output.{onto_bytes, onto_rest, onto_none}
+use Rattle.runs.specs.Rule.{Profile}
 use Rattle.attention.specs.Attention.{attention}
 use Rattle.attention.specs.Promise as attentionCall
 use Rattle.attention.specs.Shape.{Offends as RunOffends}
@@ -45,7 +46,7 @@ use Rattle.list.proofs.Exactly.{exactly_resolved as lists-exactly-resolved}
 use Rattle.ledgerlark.specs.Answers.{lark_reading, lark_reading2, lark_attention, lark_headings, lark_lists, ReadBy}
 use Rattle.ledgerlark.specs.declared.resolve.LarkResolved.{LarkResolved}
 use Rattle.claims.specs.Told.{Told}
-use Rattle.claims.specs.Records.{doc_of, all_events, read_refusal, read2_refusal, refusal, resolved, ReadClaim, ReadingClaim, Reading2Claim, Isolated, Claim, ResolverClaim, AttentionClaim, AttentionCalls, HeadingsClaim, HeadingsCalls, ListsClaim, ListsCalls}
+use Rattle.claims.specs.Records.{doc_of, all_events, read_refusal, read2_refusal, refusal, resolved, ReadClaim, ReadingClaim, Reading2Claim, Isolated, Numbered, Accepts, Claim, AttentionClaim, HeadingsClaim, ListsClaim}
 
 -- a row of the table has a number from 1 up
 pub written_number : {h : Handed} {s : List ℕ} {works : ℕ} {Offends : ℕ → Type 0} {made : Resolution} {outs n p : ℕ} →
@@ -135,123 +136,92 @@ reading2_claim s =
 
 -- every call that writes, once: what it comes to, and how its answer reads that
 
--- an answer tells an outcome in numbers: 0 where something is written, a refusal's number and place else
-pub record Tells {A W : Type 0} (number place : A → ℕ) (refusal : ℕ → ℕ → A) (answers : Outcome W → A) : Type 0 where
+-- an answer reads an outcome in numbers: how much was made where something is written, a refusal's number and place else
+pub record Reads (groups tried : ℕ) (answers : Outcome → LarkResolved) : Type 0 where
   pub of_refused : (n p : ℕ) → answers (refusing n p) ≡ refusal n p
-  pub of_accepted : (w : W) → number (answers (accepted w)) ≡ 0
-  pub its_number : (n p : ℕ) → number (refusal n p) ≡ n
-  pub its_place : (n p : ℕ) → place (refusal n p) ≡ p
+  pub of_accepted : (es : List Event) → answers (accepted es) ≡ resolved (length es) groups tried
+
+of_zero : {groups tried : ℕ} {answers : Outcome → LarkResolved} → Reads groups tried answers → (es : List Event) → (answers (accepted es)).number ≡ 0
+of_zero reads es = ap (λ (x : LarkResolved). x.number) (reads.of_accepted es)
 
 -- an output that begins with some bytes: they stand in front, and what is behind them is as it was
 pub seam : (bs out o : List ℕ) → o ≡ onto bs out → (take (length bs) o ≡ bs) × (drop (length bs) o ≡ drop (length bs) out)
 seam bs out o e =
     (ap (λ (l : List ℕ). take (length bs) l) e ∙ onto_bytes bs out, ap (λ (l : List ℕ). drop (length bs) l) e ∙ onto_rest bs out)
 
--- the claim, over what a call comes to, the rows that it can give, and what it may write, which its bytes have room for
-module _ {A W : Type 0} (number place : A → ℕ) (refusal : ℕ → ℕ → A) (bytes : W → List ℕ) (comes : ℕ → ℕ → Outcome W) (answers : Outcome W → A)
-    (T : Tells number place refusal answers) (R : ℕ → ℕ → ℕ → ℕ → Type 0) (Made : W → Type 0) (low : (outs works n p : ℕ) → R outs works n p → 0 < n)
-    (x : (outs works : ℕ) → ExactlyWhen (R outs works) Made (comes outs works)) where
-  isolates : (out₁ out₂ work₁ work₂ : List ℕ) (r₁ r₂ : A) (o₁ o₂ w₁ w₂ : List ℕ) → length out₁ ≡ length out₂ → length work₁ ≡ length work₂ →
-      Writes bytes comes answers out₁ work₁ r₁ o₁ w₁ → Writes bytes comes answers out₂ work₂ r₂ o₂ w₂ →
-      Isolated (bytes_written bytes (comes (length out₁) (length work₁))) out₁ out₂ r₁ r₂ o₁ o₂ w₁ w₂
-  isolates out₁ out₂ work₁ work₂ r₁ r₂ o₁ o₂ w₁ w₂ eo ew p q =
-      let same : comes (length out₁) (length work₁) ≡ comes (length out₂) (length work₂) = cc in
-      let there : o₂ ≡ onto (bytes_written bytes (comes (length out₁) (length work₁))) out₂ =
-      q.output ∙ sym (ap (λ (o : Outcome W). onto (bytes_written bytes o) out₂) same) in
-      let one = seam (bytes_written bytes (comes (length out₁) (length work₁))) out₁ o₁ p.output in
-      let two = seam (bytes_written bytes (comes (length out₁) (length work₁))) out₂ o₂ there in
-      record {
-        answer = p.answer ∙ ap answers same ∙ sym q.answer;
-        first = one.0;
-        second = two.0;
-        first_kept = one.1;
-        second_kept = two.1;
-        work = p.wiped ∙ ap (λ (n : ℕ). replicate n 0) ew ∙ sym q.wiped;
-      }
+writes_isolated : {f : Form} {comes : ℕ → ℕ → Outcome} {answers : Outcome → LarkResolved} {out₁ out₂ work₁ work₂ : List ℕ} {r₁ r₂ : LarkResolved}
+    {o₁ o₂ w₁ w₂ : List ℕ} →
+    length out₁ ≡ length out₂ → length work₁ ≡ length work₂ → Writes f comes answers out₁ work₁ r₁ o₁ w₁ → Writes f comes answers out₂ work₂ r₂ o₂ w₂ →
+    Isolated (bytes_written f (comes (length out₁) (length work₁))) out₁ out₂ r₁ r₂ o₁ o₂ w₁ w₂
+writes_isolated {f} {comes} {answers} {out₁} {out₂} {work₁} {work₂} {o₁ = o₁} {o₂ = o₂} eo ew p q =
+    let same : comes (length out₁) (length work₁) ≡ comes (length out₂) (length work₂) = cc in
+    let there : o₂ ≡ onto (bytes_written f (comes (length out₁) (length work₁))) out₂ =
+    q.output ∙ sym (ap (λ (o : Outcome). onto (bytes_written f o) out₂) same) in
+    let one = seam (bytes_written f (comes (length out₁) (length work₁))) out₁ o₁ p.output in
+    let two = seam (bytes_written f (comes (length out₁) (length work₁))) out₂ o₂ there in
+    record {
+      answer = p.answer ∙ ap answers same ∙ sym q.answer;
+      first = one.0;
+      second = two.0;
+      first_kept = one.1;
+      second_kept = two.1;
+      work = p.wiped ∙ ap (λ (n : ℕ). replicate n 0) ew ∙ sym q.wiped;
+    }
 
-  back : (o : Outcome W) (n p : ℕ) → 0 < n → answers o ≡ refusal n p → o ≡ refusing n p
-  back (accepted w) n p h q = let z : 0 ≡ n = sym (T.of_accepted w) ∙ ap number q ∙ T.its_number n p in absurd (omega arith)
-  back (refused y) n p h q =
-      let e : refusal y.number y.place ≡ refusal n p = sym (T.of_refused y.number y.place) ∙ q in
-      let e₁ : y.number ≡ n = sym (T.its_number y.number y.place) ∙ ap number e ∙ T.its_number n p in
-      let e₂ : y.place ≡ p = sym (T.its_place y.number y.place) ∙ ap place e ∙ T.its_place n p in
-      let e₃ : refusing {W = W} y.number y.place ≡ refusing n p = cc in
-      e₃
+keeps : {groups tried : ℕ} {f : Form} {comes : ℕ → ℕ → Outcome} {answers : Outcome → LarkResolved} {out work : List ℕ} {r : LarkResolved} {out' work' : List ℕ} →
+    Reads groups tried answers → (o : Outcome) → comes (length out) (length work) ≡ o → Writes f comes answers out work r out' work' → 0 < r.number → out' ≡ out
+keeps {groups} {tried} {f} {comes} {answers} {out} {work} {r} reads (accepted es) e a h =
+    let z : r.number ≡ 0 = ap (λ (x : LarkResolved). x.number) (a.answer ∙ ap answers e) ∙ of_zero reads es in absurd (omega arith)
+keeps {groups} {tried} {f} {comes} {answers} {out} {work} {r} reads (refused x) e a h =
+    a.output ∙ ap (λ (o : Outcome). onto (bytes_written f o) out) e ∙ onto_none out
 
-  module _ (out work : List ℕ) (r : A) (out' work' : List ℕ) (a : Writes bytes comes answers out work r out' work') where
-    abbrev o : Outcome W
-    o = comes (length out) (length work)
+no_refusal_writes : {groups tried : ℕ} {f : Form} {comes : ℕ → ℕ → Outcome} {answers : Outcome → LarkResolved} {out work : List ℕ} {r : LarkResolved} {out' work' : List ℕ} →
+    Reads groups tried answers → Writes f comes answers out work r out' work' → 0 < r.number → out' ≡ out
+no_refusal_writes {groups} {tried} {f} {comes} {answers} {out} {work} reads a h = keeps reads (comes (length out) (length work)) refl a h
 
-    -- number 0 and a refusal are apart
-    no_zero : (y : Refusal) → o ≡ refused y → number r ≡ 0 → ⊥
-    no_zero y c z =
-        let h = low (length out) (length work) y.number y.place ((x (length out) (length work)).refused y.number y.place c).holds in
-        let k : number r ≡ y.number = ap number (a.answer ∙ ap answers c ∙ T.of_refused y.number y.place) ∙ T.its_number y.number y.place in
-        omega arith
+back : {groups tried : ℕ} {answers : Outcome → LarkResolved} → Reads groups tried answers → (o : Outcome) (n p : ℕ) → 0 < n → answers o ≡ refusal n p → o ≡ refusing n p
+back {groups} {tried} {answers} reads (accepted es) n p h q =
+    let z : 0 ≡ n = sym (of_zero reads es) ∙ ap (λ (x : LarkResolved). x.number) q in absurd (omega arith)
+back {groups} {tried} {answers} reads (refused x) n p h q =
+    let e : refusal x.number x.place ≡ refusal n p = sym (reads.of_refused x.number x.place) ∙ q in
+    let e₁ : x.number ≡ n = ap (λ (y : LarkResolved). y.number) e in
+    let e₂ : x.place ≡ p = ap (λ (y : LarkResolved). y.place) e in
+    let e₃ : refusing x.number x.place ≡ refusing n p = cc in
+    e₃
 
-    zero : (w : W) → o ≡ accepted w → number r ≡ 0
-    zero w c = ap number (a.answer ∙ ap answers c) ∙ T.of_accepted w
+-- the rows as the resolver's own crate states them, read as numbers
+told : {groups tried : ℕ} {f : Form} {comes : ℕ → ℕ → Outcome} {answers : Outcome → LarkResolved} {h : Handed} {s : List ℕ} {Offends : ℕ → Type 0} {resolve : ℕ → ℕ → Resolution}
+    {out work : List ℕ} {r : LarkResolved} {out' work' : List ℕ} → Reads groups tried answers →
+    comes (length out) (length work) ≡ outcome (form_of h) (admitted h s (length work)) resolve (length out) →
+    ExactlyWritten h s (length work) Offends resolve (length out) → Writes f comes answers out work r out' work' →
+    Numbered (WrittenRow h s (length work) Offends (resolve (document_count_in (form_of h) s) (event_count_in (form_of h) s)) (length out)) r
+told {groups} {tried} {f} {comes} {answers} {h} {s} {Offends} {resolve} {out} {work} {r} reads e x a =
+    record {
+      given = λ n p l. a.answer ∙ ap answers (e ∙ x.given n p l) ∙ reads.of_refused n p;
+      only = λ n p h q. x.refused n p (sym e ∙ back reads (comes (length out) (length work)) n p h (sym a.answer ∙ q));
+      accepted = λ none. zero_number (outcome (form_of h) (admitted h s (length work)) resolve (length out)) e none;
+      none_holds = λ z. none_held (outcome (form_of h) (admitted h s (length work)) resolve (length out)) e z;
+      nothing_more = λ h. whole (comes (length out) (length work)) a.answer h;
+    }
+  where
+    zero_number : (o : Outcome) → comes (length out) (length work) ≡ o →
+        ((n p : ℕ) → WrittenRow h s (length work) Offends (resolve (document_count_in (form_of h) s) (event_count_in (form_of h) s)) (length out) n p → ⊥) → r.number ≡ 0
+    zero_number (accepted es) c none = ap (λ (y : LarkResolved). y.number) (a.answer ∙ ap answers c) ∙ of_zero reads es
+    zero_number (refused y) c none = absurd (none y.number y.place (x.refused y.number y.place (sym e ∙ c)).holds)
 
-    -- the rows, read as numbers
-    told : Told number place refusal (R (length out) (length work)) r
-    told =
-        record {
-          given = λ n p l. a.answer ∙ ap answers ((x (length out) (length work)).given n p l) ∙ T.of_refused n p;
-          only = λ n p h q. (x (length out) (length work)).refused n p (back o n p h (sym a.answer ∙ q));
-          accepted = λ none. zero_number o refl none;
-          none_holds = λ z. none_held o refl z;
-          nothing_more = λ h. whole o refl h;
-        }
-      where
-        zero_number : (v : Outcome W) → comes (length out) (length work) ≡ v → ((n p : ℕ) → R (length out) (length work) n p → ⊥) → number r ≡ 0
-        zero_number (accepted w) c none = zero w c
-        zero_number (refused y) c none = absurd (none y.number y.place ((x (length out) (length work)).refused y.number y.place c).holds)
+    none_held : (o : Outcome) → comes (length out) (length work) ≡ o → r.number ≡ 0 →
+        (n p : ℕ) → WrittenRow h s (length work) Offends (resolve (document_count_in (form_of h) s) (event_count_in (form_of h) s)) (length out) n p → ⊥
+    none_held (accepted es) c z = (x.good es (sym e ∙ c)).1
+    none_held (refused y) c z =
+        let h = written_number (x.refused y.number y.place (sym e ∙ c)).holds in
+        let k : r.number ≡ y.number = ap (λ (v : LarkResolved). v.number) (a.answer ∙ ap answers c ∙ reads.of_refused y.number y.place) in
+        absurd (omega arith)
 
-        none_held : (v : Outcome W) → comes (length out) (length work) ≡ v → number r ≡ 0 → (n p : ℕ) → R (length out) (length work) n p → ⊥
-        none_held (accepted w) c z = ((x (length out) (length work)).good w c).1
-        none_held (refused y) c z = absurd (no_zero y c z)
-
-        whole : (v : Outcome W) → comes (length out) (length work) ≡ v → 0 < number r → r ≡ refusal (number r) (place r)
-        whole (accepted w) c h = let z = zero w c in absurd (omega arith)
-        whole (refused y) c h =
-            let k : r ≡ refusal y.number y.place = a.answer ∙ ap answers c ∙ T.of_refused y.number y.place in
-            let e₁ : number r ≡ y.number = ap number k ∙ T.its_number y.number y.place in
-            let e₂ : place r ≡ y.place = ap place k ∙ T.its_place y.number y.place in
-            k ∙ sym (rw (e₁, e₂))
-
-    keeps : 0 < number r → out' ≡ out
-    keeps h = go o refl
-      where
-        go : (v : Outcome W) → comes (length out) (length work) ≡ v → out' ≡ out
-        go (accepted w) c = let z = zero w c in absurd (omega arith)
-        go (refused y) c = a.output ∙ ap (λ (v : Outcome W). onto (bytes_written bytes v) out) c ∙ onto_none out
-
-  pub claimed : (Accepts : List ℕ → A → List ℕ → Type 0) →
-      ((works : ℕ) (out : List ℕ) (r : A) (out' : List ℕ) (w : W) → Made w → ((n p : ℕ) → R (length out) works n p → ⊥) → r ≡ answers (accepted w) →
-      out' ≡ onto (bytes w) out → Accepts out r out') →
-      ((outs works : ℕ) (w : W) → Made w → ((n p : ℕ) → R outs works n p → ⊥) → length (bytes w) ≤ outs) →
-      Claim number place refusal R Accepts (Writes bytes comes answers) (λ outs works. bytes_written bytes (comes outs works))
-  claimed Accepts so room =
-      record {
-        unique = λ out work r₁ r₂ o₁ o₂ w₁ w₂ p q. (p.answer ∙ sym q.answer, p.output ∙ sym q.output, p.wiped ∙ sym q.wiped);
-        isolated = isolates;
-        exactly = told;
-        refusal_writes_nothing = keeps;
-        accepts = λ out work r out' work' a z. made_so out work r out' work' a z (comes (length out) (length work)) refl;
-        fits = λ out work. within (length out) (length work) (comes (length out) (length work)) refl;
-        wiped = λ out work r out' work' a. a.wiped;
-      }
-    where
-      within : (outs works : ℕ) (v : Outcome W) → comes outs works ≡ v → length (bytes_written bytes (comes outs works)) ≤ outs
-      within outs works (refused y) c = rw c (omega arith)
-      within outs works (accepted w) c = let g = (x outs works).good w c in rw c (room outs works w g.0 g.1)
-
-      made_so : (out work : List ℕ) (r : A) (out' work' : List ℕ) → Writes bytes comes answers out work r out' work' → number r ≡ 0 →
-          (v : Outcome W) → comes (length out) (length work) ≡ v → Accepts out r out'
-      made_so out work r out' work' a z (accepted w) c =
-          let g = (x (length out) (length work)).good w c in
-          so (length work) out r out' w g.0 g.1 (a.answer ∙ ap answers c) (a.output ∙ ap (λ (v : Outcome W). onto (bytes_written bytes v) out) c)
-      made_so out work r out' work' a z (refused y) c = absurd (no_zero out work r out' work' a y c z)
+    whole : (o : Outcome) → r ≡ answers o → 0 < r.number → r ≡ refusal r.number r.place
+    whole (accepted es) q h = let z : r.number ≡ 0 = ap (λ (v : LarkResolved). v.number) q ∙ of_zero reads es in absurd (omega arith)
+    whole (refused y) q h =
+        let k : r ≡ refusal y.number y.place = q ∙ reads.of_refused y.number y.place in
+        rw k refl
 
 pub at_most : (a b : ℕ) → (b < a → ⊥) → a ≤ b
 at_most a b f = go (leb a b) refl
@@ -265,38 +235,48 @@ length_handed : (h : Handed) (es : List Event) → length (section_in (form_of h
 length_handed (Old options) es = length_section_in old es (inl refl)
 length_handed Second es = length_section_in second es (inr refl)
 
--- the three resolvers: an answer tells how much was made
-pub record Reads (groups tried : ℕ) (answers : Outcome (List Event) → LarkResolved) : Type 0 where
-  pub of_refused : (n p : ℕ) → answers (refusing n p) ≡ refusal n p
-  pub of_accepted : (es : List Event) → answers (accepted es) ≡ resolved (length es) groups tried
-
-resolver_claimed : (comes : ℕ → ℕ → Outcome (List Event)) (answers : Outcome (List Event) → LarkResolved) (h : Handed) (s : List ℕ) (Offends : ℕ → Type 0)
-    (resolve : ℕ → ℕ → Resolution) (groups tried : ℕ) → Reads groups tried answers →
-    ((outs works : ℕ) → comes outs works ≡ outcome (form_of h) (admitted h s works) resolve outs) → ((outs works : ℕ) → ExactlyWritten h s works Offends resolve outs) →
-    ResolverClaim h s Offends (resolve (document_count_in (form_of h) s) (event_count_in (form_of h) s)) groups tried (Writes (section_in (form_of h)) comes answers)
-    (λ outs works. bytes_written (section_in (form_of h)) (comes outs works))
-resolver_claimed comes answers h s Offends resolve groups tried reads e x =
-    claimed (λ (v : LarkResolved). v.number) (λ (v : LarkResolved). v.place) refusal (section_in (form_of h)) comes answers tells
-    (λ outs works. WrittenRow h s works Offends (resolve (document_count_in (form_of h) s) (event_count_in (form_of h) s)) outs)
-    (λ es. resolve (document_count_in (form_of h) s) (event_count_in (form_of h) s) ≡ gives es) (λ outs works n p r. written_number r)
-    (λ outs works. rw (e outs works) (x outs works))
-    _
-    (λ works out r out' es m none q w. record { events = es; made_so = m; answer = q ∙ reads.of_accepted es; written = w })
-    (λ outs works es m none. rw (length_handed h es) (at_most (4 + (form_of h).width * length es) outs (λ l. none 8 0 (row_8 es m l refl refl))))
+-- which holds of each, by its promise alone
+claimed : (comes : ℕ → ℕ → Outcome) (answers : Outcome → LarkResolved) (h : Handed) (s : List ℕ) (Offends : ℕ → Type 0) (resolve : ℕ → ℕ → Resolution)
+    (groups tried : ℕ) → Reads groups tried answers → ((outs works : ℕ) → comes outs works ≡ outcome (form_of h) (admitted h s works) resolve outs) →
+    ((outs works : ℕ) → ExactlyWritten h s works Offends resolve outs) →
+    Claim h s Offends (resolve (document_count_in (form_of h) s) (event_count_in (form_of h) s)) groups tried (Writes (form_of h) comes answers)
+    (λ outs works. bytes_written (form_of h) (comes outs works))
+claimed comes answers h s Offends resolve groups tried reads e x =
+    record {
+      unique = λ out work r₁ r₂ o₁ o₂ w₁ w₂ p q. (p.answer ∙ sym q.answer, p.output ∙ sym q.output, p.wiped ∙ sym q.wiped);
+      isolated = λ out₁ out₂ work₁ work₂ r₁ r₂ o₁ o₂ w₁ w₂ eo ew p q. writes_isolated eo ew p q;
+      exactly = λ out work r out' work' a. told reads (e (length out) (length work)) (x (length out) (length work)) a;
+      refusal_writes_nothing = λ out work r out' work' a h. no_refusal_writes reads a h;
+      accepts = λ out work r out' work' a z. made_so out work r out' work' a z (comes (length out) (length work)) refl;
+      fits = λ out work. room (length out) (length work) (comes (length out) (length work)) refl;
+      wiped = λ out work r out' work' a. a.wiped;
+    }
   where
-    tells : Tells (λ (v : LarkResolved). v.number) (λ (v : LarkResolved). v.place) refusal answers
-    tells =
+    -- where the section did not fit, row 8 would hold
+    room : (outs works : ℕ) (o : Outcome) → comes outs works ≡ o → length (bytes_written (form_of h) (comes outs works)) ≤ outs
+    room outs works (refused y) c = rw c (omega arith)
+    room outs works (accepted es) c =
+        let g = (x outs works).good es (sym (e outs works) ∙ c) in
+        rw (c, length_handed h es) (at_most (4 + (form_of h).width * length es) outs (λ h. g.1 8 0 (row_8 es g.0 h refl refl)))
+
+    made_so : (out work : List ℕ) (r : LarkResolved) (out' work' : List ℕ) → Writes (form_of h) comes answers out work r out' work' → r.number ≡ 0 →
+        (o : Outcome) → comes (length out) (length work) ≡ o → Accepts (form_of h) (resolve (document_count_in (form_of h) s) (event_count_in (form_of h) s)) groups tried out r out'
+    made_so out work r out' work' a z (accepted es) c =
         record {
-          of_refused = reads.of_refused;
-          of_accepted = λ es. ap (λ (v : LarkResolved). v.number) (reads.of_accepted es);
-          its_number = λ n p. refl;
-          its_place = λ n p. refl;
+          events = es;
+          made_so = ((x (length out) (length work)).good es (sym (e (length out) (length work)) ∙ c)).0;
+          answer = a.answer ∙ ap answers c ∙ reads.of_accepted es;
+          written = a.output ∙ ap (λ (o : Outcome). onto (bytes_written (form_of h) o) out) c;
         }
+    made_so out work r out' work' a z (refused y) c =
+        let h = written_number ((x (length out) (length work)).refused y.number y.place (sym (e (length out) (length work)) ∙ c)).holds in
+        let k : r.number ≡ y.number = ap (λ (v : LarkResolved). v.number) (a.answer ∙ ap answers c ∙ reads.of_refused y.number y.place) in
+        absurd (omega arith)
 
 pub attention_claim : AttentionClaim
 unfolding attentionCall.outcome_of
 attention_claim profile h s =
-    resolver_claimed (attentionCall.outcome_of profile h s) (λ (o : Outcome (List Event)). lark_attention (attentionCall.answer_of profile h s o)) h s
+    claimed (attentionCall.outcome_of profile h s) (λ (o : Outcome). lark_attention (attentionCall.answer_of profile h s o)) h s
     (RunOffends (doc_of h s) (options_of h s) (all_events h s)) (λ d e. attention profile (options_of h s) (document_in (form_of h) s d) (events_in (form_of h) s d e)) _ _
     (record { of_refused = λ n p. refl; of_accepted = λ es. refl })
     (λ outs works. refl)
@@ -305,7 +285,7 @@ attention_claim profile h s =
 pub headings_claim : HeadingsClaim
 unfolding headingsCall.outcome_of
 headings_claim h s =
-    resolver_claimed (headingsCall.outcome_of h s) (λ (o : Outcome (List Event)). lark_headings (headingsCall.answer_of o)) h s (HeadingOffends (all_events h s))
+    claimed (headingsCall.outcome_of h s) (λ (o : Outcome). lark_headings (headingsCall.answer_of o)) h s (HeadingOffends (all_events h s))
     (λ d e. headings (events_in (form_of h) s d e)) 0 0
     (record { of_refused = λ n p. refl; of_accepted = λ es. refl })
     (λ outs works. refl)
@@ -314,18 +294,8 @@ headings_claim h s =
 pub lists_claim : ListsClaim
 unfolding listsCall.outcome_of
 lists_claim h s =
-    resolver_claimed (listsCall.outcome_of h s) (λ (o : Outcome (List Event)). lark_lists (listsCall.answer_of o)) h s (ItemOffends (doc_of h s) (all_events h s))
+    claimed (listsCall.outcome_of h s) (λ (o : Outcome). lark_lists (listsCall.answer_of o)) h s (ItemOffends (doc_of h s) (all_events h s))
     (λ d e. lists (document_in (form_of h) s d) (events_in (form_of h) s d e)) 0 0
     (record { of_refused = λ n p. refl; of_accepted = λ es. refl })
     (λ outs works. refl)
     (λ outs works. lists-exactly-resolved h s works outs)
-
--- each call by its own promise
-pub attention_calls : AttentionCalls
-attention_calls profile s = (λ options. attention_claim profile (Old options) s, attention_claim profile Second s)
-
-pub headings_calls : HeadingsCalls
-headings_calls s = (λ options. headings_claim (Old options) s, headings_claim Second s)
-
-pub lists_calls : ListsCalls
-lists_calls s = (λ options. lists_claim (Old options) s, lists_claim Second s)

@@ -10,7 +10,6 @@ use Rattle.record.specs.Check.{admitted}
 use Rattle.record.specs.Handed.{form_of, options_of}
 use Rattle.record.specs.Event.{document_in, events_in, enter, exit}
 use Rattle.record.specs.Outcome.{Resolution, Outcome, accepted, refused, outcome}
-use Rattle.record.specs.Partners.{section_in}
 use Rattle.record.specs.Promise.{Writes}
 use Rattle.record.specs.Stack.{after}
 use Rattle.record.specs.declared.event.Event.{Event}
@@ -96,18 +95,18 @@ unfoldable pub attention_before : Profile → ℕ → List ℕ → List Event �
 attention_before profile options doc es =
     unless_offended (offender doc options es) (replaced es (runs_of doc es) (matching_before profile options doc es).groups 0)
 
-abbrev pub comes_before : Profile → Handed → List ℕ → ℕ → ℕ → Outcome (List Event)
+abbrev pub comes_before : Profile → Handed → List ℕ → ℕ → ℕ → Outcome
 comes_before profile h s outs works =
     outcome (form_of h) (admitted h s works) (λ d e. attention_before profile (options_of h s) (document_in (form_of h) s d) (events_in (form_of h) s d e)) outs
 
-abbrev pub answer_before : Matching → Outcome (List Event) → Answer
+abbrev pub answer_before : Matching → Outcome → Answer
 answer_before made (accepted rs) = Resolved (length rs) (length made.groups) made.tried
 answer_before made (refused r) = Refused r
 
 -- the promise of lark_resolve_attention as it was
 abbrev pub AttentionBefore : Profile → Handed → List ℕ → List ℕ → List ℕ → LarkResolved → List ℕ → List ℕ → Type 0
 AttentionBefore profile h s out work r out' work' =
-    Writes (section_in (form_of h)) (comes_before profile h s) (λ (o : Outcome (List Event)). lark_attention (answer_before (matching_before profile (options_of h s) (doc_of h s) (all_events h s)) o)) out work r out' work'
+    Writes (form_of h) (comes_before profile h s) (λ (o : Outcome). lark_attention (answer_before (matching_before profile (options_of h s) (doc_of h s) (all_events h s)) o)) out work r out' work'
 
 -- every byte of a document is an ASCII character
 abbrev pub Ascii : List ℕ → Type 0

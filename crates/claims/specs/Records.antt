@@ -27,7 +27,7 @@ use Rattle.heading.specs.Shape.{Broken as HeadingOffends}
 use Rattle.list.specs.Lists.{lists}
 use Rattle.list.specs.Promise as listsCall
 use Rattle.list.specs.Offence.{Offends as ItemOffends}
-use Rattle.ledgerlark.specs.Answers.{ReadAs, Read2As, AttentionBy, AttentionAs, Attention2As, HeadingsBy, HeadingsAs, Headings2As, ListsBy, ListsAs, Lists2As}
+use Rattle.ledgerlark.specs.Answers.{ReadAs, Read2As, AttentionBy, HeadingsBy, ListsBy}
 use Rattle.ledgerlark.specs.declared.resolve.LarkReading.{LarkReading}
 use Rattle.ledgerlark.specs.declared.resolve.LarkReading2.{LarkReading2}
 use Rattle.ledgerlark.specs.declared.resolve.LarkResolved.{LarkResolved}
@@ -85,13 +85,16 @@ resolved events groups tried = record { number = 0; place = 0; events = events; 
 
 -- two calls on one record, handed over in one way, on two pairs of buffers of the same lengths, whatever these held: the same answer, the same
 -- bytes written, work memory alike, and behind what is written each output as it was
-pub record Isolated {A : Type 0} (bytes out₁ out₂ : List ℕ) (r₁ r₂ : A) (o₁ o₂ w₁ w₂ : List ℕ) : Type 0 where
+pub record Isolated (bytes out₁ out₂ : List ℕ) (r₁ r₂ : LarkResolved) (o₁ o₂ w₁ w₂ : List ℕ) : Type 0 where
   pub answer : r₁ ≡ r₂
   pub first : take (length bytes) o₁ ≡ bytes
   pub second : take (length bytes) o₂ ≡ bytes
   pub first_kept : drop (length bytes) o₁ ≡ drop (length bytes) out₁
   pub second_kept : drop (length bytes) o₂ ≡ drop (length bytes) out₂
   pub work : w₁ ≡ w₂
+
+abbrev pub Numbered : (ℕ → ℕ → Type 0) → LarkResolved → Type 0
+Numbered R r = Told (λ (x : LarkResolved). x.number) (λ (x : LarkResolved). x.place) refusal R r
 
 -- with number 0 the resolver's definition makes events of the record: they are counted, with the groups and the candidates tried, and written
 pub record Accepts (f : Form) (made : Resolution) (groups tried : ℕ) (out : List ℕ) (r : LarkResolved) (out' : List ℕ) : Type 0 where
@@ -100,64 +103,42 @@ pub record Accepts (f : Form) (made : Resolution) (groups tried : ℕ) (out : Li
   pub answer : r ≡ resolved (length events) groups tried
   pub written : out' ≡ onto (section_in f events) out
 
--- the claim of a call that writes, of one record: `number` and `place` read an answer, `refusal` makes one, `R` are the rows that it can give with an output and a
--- work memory of these lengths, `Accepts` says what number 0 comes with, `As` is the promise, and `bytes` what is written with such an output and memory
-pub record Claim {A : Type 0} (number place : A → ℕ) (refusal : ℕ → ℕ → A) (R : ℕ → ℕ → ℕ → ℕ → Type 0) (Accepts : List ℕ → A → List ℕ → Type 0)
-    (As : List ℕ → List ℕ → A → List ℕ → List ℕ → Type 0) (bytes : ℕ → ℕ → List ℕ) : Type 0 where
-  pub unique : (out work : List ℕ) (r₁ r₂ : A) (o₁ o₂ w₁ w₂ : List ℕ) →
+-- the claim of a call that writes, of one record as it is handed over: `Offends` says which enter events break the shape rule, `made` is what
+-- the definition makes of the record, `groups` and `tried` are counted with it, `As` is the promise, and `bytes` what is written with an output
+-- and a work memory of these lengths
+pub record Claim (h : Handed) (s : List ℕ) (Offends : ℕ → Type 0) (made : Resolution) (groups tried : ℕ)
+    (As : List ℕ → List ℕ → LarkResolved → List ℕ → List ℕ → Type 0) (bytes : ℕ → ℕ → List ℕ) : Type 0 where
+  pub unique : (out work : List ℕ) (r₁ r₂ : LarkResolved) (o₁ o₂ w₁ w₂ : List ℕ) →
       As out work r₁ o₁ w₁ → As out work r₂ o₂ w₂ → (r₁ ≡ r₂) × (o₁ ≡ o₂) × (w₁ ≡ w₂)
-  pub isolated : (out₁ out₂ work₁ work₂ : List ℕ) (r₁ r₂ : A) (o₁ o₂ w₁ w₂ : List ℕ) →
+  pub isolated : (out₁ out₂ work₁ work₂ : List ℕ) (r₁ r₂ : LarkResolved) (o₁ o₂ w₁ w₂ : List ℕ) →
       length out₁ ≡ length out₂ → length work₁ ≡ length work₂ → As out₁ work₁ r₁ o₁ w₁ → As out₂ work₂ r₂ o₂ w₂ →
       Isolated (bytes (length out₁) (length work₁)) out₁ out₂ r₁ r₂ o₁ o₂ w₁ w₂
-  pub exactly : (out work : List ℕ) (r : A) (out' work' : List ℕ) → As out work r out' work' → Told number place refusal (R (length out) (length work)) r
-  pub refusal_writes_nothing : (out work : List ℕ) (r : A) (out' work' : List ℕ) → As out work r out' work' → 0 < number r → out' ≡ out
-  pub accepts : (out work : List ℕ) (r : A) (out' work' : List ℕ) → As out work r out' work' → number r ≡ 0 → Accepts out r out'
+  pub exactly : (out work : List ℕ) (r : LarkResolved) (out' work' : List ℕ) → As out work r out' work' →
+      Numbered (WrittenRow h s (length work) Offends made (length out)) r
+  pub refusal_writes_nothing : (out work : List ℕ) (r : LarkResolved) (out' work' : List ℕ) → As out work r out' work' → 0 < r.number → out' ≡ out
+  pub accepts : (out work : List ℕ) (r : LarkResolved) (out' work' : List ℕ) → As out work r out' work' → r.number ≡ 0 →
+      Accepts (form_of h) made groups tried out r out'
   pub fits : (out work : List ℕ) → length (bytes (length out) (length work)) ≤ length out
-  pub wiped : (out work : List ℕ) (r : A) (out' work' : List ℕ) → As out work r out' work' → work' ≡ replicate (length work) 0
+  pub wiped : (out work : List ℕ) (r : LarkResolved) (out' work' : List ℕ) → As out work r out' work' → work' ≡ replicate (length work) 0
 
--- that of a resolver, of one record as it is handed over: `Offends` says which enter events break the shape rule, `made` is what the definition makes of the
--- record, and `groups` and `tried` are counted with it
-abbrev pub ResolverClaim : Handed → List ℕ → (ℕ → Type 0) → Resolution → ℕ → ℕ → (List ℕ → List ℕ → LarkResolved → List ℕ → List ℕ → Type 0) → (ℕ → ℕ → List ℕ) → Type 0
-ResolverClaim h s Offends made groups tried As bytes =
-    Claim (λ (x : LarkResolved). x.number) (λ (x : LarkResolved). x.place) refusal (λ outs works. WrittenRow h s works Offends made outs)
-    (Accepts (form_of h) made groups tried) As bytes
-
--- attention, over any profile: what offends is a run; the groups and the candidates tried are the plain rule's. First however the record is handed over, and then of
--- lark_resolve_attention and lark_resolve_attention2, each by the promise that it makes
-abbrev pub AttentionSo : Profile → Handed → List ℕ → (List ℕ → List ℕ → LarkResolved → List ℕ → List ℕ → Type 0) → Type 0
-AttentionSo profile h s As =
-    ResolverClaim h s (RunOffends (doc_of h s) (options_of h s) (all_events h s)) (attention profile (options_of h s) (doc_of h s) (all_events h s))
-    (length (outcome profile (options_of h s) (doc_of h s) (all_events h s)).groups) (outcome profile (options_of h s) (doc_of h s) (all_events h s)).tried
-    As (λ outs works. bytes_written (section_in (form_of h)) (attentionCall.outcome_of profile h s outs works))
-
+-- lark_resolve_attention and lark_resolve_attention2, over any profile: what offends is a run; the groups and the candidates tried are the plain rule's
 abbrev pub AttentionClaim : Type 0
-AttentionClaim = (profile : Profile) (h : Handed) (s : List ℕ) → AttentionSo profile h s (AttentionBy profile h s)
+AttentionClaim =
+    (profile : Profile) (h : Handed) (s : List ℕ) →
+    Claim h s (RunOffends (doc_of h s) (options_of h s) (all_events h s)) (attention profile (options_of h s) (doc_of h s) (all_events h s))
+    (length (outcome profile (options_of h s) (doc_of h s) (all_events h s)).groups) (outcome profile (options_of h s) (doc_of h s) (all_events h s)).tried
+    (AttentionBy profile h s) (λ outs works. bytes_written (form_of h) (attentionCall.outcome_of profile h s outs works))
 
-abbrev pub AttentionCalls : Type 0
-AttentionCalls =
-    (profile : Profile) (s : List ℕ) →
-    ((options : ℕ) → AttentionSo profile (Old options) s (AttentionAs profile s options)) × AttentionSo profile Second s (Attention2As profile s)
-
--- headings: what offends is a heading
-abbrev pub HeadingsSo : Handed → List ℕ → (List ℕ → List ℕ → LarkResolved → List ℕ → List ℕ → Type 0) → Type 0
-HeadingsSo h s As =
-    ResolverClaim h s (HeadingOffends (all_events h s)) (headings (all_events h s)) 0 0 As
-    (λ outs works. bytes_written (section_in (form_of h)) (headingsCall.outcome_of h s outs works))
-
+-- lark_resolve_headings and lark_resolve_headings2: what offends is a heading
 abbrev pub HeadingsClaim : Type 0
-HeadingsClaim = (h : Handed) (s : List ℕ) → HeadingsSo h s (HeadingsBy h s)
+HeadingsClaim =
+    (h : Handed) (s : List ℕ) →
+    Claim h s (HeadingOffends (all_events h s)) (headings (all_events h s)) 0 0 (HeadingsBy h s)
+    (λ outs works. bytes_written (form_of h) (headingsCall.outcome_of h s outs works))
 
-abbrev pub HeadingsCalls : Type 0
-HeadingsCalls = (s : List ℕ) → ((options : ℕ) → HeadingsSo (Old options) s (HeadingsAs s options)) × HeadingsSo Second s (Headings2As s)
-
--- lists: what offends is an item
-abbrev pub ListsSo : Handed → List ℕ → (List ℕ → List ℕ → LarkResolved → List ℕ → List ℕ → Type 0) → Type 0
-ListsSo h s As =
-    ResolverClaim h s (ItemOffends (doc_of h s) (all_events h s)) (lists (doc_of h s) (all_events h s)) 0 0 As
-    (λ outs works. bytes_written (section_in (form_of h)) (listsCall.outcome_of h s outs works))
-
+-- lark_resolve_lists and lark_resolve_lists2: what offends is an item
 abbrev pub ListsClaim : Type 0
-ListsClaim = (h : Handed) (s : List ℕ) → ListsSo h s (ListsBy h s)
-
-abbrev pub ListsCalls : Type 0
-ListsCalls = (s : List ℕ) → ((options : ℕ) → ListsSo (Old options) s (ListsAs s options)) × ListsSo Second s (Lists2As s)
+ListsClaim =
+    (h : Handed) (s : List ℕ) →
+    Claim h s (ItemOffends (doc_of h s) (all_events h s)) (lists (doc_of h s) (all_events h s)) 0 0 (ListsBy h s)
+    (λ outs works. bytes_written (form_of h) (listsCall.outcome_of h s outs works))

@@ -1,10 +1,10 @@
-// The fourteen exported calls: none asks for anything, and each promises what the claims speak of.
+// The twelve exported calls: none asks for anything, and each promises what the claims speak of.
 
 ghost use Rattle.runs.specs.Rule.{crate};
-ghost use Rattle.ledgerlark.specs.Answers.{ReadAs, Read2As, AttentionAs, Attention2As, HeadingsAs, Headings2As, ListsAs, Lists2As, ForwardAs, BackAs, SpacesAs, ItemAs, GoingAs, HeadedAs};
+ghost use Rattle.ledgerlark.specs.Answers.{ReadAs, Read2As, AttentionAs, Attention2As, HeadingsAs, Headings2As, ListsAs, Lists2As, SpacesAs, ItemAs, GoingAs, HeadedAs};
 
 use ledgerlark::line::{LarkGoing, LarkHeaded, LarkItem, LarkSpaces};
-use ledgerlark::resolve::{LarkMoved, LarkReading, LarkReading2, LarkResolved};
+use ledgerlark::resolve::{LarkReading, LarkReading2, LarkResolved};
 
 // What is claimed of `ReadAs` holds of `lark_read`; and so on below.
 pub fn read(s: &[u8], options: u32, work: &mut [u8]) -> LarkReading
@@ -53,18 +53,6 @@ pub fn resolve_lists2(s: &[u8], out: &mut [u8], work: &mut [u8]) -> LarkResolved
     ensures { Lists2As s.now out.old work.old result out.new work.new }
 {
     ledgerlark::resolve::lark_resolve_lists2(s, out, work)
-}
-
-pub fn move_forward(s: &[u8], options: u32, out: &mut [u8], work: &mut [u8]) -> LarkMoved
-    ensures { ForwardAs s.now options out.old work.old result out.new work.new }
-{
-    ledgerlark::resolve::lark_move_forward(s, options, out, work)
-}
-
-pub fn move_back(s: &[u8], out: &mut [u8], work: &mut [u8]) -> LarkMoved
-    ensures { BackAs s.now out.old work.old result out.new work.new }
-{
-    ledgerlark::resolve::lark_move_back(s, out, work)
 }
 
 pub fn space_or_tab(line: &[u8], options: u32, column: usize, min: usize, max: usize) -> LarkSpaces

@@ -185,7 +185,7 @@ few_events : (f : Form) (s : List ℕ) (d e : ℕ) → e ≤ 2048 → length (ev
 unfolding events_in
 few_events f s d e h = omega (arith, length_events f.width e s (8 + f.front + d))
 
-abbrev number_of : Outcome (List Event) → ℕ
+abbrev number_of : Outcome → ℕ
 number_of (accepted es) = 0
 number_of (refused r) = r.number
 

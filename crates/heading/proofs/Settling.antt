@@ -41,19 +41,19 @@ result_balanced es d n q good = sound_balanced 65 d (resolved_from 0 es) (resolv
 -- the four ways out, of a form, after a document of d bytes and with whatever events
 module _ (f : Form) (es : List Event) (d : ℕ) (out : List ℕ) where
   pub shape_broken : (k place : ℕ) → place ≡ place_in f d k → Offends k ≡ judged_of (headings es) →
-      Answered (section_in f) (settled f d (headings es) (length out)) answer_of out (answers.Refused (record { number = 6; place = place })) out
+      Answered f (settled f d (headings es) (length out)) answer_of out (answers.Refused (record { number = 6; place = place })) out
   shape_broken k place e q = offended f d (headings es) answer_of out _ k place (offends_is es k q).0 e refl
 
   module _ (n : ℕ) (q : Sized n ≡ judged_of (headings es)) where
-    pub too_many : 8000 < n → Answered (section_in f) (settled f d (headings es) (length out)) answer_of out (answers.Refused (record { number = 7; place = 0 })) out
+    pub too_many : 8000 < n → Answered f (settled f d (headings es) (length out)) answer_of out (answers.Refused (record { number = 7; place = 0 })) out
     too_many h = let g = sized_is es n q in settledCases.too_many f d (headings es) answer_of out _ (resolved_from 0 es) g.0 n (sym g.1) h refl
 
     pub too_short : n ≤ 8000 → length out < 4 + f.width * n →
-        Answered (section_in f) (settled f d (headings es) (length out)) answer_of out (answers.Refused (record { number = 8; place = 0 })) out
+        Answered f (settled f d (headings es) (length out)) answer_of out (answers.Refused (record { number = 8; place = 0 })) out
     too_short few h = let g = sized_is es n q in settledCases.too_short f d (headings es) answer_of out _ (resolved_from 0 es) g.0 n (sym g.1) few h refl
 
     pub resolved : n ≤ 8000 → 8 ≤ f.width → 4 + f.width * n ≤ length out → {d₁ d₂ : List ℕ} → Wrote out 0 (u32_bytes n) d₁ →
-        Filled f.width d₁ (resolved_from 0 es) d₂ → Answered (section_in f) (settled f d (headings es) (length out)) answer_of out (answers.Resolved n) d₂
+        Filled f.width d₁ (resolved_from 0 es) d₂ → Answered f (settled f d (headings es) (length out)) answer_of out (answers.Resolved n) d₂
     resolved few wide room {d₁} {d₂} w v =
         let g = sized_is es n q in
         let o : d₂ ≡ onto (section_in f (resolved_from 0 es)) out = filled_section f (resolved_from 0 es) out d₁ d₂ wide (rw (← g.1) room) (rw (← g.1) w) v in
@@ -61,11 +61,11 @@ module _ (f : Form) (es : List Event) (d : ℕ) (out : List ℕ) where
 
 -- the check's two ways on
 pub not_admitted : (h : Handed) (s : List ℕ) (works : ℕ) (out : List ℕ) (r : Refusal) → Refused r ≡ admitted h s works →
-    Answered (section_in (form_of h)) (outcome_of h s (length out) works) answer_of out (answers.Refused r) out
+    Answered (form_of h) (outcome_of h s (length out) works) answer_of out (answers.Refused r) out
 unfolding outcome_of
 not_admitted h s works out r q = rw (← q) (record { answer = refl; output = sym (onto_none out) })
 
 pub good_record : (h : Handed) (s : List ℕ) (works d e : ℕ) (out : List ℕ) (f : Form) {r : Answer} {out' : List ℕ} → Good d e ≡ admitted h s works → f ≡ form_of h →
-    Answered (section_in f) (settled f d (headings (events_in f s d e)) (length out)) answer_of out r out' → Answered (section_in (form_of h)) (outcome_of h s (length out) works) answer_of out r out'
+    Answered f (settled f d (headings (events_in f s d e)) (length out)) answer_of out r out' → Answered (form_of h) (outcome_of h s (length out) works) answer_of out r out'
 unfolding outcome_of
 good_record h s works d e out f q g w = rw (← q) (rw g at w)

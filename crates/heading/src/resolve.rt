@@ -5,7 +5,6 @@ ghost use Rattle.record.specs.Event.{events_in};
 ghost use Rattle.record.specs.Good.{GoodIn};
 ghost use Rattle.record.specs.Handed.{form_of};
 ghost use Rattle.record.specs.Outcome.{settled};
-ghost use Rattle.record.specs.Partners.{section_in};
 ghost use Rattle.record.specs.Promise.{Answered};
 ghost use Rattle.heading.specs.Headings.{headings};
 ghost use Rattle.heading.specs.Promise.{answer_of, outcome_of, Promise};
@@ -27,7 +26,7 @@ pub enum Answer {
 // Numbers 6 to 8, or the section: of a good record of a form with these two counts.
 pub fn settle(s: &[u8], form: Form, d: usize, e: usize, out: &mut [u8]) -> Answer
     requires { GoodIn form s.now d e }
-    ensures { Answered (section_in form) (settled form d (headings (events_in form s.now d e)) (length out.old)) answer_of out.old result out.new }
+    ensures { Answered form (settled form d (headings (events_in form s.now d e)) (length out.old)) answer_of out.old result out.new }
 {
     let from = 8 + form.front + d;
     let width = form.width;
@@ -60,7 +59,7 @@ pub fn settle(s: &[u8], form: Form, d: usize, e: usize, out: &mut [u8]) -> Answe
 
 // The answer and the output; of the work memory only the length matters.
 pub fn answer_for(handed: Handed, s: &[u8], out: &mut [u8], works: usize) -> Answer
-    ensures { Answered (section_in (form_of handed)) (outcome_of handed s.now (length out.old) works) answer_of out.old result out.new }
+    ensures { Answered (form_of handed) (outcome_of handed s.now (length out.old) works) answer_of out.old result out.new }
 {
     match admit(handed, s, works) {
         Reading::Refused(refusal) => {

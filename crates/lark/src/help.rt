@@ -53,7 +53,7 @@ pub fn wish_from(from: usize) -> u8 {
 
 // The version, which the header and the binding have too; whether it was written.
 pub fn say_version() -> bool {
-    write(STDOUT_FILENO, b"lark 0.8.0\n")
+    write(STDOUT_FILENO, b"lark 0.7.0\n")
 }
 
 // All of it, on a descriptor, as it stands on the terminal; whether it was written.
@@ -74,8 +74,6 @@ pub fn say_help(fd: i32) -> bool {
   lark headings [-o N | --form 2] [-t] [FILE]   the same with the headings resolved
   lark lists [-o N | --form 2] [-t] [FILE]      the same with the lists resolved
   lark read [-o N | --form 2] [FILE]            whether a record is good, and its two counts
-  lark move-forward [-o N] [FILE]               a record of form 1, and these options, as a record of form 2
-  lark move-back [FILE]                         a record of form 2 as one of form 1; on standard error the options
   lark help                                     these words; --help or -h does the same, also behind a command
   lark version                                  the version; --version does the same, also behind a command
 
@@ -96,14 +94,6 @@ Without --form a record is of form 1, as with --form 1: its options stand beside
 each event the number of its partner, the exit of an enter or the enter of an exit, printed behind a slash: +2@0/9 is
 left by event 9, counted from 0. An EVENT is given without that number, and record puts it in. -o gives a record that is
 made of a TEXT its options; one that is read has its own, and read says them. show answers alike in both forms.
-
-move-forward and move-back write a record in the other form, with its options, its document and its events as they are;
-whatever read takes moves. Standard output gets the record and nothing else, and after a refusal nothing. A record of
-form 1 has no room for its options: move-back says them once it is written, in a line on standard error, as options 59.
-With -o 59 it then moves forward to what it was. A folder is moved by a loop of the shell, and back by another:
-  for f in old/*; do lark move-forward \"$f\" >\"new/${f##*/}\" || { rm \"new/${f##*/}\"; echo \"$f\" >>refused; }; done
-  for f in new/*; do lark move-back \"$f\" >\"old/${f##*/}\" 2>\"options/${f##*/}\" ||
-      { rm \"old/${f##*/}\"; echo \"$f\" >>refused; }; done
 
 A tab goes to the next column that is a multiple of 4; a SIZE means columns too. What is taken of a line is said in
 bytes. Where line says left, a tab is cut: its byte is not taken, and so many of its columns are left.

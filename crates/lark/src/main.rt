@@ -10,14 +10,10 @@
 
 mod help; // help and version
 mod line; // the command `line`
-mod moved; // what the commands `move-forward` and `move-back` do with a record
 mod resolve; // the commands on records
 mod show; // the commands `show` and `record`
 
-use asked::args::{
-    Asked, FILE, FILE_OF_EVENTS, LINE, OLD_FILE, SECOND_FILE, TEXT, TEXT_AND_EVENTS, are_good,
-    arguments,
-};
+use asked::args::{Asked, FILE, FILE_OF_EVENTS, LINE, TEXT, TEXT_AND_EVENTS, are_good, arguments};
 use asked::input::{Got, TEXT_ROOM, text_asked};
 use help::{HELP, VERSION, say_help, say_version, wish_from};
 use resolve::{Call, Resolver};
@@ -48,21 +44,13 @@ fn call_of(command: &[u8]) -> OnRecord {
     if same(command, b"read") {
         return OnRecord::Is(Call::Read);
     }
-    if same(command, b"move-forward") {
-        return OnRecord::Is(Call::Forward);
-    }
-    if same(command, b"move-back") {
-        return OnRecord::Is(Call::Back);
-    }
     OnRecord::Unknown
 }
 
-// What a call on a record takes: only what a resolver answers can be had as text, and a move takes one form and gives the other.
+// What a call on a record takes: only what a resolver answers can be had as text.
 fn taken_by(call: Call) -> u8 {
     match call {
         Call::Read => FILE,
-        Call::Forward => OLD_FILE,
-        Call::Back => SECOND_FILE,
         Call::Resolve(_) => FILE_OF_EVENTS,
     }
 }

@@ -1,6 +1,5 @@
-// The commands on a record: `attention`, `headings`, `lists`, `read`, `move-forward` and `move-back`.
+// The commands on a record: `attention`, `headings`, `lists` and `read`.
 
-use crate::moved::run_move;
 use asked::args::{Asked, are_good};
 use asked::input::{Got, RECORD_ROOM, handed_asked, memory, record_asked, result_memory};
 use causes::refuse::refuse_record;
@@ -21,8 +20,6 @@ pub enum Resolver {
 pub enum Call {
     Resolve(Resolver),
     Read,
-    Forward,
-    Back,
 }
 
 // What a resolver made: how many events its section has, or a refusal.
@@ -128,8 +125,6 @@ fn run_on(call: Call, handed: Handed, rec: &[u8], as_text: bool) -> u8 {
     match call {
         Call::Resolve(resolver) => run_resolver(resolver, handed, rec, as_text),
         Call::Read => run_read(handed, rec),
-        Call::Forward => run_move(handed, rec),
-        Call::Back => run_move(handed, rec),
     }
 }
 

@@ -6,6 +6,7 @@ use mathlib.Core.Bool.{Bool}
 use mathlib.Core.List.{List}
 use Rattle.record.specs.Outcome.{Outcome}
 use Rattle.record.specs.Promise.{Read, Writes}
+use Rattle.record.specs.declared.form.Form.{Form}
 use Rattle.record.specs.declared.form.Handed.{Handed}
 use Rattle.record.specs.declared.check.Reading.{Reading}
 use Rattle.atx.specs.Promise.{HeadedBy}
@@ -14,6 +15,7 @@ use Rattle.lines.specs.declared.container.Kind.{Kind}
 use Rattle.atx.specs.declared.Headed.{Headed}
 use Rattle.ledgerlark.specs.Answers.{lark_reading2, lark_headed, kind_of, ReadBy, HeadedAs}
 use Rattle.ledgerlark.specs.declared.resolve.LarkReading2.{LarkReading2}
+use Rattle.ledgerlark.specs.declared.resolve.LarkResolved.{LarkResolved}
 use Rattle.ledgerlark.specs.declared.line.LarkHeaded.{LarkHeaded}
 
 pub read_on : {A : Type 0} (h : Handed) (s : List ℕ) (numbers : Reading → A) (work : List ℕ) (a : Reading) (r : A) (work' : List ℕ) →
@@ -24,10 +26,10 @@ read_on h s numbers work a r work' p e = record { answer = e ∙ ap numbers p.an
 pub with_options : (options n : ℕ) (a : Reading) (r : LarkReading2) → options ≡ n → r ≡ lark_reading2 options a → r ≡ lark_reading2 n a
 with_options options n a r o e = e ∙ ap (λ (m : ℕ). lark_reading2 m a) o
 
-pub written_on : {A B W : Type 0} (bytes : W → List ℕ) (comes : ℕ → ℕ → Outcome W) (answers : Outcome W → A) (numbers : A → B) (out work : List ℕ) (a : A) (r : B)
-    (out' work' : List ℕ) → Writes bytes comes answers out work a out' work' → r ≡ numbers a →
-    Writes bytes comes (λ (o : Outcome W). numbers (answers o)) out work r out' work'
-written_on bytes comes answers numbers out work a r out' work' p e = record { answer = e ∙ ap numbers p.answer; output = p.output; wiped = p.wiped }
+pub written_on : {A : Type 0} (f : Form) (comes : ℕ → ℕ → Outcome) (answers : Outcome → A) (numbers : A → LarkResolved) (out work : List ℕ) (a : A) (r : LarkResolved)
+    (out' work' : List ℕ) → Writes f comes answers out work a out' work' → r ≡ numbers a →
+    Writes f comes (λ (o : Outcome). numbers (answers o)) out work r out' work'
+written_on f comes answers numbers out work a r out' work' p e = record { answer = e ∙ ap numbers p.answer; output = p.output; wiped = p.wiped }
 
 pub headed_on : (s : List ℕ) (options column : ℕ) (out : List ℕ) (a : Headed) (r : LarkHeaded) (out' : List ℕ) →
     HeadedBy s options column out a out' → r ≡ lark_headed a → HeadedAs s options column out r out'

@@ -5,10 +5,8 @@ use Rattle.record.specs.Choice.{choose}
 use Rattle.record.specs.Check.{admitted}
 use Rattle.record.specs.Handed.{form_of, options_of}
 use Rattle.record.specs.Outcome.{Outcome, onto}
-use Rattle.record.specs.Partners.{section_in}
 use Rattle.record.specs.Promise as read
 use Rattle.record.specs.Promise.{Writes}
-use Rattle.record.specs.declared.event.Event.{Event}
 use Rattle.record.specs.declared.form.Handed.{Handed}
 use Rattle.record.specs.declared.form.Handed.TheVariants.{Old, Second}
 use Rattle.record.specs.declared.check.Reading.{Reading}
@@ -20,9 +18,6 @@ use Rattle.heading.specs.Promise as heading
 use Rattle.heading.specs.declared.resolve.Answer.{Answer as HeadingAnswer}
 use Rattle.list.specs.Promise as list
 use Rattle.list.specs.declared.call.Answer.{Answer as ListAnswer}
-use Rattle.moves.specs.Moves.{Held, target_of, moved_bytes}
-use Rattle.moves.specs.Promise as moves
-use Rattle.moves.specs.declared.Answer.{Answer as MovesAnswer}
 use Rattle.lines.specs.Spaces as spaces
 use Rattle.lines.specs.Spaces.{spaces_of}
 use Rattle.lines.specs.Item as item
@@ -41,7 +36,6 @@ use Rattle.atx.specs.declared.Headed.{Headed}
 use Rattle.ledgerlark.specs.declared.resolve.LarkReading.{LarkReading}
 use Rattle.ledgerlark.specs.declared.resolve.LarkReading2.{LarkReading2}
 use Rattle.ledgerlark.specs.declared.resolve.LarkResolved.{LarkResolved}
-use Rattle.ledgerlark.specs.declared.resolve.LarkMoved.{LarkMoved}
 use Rattle.ledgerlark.specs.declared.line.LarkSpaces.{LarkSpaces}
 use Rattle.ledgerlark.specs.declared.line.LarkItem.{LarkItem}
 use Rattle.ledgerlark.specs.declared.line.LarkGoing.{LarkGoing}
@@ -75,10 +69,6 @@ lark_headings r =
 
 abbrev pub lark_lists : ListAnswer → LarkResolved
 lark_lists r = record { number = (list.numbers_of r).number; place = (list.numbers_of r).place; events = (list.numbers_of r).events; groups = 0; tried = 0 }
-
-abbrev pub lark_moved : MovesAnswer → LarkMoved
-lark_moved r =
-    record { number = (moves.numbers_of r).number; place = (moves.numbers_of r).place; bytes = (moves.numbers_of r).bytes; options = (moves.numbers_of r).options }
 
 abbrev pub lark_spaces : Spaces → LarkSpaces
 lark_spaces r =
@@ -145,14 +135,14 @@ Read2As s = ReadBy Second s (lark_reading2 (options_of Second s))
 -- the calls that write, over any form: however the record is handed over. Attention is over any profile too; the contract of a call says which
 abbrev pub AttentionBy : Profile → Handed → List ℕ → List ℕ → List ℕ → LarkResolved → List ℕ → List ℕ → Type 0
 AttentionBy profile h s out work r out' work' =
-    Writes (section_in (form_of h)) (attention.outcome_of profile h s) (λ (o : Outcome (List Event)). lark_attention (attention.answer_of profile h s o)) out work r out' work'
+    Writes (form_of h) (attention.outcome_of profile h s) (λ (o : Outcome). lark_attention (attention.answer_of profile h s o)) out work r out' work'
 
 abbrev pub HeadingsBy : Handed → List ℕ → List ℕ → List ℕ → LarkResolved → List ℕ → List ℕ → Type 0
 HeadingsBy h s out work r out' work' =
-    Writes (section_in (form_of h)) (heading.outcome_of h s) (λ (o : Outcome (List Event)). lark_headings (heading.answer_of o)) out work r out' work'
+    Writes (form_of h) (heading.outcome_of h s) (λ (o : Outcome). lark_headings (heading.answer_of o)) out work r out' work'
 
 abbrev pub ListsBy : Handed → List ℕ → List ℕ → List ℕ → LarkResolved → List ℕ → List ℕ → Type 0
-ListsBy h s out work r out' work' = Writes (section_in (form_of h)) (list.outcome_of h s) (λ (o : Outcome (List Event)). lark_lists (list.answer_of o)) out work r out' work'
+ListsBy h s out work r out' work' = Writes (form_of h) (list.outcome_of h s) (λ (o : Outcome). lark_lists (list.answer_of o)) out work r out' work'
 
 -- the old form's calls, with options beside the record
 abbrev pub AttentionAs : Profile → List ℕ → ℕ → List ℕ → List ℕ → LarkResolved → List ℕ → List ℕ → Type 0
@@ -173,18 +163,6 @@ Headings2As = HeadingsBy Second
 
 abbrev pub Lists2As : List ℕ → List ℕ → List ℕ → LarkResolved → List ℕ → List ℕ → Type 0
 Lists2As = ListsBy Second
-
--- the moves, over any form: what is written is the record that is handed over, in the form that it is moved to
-abbrev pub MovedBy : Handed → List ℕ → List ℕ → List ℕ → LarkMoved → List ℕ → List ℕ → Type 0
-MovedBy h s out work r out' work' =
-    Writes (moved_bytes (target_of h)) (moves.outcome_of h s) (λ (o : Outcome Held). lark_moved (moves.answer_of (target_of h) o)) out work r out' work'
-
--- forward takes an old record, with options beside it, and back one of form 2
-abbrev pub ForwardAs : List ℕ → ℕ → List ℕ → List ℕ → LarkMoved → List ℕ → List ℕ → Type 0
-ForwardAs s options = MovedBy (Old options) s
-
-abbrev pub BackAs : List ℕ → List ℕ → List ℕ → LarkMoved → List ℕ → List ℕ → Type 0
-BackAs = MovedBy Second
 
 abbrev pub SpacesAs : List ℕ → ℕ → ℕ → ℕ → ℕ → LarkSpaces → Type 0
 SpacesAs s options column min max r = r ≡ lark_spaces (spaces_of s options column min max)

@@ -1,8 +1,8 @@
-// The calls on a record: those that read it, those that resolve it, and those that move it to the other form.
+// The calls on a record.
 
 ghost use Rattle.std.specs.Prelude.{◌≡◌};
 ghost use Rattle.runs.specs.Rule.{crate};
-ghost use Rattle.ledgerlark.specs.Answers.{lark_reading, lark_reading2, lark_attention, lark_headings, lark_lists, lark_moved, ReadAs, Read2As, AttentionAs, Attention2As, HeadingsAs, Headings2As, ListsAs, Lists2As, ForwardAs, BackAs};
+ghost use Rattle.ledgerlark.specs.Answers.{lark_reading, lark_reading2, lark_attention, lark_headings, lark_lists, ReadAs, Read2As, AttentionAs, Attention2As, HeadingsAs, Headings2As, ListsAs, Lists2As};
 
 use record::check::Reading;
 use record::form::{Handed, options_of};
@@ -35,16 +35,6 @@ pub struct LarkResolved {
     pub events: usize,
     pub groups: usize,
     pub tried: usize,
-}
-
-// Of a record that is moved: how many bytes the moved record has, and its options, given or found.
-#[repr(C)]
-#[derive(Drop)]
-pub struct LarkMoved {
-    pub number: usize,
-    pub place: usize,
-    pub bytes: usize,
-    pub options: usize,
 }
 
 // The numbers of an answer of `read`.
@@ -175,30 +165,6 @@ fn lists_of(found: list::call::Answer) -> LarkResolved
     }
 }
 
-// The numbers of an answer about a move.
-fn moved_of(found: moves::Answer) -> LarkMoved
-    ensures { result ≡ lark_moved found }
-{
-    match found {
-        moves::Answer::Moved { bytes, options } => {
-            return LarkMoved {
-                number: 0,
-                place: 0,
-                bytes,
-                options,
-            };
-        }
-        moves::Answer::Refused(refusal) => {
-            return LarkMoved {
-                number: refusal.number,
-                place: refusal.place,
-                bytes: 0,
-                options: 0,
-            };
-        }
-    }
-}
-
 // Whether a record is good, and how large its parts are.
 #[unsafe(no_mangle)]
 pub extern "C" fn lark_read(s: &[u8], options: u32, work: &mut [u8]) -> LarkReading
@@ -276,25 +242,4 @@ pub extern "C" fn lark_resolve_lists2(s: &[u8], out: &mut [u8], work: &mut [u8])
     ensures { Lists2As s.now out.old work.old result out.new work.new }
 {
     lists_of(list::call::resolve_lists(Handed::Second, s, out, work))
-}
-
-// A record of the old form, with these options, as a record of form 2.
-#[unsafe(no_mangle)]
-pub extern "C" fn lark_move_forward(
-    s: &[u8],
-    options: u32,
-    out: &mut [u8],
-    work: &mut [u8],
-) -> LarkMoved
-    ensures { ForwardAs s.now options out.old work.old result out.new work.new }
-{
-    moved_of(moves::move_record(Handed::Old(options), s, out, work))
-}
-
-// A record of form 2 as one of the old form, beside its options.
-#[unsafe(no_mangle)]
-pub extern "C" fn lark_move_back(s: &[u8], out: &mut [u8], work: &mut [u8]) -> LarkMoved
-    ensures { BackAs s.now out.old work.old result out.new work.new }
-{
-    moved_of(moves::move_record(Handed::Second, s, out, work))
 }

@@ -161,28 +161,28 @@ result_balanced f s d e c {r} {w} n m q =
 -- the ways out of a good record: the answer and the output in each
 module _ (f : Form) (s : List ℕ) (d e : ℕ) (c : GoodIn f s d e) {r : Findings} {w : List ℕ} (n : Noted f s d e r w) (out : List ℕ) where
   pub shape_broken : (k place : ℕ) → r ≡ Offends k → place ≡ place_in f d k → (a : Answer) → a ≡ Refused (record { number = 6; place = place }) →
-      Answered (section_in f) (settled f d (lists (document_in f s d) (events_in f s d e)) (length out)) answer_of out a out
+      Answered f (settled f d (lists (document_in f s d) (events_in f s d e)) (length out)) answer_of out a out
   shape_broken k place q p a ea = offended f d (lists (document_in f s d) (events_in f s d e)) answer_of out a k place (noted_offends f s d e c n k q) p ea
 
   module _ (m : ℕ) (q : r ≡ Added m) where
     pub output_short : length out < 4 + f.width * (e + m) → (a : Answer) → a ≡ Refused (record { number = 8; place = 0 }) →
-        Answered (section_in f) (settled f d (lists (document_in f s d) (events_in f s d e)) (length out)) answer_of out a out
+        Answered f (settled f d (lists (document_in f s d) (events_in f s d e)) (length out)) answer_of out a out
     output_short h a ea =
         too_short f d (lists (document_in f s d) (events_in f s d e)) answer_of out a (spliced w (onward f s d e 0)) (noted_gives f s d e c n m q) (e + m) (noted_long f s d e c n m q) (few_added f s d e c n m q) h ea
 
     pub resolved : 4 + f.width * (e + m) ≤ length out → {out₁ : List ℕ} → out₁ ≡ onto (section_in f (spliced w (onward f s d e 0))) out →
-        Answered (section_in f) (settled f d (lists (document_in f s d) (events_in f s d e)) (length out)) answer_of out (Resolved (e + m)) out₁
+        Answered f (settled f d (lists (document_in f s d) (events_in f s d e)) (length out)) answer_of out (Resolved (e + m)) out₁
     resolved h o =
         section-written f d (lists (document_in f s d) (events_in f s d e)) answer_of out (Resolved (e + m)) (spliced w (onward f s d e 0)) (noted_gives f s d e c n m q) (e + m)
         (noted_long f s d e c n m q) (few_added f s d e c n m q) h o (ap Resolved (sym (noted_long f s d e c n m q)))
 
 -- the check's two ways on
 pub refused_by_check : (h : Handed) (s : List ℕ) (works : ℕ) (out : List ℕ) (r : Refusal) → reading.Refused r ≡ admitted h s works →
-    Answered (section_in (form_of h)) (outcome_of h s (length out) works) answer_of out (Refused r) out
+    Answered (form_of h) (outcome_of h s (length out) works) answer_of out (Refused r) out
 unfolding outcome_of
 refused_by_check h s works out r q = record { answer = rw (← q); output = rw (← q) (sym (onto_none out)) }
 
 pub good_record : (h : Handed) (s : List ℕ) (works d e : ℕ) (out : List ℕ) (f : Form) {r : Answer} {out' : List ℕ} → reading.Good d e ≡ admitted h s works → f ≡ form_of h →
-    Answered (section_in f) (settled f d (lists (document_in f s d) (events_in f s d e)) (length out)) answer_of out r out' → Answered (section_in (form_of h)) (outcome_of h s (length out) works) answer_of out r out'
+    Answered f (settled f d (lists (document_in f s d) (events_in f s d e)) (length out)) answer_of out r out' → Answered (form_of h) (outcome_of h s (length out) works) answer_of out r out'
 unfolding outcome_of
 good_record h s works d e out f q g w = rw (← q) (rw g at w)

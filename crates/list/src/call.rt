@@ -5,7 +5,6 @@ ghost use Rattle.record.specs.Event.{document_in, events_in};
 ghost use Rattle.record.specs.Good.{GoodIn};
 ghost use Rattle.record.specs.Handed.{form_of};
 ghost use Rattle.record.specs.Outcome.{settled};
-ghost use Rattle.record.specs.Partners.{section_in};
 ghost use Rattle.record.specs.Promise.{Answered};
 ghost use Rattle.list.specs.Lists.{lists};
 ghost use Rattle.list.specs.Promise.{outcome_of, answer_of, Promise};
@@ -34,7 +33,7 @@ pub fn refused(number: usize, place: usize) -> Answer
 // number 7 is never given.
 fn settle(s: &[u8], form: Form, d: usize, e: usize, out: &mut [u8], work: &mut [u8]) -> Answer
     requires { GoodIn form s.now d e × (2048 ≤ length work.old) }
-    ensures { Answered (section_in form) (settled form d (lists (document_in form s.now d) (events_in form s.now d e)) (length out.old)) answer_of out.old result out.new }
+    ensures { Answered form (settled form d (lists (document_in form s.now d) (events_in form s.now d e)) (length out.old)) answer_of out.old result out.new }
 {
     match note_lists(s, form, d, e, work) {
         Findings::Offends(k) => {
@@ -54,7 +53,7 @@ fn settle(s: &[u8], form: Form, d: usize, e: usize, out: &mut [u8], work: &mut [
 
 // The answer and the output; work memory is left in any state.
 fn answer_lists(handed: Handed, s: &[u8], out: &mut [u8], work: &mut [u8]) -> Answer
-    ensures { Answered (section_in (form_of handed)) (outcome_of handed s.now (length out.old) (length work.old)) answer_of out.old result out.new }
+    ensures { Answered (form_of handed) (outcome_of handed s.now (length out.old) (length work.old)) answer_of out.old result out.new }
 {
     match admit(handed, s, work.len()) {
         Reading::Refused(r) => {

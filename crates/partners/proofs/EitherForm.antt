@@ -14,7 +14,7 @@ use Rattle.record.specs.Event.{document_in, events_in}
 use Rattle.record.specs.Form.{old, second}
 use Rattle.record.specs.Handed.{form_of, options_of}
 use Rattle.record.specs.Outcome.{Resolution, offends, gives, Outcome, accepted, refusing, sized, settled, outcome, bytes_written}
-use Rattle.record.specs.Partners.{record_in, section_in}
+use Rattle.record.specs.Partners.{record_in}
 use Rattle.record.specs.ReadsBack.{Holdable}
 use Rattle.record.specs.Sound.{placed}
 use Rattle.record.specs.Stack.{none, fits_open, after}
@@ -138,7 +138,7 @@ accepted_gives f d (gives x) outs es q = ap gives (accepted_side _ _ _ es _ _ _ 
 gives_one : (x y : List Event) → gives x ≡ gives y → x ≡ y
 gives_one x y q = cc
 
-module _ (d : ℕ) (m : Resolution) (outs₁ outs₂ : ℕ) (o₁ o₂ : Outcome (List Event)) (p : o₁ ≡ settled old d m outs₁) (q : o₂ ≡ settled second d m outs₂) where
+module _ (d : ℕ) (m : Resolution) (outs₁ outs₂ : ℕ) (o₁ o₂ : Outcome) (p : o₁ ≡ settled old d m outs₁) (q : o₂ ≡ settled second d m outs₂) where
   by_resolution : (x : Resolution) → m ≡ x → (o₁ ≡ settled old d x outs₁) × (o₂ ≡ settled second d x outs₂)
   by_resolution x e = (p ∙ ap (λ (y : Resolution). settled old d y outs₁) e, q ∙ ap (λ (y : Resolution). settled second d y outs₂) e)
 
@@ -153,7 +153,7 @@ module _ (d : ℕ) (m : Resolution) (outs₁ outs₂ : ℕ) (o₁ o₂ : Outcome
             let s = by_resolution (gives es) e in
             let w₁ : o₁ ≡ accepted es = s.0 ∙ room old es outs₁ h r₁ in
             let w₂ : o₂ ≡ accepted es = s.1 ∙ room second es outs₂ h r₂ in
-            (w₁, w₂, ap (bytes_written (section_in old)) w₁, ap (bytes_written (section_in second)) w₂);
+            (w₁, w₂, ap (bytes_written old) w₁, ap (bytes_written second) w₂);
         same_events = λ es₁ es₂ a b.
             gives_one es₁ es₂ (sym (accepted_gives old d m outs₁ es₁ (sym p ∙ a)) ∙ accepted_gives second d m outs₂ es₂ (sym q ∙ b));
       }

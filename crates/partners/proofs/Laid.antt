@@ -45,19 +45,6 @@ two_widths Second = inr refl
 -- a record that has these parts, where its front is as long as the form says
 module _ (f : Form) (w : (f.width ≡ 8) ⊎ (f.width ≡ 12)) (options : ℕ) (front : length (front_in f options) ≡ f.front) (document : List ℕ)
     (es : List Event) where
-  -- so long it is, whatever the parts are
-  pub length_record : length (record_in f options document es) ≡ place_in f (length document) (length es)
-  unfolding record_in
-  length_record =
-      omega (
-        arith,
-        length-append (front_in f options) (u32_bytes (length document) ++ (document ++ section_in f es)),
-        length-append (u32_bytes (length document)) (document ++ section_in f es),
-        length-append document (section_in f es),
-        length_section_in f es w,
-        front,
-      )
-
   pub laid : Writable document es → Laid f (record_in f options document es) document es
   unfolding record_in document_in
   laid b =
@@ -81,7 +68,14 @@ module _ (f : Form) (w : (f.width ≡ 8) ⊎ (f.width ≡ 12)) (options : ℕ) (
             ∙ take-append_seam document section;
         its_section =
             rw (at_section, ← all) (section_reads_back f w (front_in f options ++ (count ++ document)) [] es b.event_count b.places);
-        whole = length_record;
+        whole =
+            omega (
+              arith,
+              length-append (front_in f options) (count ++ (document ++ section)),
+              length-append count (document ++ section),
+              length-append document section,
+              length_section_in f es w,
+            );
       }
 
 pub length_front : (h : Handed) (options : ℕ) → length (front_in (form_of h) options) ≡ (form_of h).front

@@ -16,4 +16,3 @@ pub mod Pens
 pub mod Putting
 pub mod Copying
 pub mod Settled
-pub mod FrontAndSection

@@ -14,22 +14,22 @@ use Rattle.record.specs.declared.event.Event.{Event}
 use Rattle.record.specs.declared.form.Form.{Form}
 use Rattle.record.proofs.Output.{onto_none}
 
-module _ {A : Type 0} (f : Form) (d : ℕ) (made : Resolution) (answers : Outcome (List Event) → A) (out : List ℕ) (r : A) where
+module _ {A : Type 0} (f : Form) (d : ℕ) (made : Resolution) (answers : Outcome → A) (out : List ℕ) (r : A) where
   pub offended : (k place : ℕ) → made ≡ offends k → place ≡ place_in f d k → r ≡ answers (refusing 6 place) →
-      Answered (section_in f) (settled f d made (length out)) answers out r out
+      Answered f (settled f d made (length out)) answers out r out
   offended k place q e a = rw (q, ← e) (record { answer = a; output = sym (onto_none out) })
 
   module _ (es : List Event) (q : made ≡ gives es) (n : ℕ) (long : length es ≡ n) where
-    pub too_many : 8000 < n → r ≡ answers (refusing 7 0) → Answered (section_in f) (settled f d made (length out)) answers out r out
+    pub too_many : 8000 < n → r ≡ answers (refusing 7 0) → Answered f (settled f d made (length out)) answers out r out
     unfolding sized choose
     too_many h a = rw (q, long, lt-ltb 8000 n h) (record { answer = a; output = sym (onto_none out) })
 
     module _ (few : n ≤ 8000) where
-      pub too_short : length out < 4 + f.width * n → r ≡ answers (refusing 8 0) → Answered (section_in f) (settled f d made (length out)) answers out r out
+      pub too_short : length out < 4 + f.width * n → r ≡ answers (refusing 8 0) → Answered f (settled f d made (length out)) answers out r out
       unfolding sized choose
       too_short h a = rw (q, long, le-ltb 8000 n few, lt-ltb (length out) (4 + f.width * n) h) (record { answer = a; output = sym (onto_none out) })
 
       pub written : 4 + f.width * n ≤ length out → {out₂ : List ℕ} → out₂ ≡ onto (section_in f es) out → r ≡ answers (accepted es) →
-          Answered (section_in f) (settled f d made (length out)) answers out r out₂
+          Answered f (settled f d made (length out)) answers out r out₂
       unfolding sized choose
       written h o a = rw (q, long, le-ltb 8000 n few, le-ltb (length out) (4 + f.width * n) h) (record { answer = a; output = o })

@@ -104,7 +104,7 @@ AlikeInBoth =
 
 -- what a call comes to whose resolver looks at the options, the document and the events, and at nothing else of the record. Those of headings, lists and
 -- attention are such
-abbrev pub comes_to : (ℕ → List ℕ → List Event → Resolution) → Handed → List ℕ → ℕ → ℕ → Outcome (List Event)
+abbrev pub comes_to : (ℕ → List ℕ → List Event → Resolution) → Handed → List ℕ → ℕ → ℕ → Outcome
 comes_to resolve h s works outs =
     outcome (form_of h) (admitted h s works) (λ d e. resolve (options_of h s) (document_in (form_of h) s d) (events_in (form_of h) s d e)) outs
 
@@ -117,7 +117,7 @@ ComesInEither =
     ≡ outcome (form_of h) (answer_in (form_of h) (length document) (length es) (found works options document es)) (λ d e. resolve options document es) outs
 
 -- what a call comes to on a document of d bytes in the old form, o₁, and in the second, o₂, the outputs of these lengths: one resolution, m, settled in each
-pub record Either (d : ℕ) (m : Resolution) (outs₁ outs₂ : ℕ) (o₁ o₂ : Outcome (List Event)) : Type 0 where
+pub record Either (d : ℕ) (m : Resolution) (outs₁ outs₂ : ℕ) (o₁ o₂ : Outcome) : Type 0 where
   pub in_old : o₁ ≡ settled old d m outs₁
   pub in_second : o₂ ≡ settled second d m outs₂
   -- so the shape rule is broken in both or in neither, and by one event, which each answer names by its place
@@ -126,7 +126,7 @@ pub record Either (d : ℕ) (m : Resolution) (outs₁ outs₂ : ℕ) (o₁ o₂ 
   pub too_many : (es : List Event) → m ≡ gives es → 8000 < length es → (o₁ ≡ refusing 7 0) × (o₂ ≡ refusing 7 0)
   -- and one for which there is room is written in both: the same events, each time as a section of the form
   pub written : (es : List Event) → m ≡ gives es → length es ≤ 8000 → 4 + 8 * length es ≤ outs₁ → 4 + 12 * length es ≤ outs₂ →
-      (o₁ ≡ accepted es) × (o₂ ≡ accepted es) × (bytes_written (section_in old) o₁ ≡ section_in old es) × (bytes_written (section_in second) o₂ ≡ section_in second es)
+      (o₁ ≡ accepted es) × (o₂ ≡ accepted es) × (bytes_written old o₁ ≡ section_in old es) × (bytes_written second o₂ ≡ section_in second es)
   -- no two results differ
   pub same_events : (es₁ es₂ : List Event) → o₁ ≡ accepted es₁ → o₂ ≡ accepted es₂ → es₁ ≡ es₂
 

@@ -5,17 +5,12 @@
 // enter that it closes get each other's number. Until then an enter is open, and its number is kept in the partner field of an event that is still to come: the
 // outermost's in the last event's field, the next one's in the last but one's. Each open enter has its exit still to come, so there are fields enough. So a
 // result may be of any depth, and no memory but its own is needed.
-//
-// `put_front` and `put_section` write what a whole record has before its document and behind it.
 
-ghost use Rattle.std.specs.Prelude.{◌≡◌, true, [], ◌∷◌, ◌+◌, ◌*◌, ◌≤◌, length};
+ghost use Rattle.std.specs.Prelude.{◌≡◌, [], ◌∷◌, ◌+◌, ◌*◌, ◌≤◌, length};
 ghost use Rattle.record.specs.Bytes.{u32_bytes, Wrote};
 ghost use Rattle.record.specs.Event.{event, events_by};
-ghost use Rattle.record.specs.Outcome.{onto};
-ghost use Rattle.record.specs.Partners.{balanced, section_in, front_in};
 ghost use Rattle.partners.specs.Pen.{Put, Fits};
 
-use reader::read_on;
 use record::bytes::{put_u32, u32_at};
 use record::event::put_event;
 use record::form::Form;
@@ -86,41 +81,18 @@ pub fn put(out: &mut [u8], pen: Pen, kind: u8, name: u8, place: usize) -> Pen
     }
 }
 
-// Puts the n events that stand in a record from a place on, each `width` bytes after the one before, as the record reader reads them. The pen behind them.
+// Puts the n events that stand in a record from a place on, each `width` bytes after the one before. The pen behind them.
 pub fn copy(out: &mut [u8], pen: Pen, s: &[u8], from: usize, width: usize, n: usize) -> Pen
     requires { (8 ≤ width) × (from + width * n ≤ length s.now) × Fits out.old pen (events_by width n s.now from) }
     ensures { Put out.old pen (events_by width n s.now from) out.new result }
 {
     let mut i = 0;
     let mut next = pen;
-    let mut at = from;
+    let mut read = from;
     while i < n {
-        let event = read_on(s, at, width);
-        next = put(out, next, event.kind, event.name, event.place);
-        at = event.behind;
+        next = put(out, next, s[read], s[read + 1], u32_at(s, read + 4));
+        read += width;
         i += 1;
     }
     next
-}
-
-// Writes what a record of the form has before the document's count: nothing, or count 1 and the option byte.
-pub fn put_front(out: &mut [u8], form: Form, options: u32)
-    requires { (form.front ≤ length out.old) × (options ≤ 63) }
-    ensures { Wrote out.old 0 (front_in form options) out.new }
-{
-    if form.front < 5 {
-        return;
-    }
-    put_u32(out, 0, 1);
-    out[4] = options as u8;
-}
-
-// Writes the count of the n events that stand in a record from a place on, and behind it each as the form has it.
-pub fn put_section(out: &mut [u8], form: Form, s: &[u8], from: usize, width: usize, n: usize)
-    requires { (8 ≤ form.width) × (8 ≤ width) × (n ≤ 2048) × (from + width * n ≤ length s.now) × (4 + form.width * n ≤ length out.old) × (balanced (events_by width n s.now from) ≡ true) }
-    ensures { out.new ≡ onto (section_in form (events_by width n s.now from)) out.old }
-{
-    put_u32(out, 0, n);
-    let pen = begin(form, n);
-    copy(out, pen, s, from, width, n);
 }

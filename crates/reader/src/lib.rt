@@ -1,13 +1,14 @@
 // A record reader holds the lent record and its own place in it.
 //
-// It reads the event at its place, in either record form, and says where the next one stands. `read_at` does the work, over a slice and a number, which the
-// checker covers. `next_event` is thin over it: it takes the reader apart. `read_on` makes a reader of a slice and a place and asks it, so that its callers are
-// covered again. The checker covers no function that has to do with a struct that holds a slice. So `next_event` and `read_on` are proved by walks of their
-// MIR, by hand, and a loop cannot keep a reader in a local: it keeps the place, which each reading gives back.
+// It reads any bytes, good record or not, and never past their end. The work is done over a slice and a number, in `first_event`,
+// `past_events` and `event_or_end`, which the borrow checker covers. The functions over the reader are thin: each takes it apart or makes one,
+// and leaves the rest to one of those three. The checker covers no function that has to do with a struct that holds a slice, so each of
+// these is proved by a walk of its MIR, by hand. `standing` hides the reader again: its callers are covered.
 
-ghost use Rattle.std.specs.Prelude.{◌≡◌, ◌+◌, ◌≤◌, length};
-ghost use Rattle.reader.specs.Read.{read_at};
+ghost use Rattle.std.specs.Prelude.{◌≡◌};
+ghost use Rattle.reader.specs.Read.{first_event, past_events, found_at, standing_at, count_of, event_number};
 
+use record::bytes::u32_at;
 use record::event::event_at;
 
 // A lent record, and a place in it: the number of bytes before it.
@@ -17,41 +18,115 @@ pub struct Reader<'a> {
     pub at: usize,
 }
 
-// What a reader reads: an event, and the place behind it, where the reader stands then.
+// What stands at a place: an event, or the end, which is also there where fewer than eight bytes are left.
 #[derive(Drop)]
-pub struct Read {
-    pub kind: u8,
-    pub name: u8,
-    pub place: usize,
-    pub behind: usize,
+pub enum Found {
+    Event { kind: u8, name: u8, place: usize },
+    End,
 }
 
-// The event that stands at a place, in a record whose events have so many bytes, and the place behind it.
-pub fn read_at(s: &[u8], at: usize, width: usize) -> Read
-    requires { (8 ≤ width) × (at + width ≤ length s.now) }
-    ensures { result ≡ read_at width s.now at }
+// Where the first event of a record stands, or the record's end if it has no room for both counts and the document.
+pub fn first_event(s: &[u8]) -> usize
+    ensures { result ≡ first_event s.now }
 {
+    let end = s.len();
+    if end < 8 {
+        return end;
+    }
+    let document = u32_at(s, 0);
+    if end - 8 < document {
+        return end;
+    }
+    8 + document
+}
+
+// The place so many events on, or the record's end if it has fewer.
+pub fn past_events(s: &[u8], at: usize, events: usize) -> usize
+    ensures { result ≡ past_events s.now at events }
+{
+    let end = s.len();
+    if end < at {
+        return end;
+    }
+    if (end - at) / 8 < events {
+        return end;
+    }
+    at + 8 * events
+}
+
+// The event that stands at a place, or the end.
+pub fn event_or_end(s: &[u8], at: usize) -> Found
+    ensures { result ≡ found_at s.now at }
+{
+    if s.len() < 8 {
+        return Found::End;
+    }
+    if s.len() - 8 < at {
+        return Found::End;
+    }
     let event = event_at(s, at);
-    Read {
+    Found::Event {
         kind: event.kind,
         name: event.name,
         place: event.place,
-        behind: at + width,
     }
 }
 
-// The event at the reader's place.
-pub fn next_event<'a>(reader: Reader<'a>, width: usize) -> Read
-    requires { (8 ≤ width) × (reader.at + width ≤ length reader.record.now) }
-    ensures { result ≡ read_at width reader.entry.record.now reader.entry.at }
+// A reader of a record, at its first event.
+pub fn at_events<'a>(s: &'a [u8]) -> Reader<'a>
+    ensures { (result.record ≡ s.entry) × (result.at ≡ first_event s.now) }
 {
-    read_at(reader.record, reader.at, width)
+    Reader {
+        record: s,
+        at: first_event(s),
+    }
 }
 
-// The same of a slice and a place.
-pub fn read_on(s: &[u8], at: usize, width: usize) -> Read
-    requires { (8 ≤ width) × (at + width ≤ length s.now) }
-    ensures { result ≡ read_at width s.now at }
+// The event at the reader's place, or the end.
+pub fn next_event<'a>(reader: Reader<'a>) -> Found
+    ensures { result ≡ found_at reader.entry.record.now reader.entry.at }
 {
-    next_event(Reader { record: s, at }, width)
+    event_or_end(reader.record, reader.at)
+}
+
+// The reader moved on by so many events, or to the record's end if it has fewer.
+pub fn skip<'a>(reader: Reader<'a>, events: usize) -> Reader<'a>
+    ensures { (result.record ≡ reader.entry.record) × (result.at ≡ past_events reader.entry.record.now reader.entry.at events) }
+{
+    Reader {
+        record: reader.record,
+        at: past_events(reader.record, reader.at, events),
+    }
+}
+
+// What stands where a record's event of a number would, or the end, whatever the record's count says.
+pub fn standing(s: &[u8], number: usize) -> Found
+    ensures { result ≡ standing_at s.now number }
+{
+    next_event(skip(at_events(s), number))
+}
+
+// How many events a record says that it has, or 0 if it ends before that count does.
+pub fn event_count(s: &[u8]) -> usize
+    ensures { result ≡ count_of s.now }
+{
+    let end = s.len();
+    if end < 8 {
+        return 0;
+    }
+    let document = u32_at(s, 0);
+    if end - 8 < document {
+        return 0;
+    }
+    u32_at(s, 4 + document)
+}
+
+// A record's event of a number, the first being 0, or the end if there is none of that number.
+pub fn event_number(s: &[u8], number: usize) -> Found
+    ensures { result ≡ event_number s.now number }
+{
+    if number < event_count(s) {
+        return standing(s, number);
+    }
+    Found::End
 }

@@ -6,6 +6,7 @@ use Prim.Native.Nat.{ℕ}
 use lib.ListN.{length, take, drop, replicate}
 use lib.Seq.{take-append_seam, drop-append_seam}
 use Rattle.record.specs.Outcome.{Outcome, onto}
+use Rattle.record.specs.declared.form.Form.{Form}
 use Rattle.record.specs.Promise.{Answered, Writes}
 
 pub onto_bytes : (bs out : List ℕ) → take (length bs) (onto bs out) ≡ bs
@@ -22,6 +23,6 @@ unfolding onto
 onto_none out = refl
 
 -- a call that answers and writes as it should, and whose work memory is then wiped, keeps the whole promise
-pub then_wiped : {A W : Type 0} {bytes : W → List ℕ} {comes : ℕ → ℕ → Outcome W} {answers : Outcome W → A} {out work : List ℕ} {r : A} {out' work' : List ℕ} →
-    Answered bytes (comes (length out) (length work)) answers out r out' → work' ≡ replicate (length work) 0 → Writes bytes comes answers out work r out' work'
+pub then_wiped : {A : Type 0} {f : Form} {comes : ℕ → ℕ → Outcome} {answers : Outcome → A} {out work : List ℕ} {r : A} {out' work' : List ℕ} →
+    Answered f (comes (length out) (length work)) answers out r out' → work' ≡ replicate (length work) 0 → Writes f comes answers out work r out' work'
 then_wiped a w = record { answer = a.answer; output = a.output; wiped = w }

@@ -1,9 +1,10 @@
--- What public calls promise. `read` has its promise here; every call that writes has the other, once for all. What follows from them
+-- What public calls promise. `read` has its promise here; every call that writes a section has the other, once for all. What follows from them
 -- alone, that any two results are equal and that nothing a buffer held shows, is said of the exported calls (crates/claims).
 -- Assumes nothing.
 use Rattle.std.specs.Prelude.{ℕ, ◌≡◌, List, length, replicate}
 use Rattle.record.specs.Check.{admitted}
 use Rattle.record.specs.Outcome.{Outcome, bytes_written, onto}
+use Rattle.record.specs.declared.form.Form.{Form}
 use Rattle.record.specs.declared.form.Handed.{Handed}
 use Rattle.record.specs.declared.check.Reading.{Reading}
 use Rattle.record.specs.declared.check.Reading.TheVariants.{Good, Refused}
@@ -30,15 +31,15 @@ pub record Read (h : Handed) (s work : List ℕ) (r : Reading) (work' : List ℕ
   pub answer : r ≡ admitted h s (length work)
   pub wiped : work' ≡ replicate (length work) 0
 
--- a call's answer and output, where it comes to o: r is answered, which is `answers` of o, and out' is what its output then holds. `bytes` says how what is written
--- is written. The inner promise of a call that writes: nothing is said of the work memory
-pub record Answered {A W : Type 0} (bytes : W → List ℕ) (o : Outcome W) (answers : Outcome W → A) (out : List ℕ) (r : A) (out' : List ℕ) : Type 0 where
+-- a call's answer and output, where it comes to o on a record of form f: r is answered, which is `answers` of o, and out' is what its output then holds. The inner
+-- promise of a call that writes: nothing is said of the work memory
+pub record Answered {A : Type 0} (f : Form) (o : Outcome) (answers : Outcome → A) (out : List ℕ) (r : A) (out' : List ℕ) : Type 0 where
   pub answer : r ≡ answers o
-  pub output : out' ≡ onto (bytes_written bytes o) out
+  pub output : out' ≡ onto (bytes_written f o) out
 
--- a call that writes answers r, and out' and work' are what its output and work memory then hold. What it comes to is a definition of the two
+-- a call on a record of form f that writes answers r, and out' and work' are what its output and work memory then hold. What it comes to is a definition of the two
 -- lengths, `comes` (the record, the options and other arguments are in it), and `answers` is its answer type's reading of that
-pub record Writes {A W : Type 0} (bytes : W → List ℕ) (comes : ℕ → ℕ → Outcome W) (answers : Outcome W → A) (out work : List ℕ) (r : A) (out' work' : List ℕ) : Type 0 where
+pub record Writes {A : Type 0} (f : Form) (comes : ℕ → ℕ → Outcome) (answers : Outcome → A) (out work : List ℕ) (r : A) (out' work' : List ℕ) : Type 0 where
   pub answer : r ≡ answers (comes (length out) (length work))
-  pub output : out' ≡ onto (bytes_written bytes (comes (length out) (length work))) out
+  pub output : out' ≡ onto (bytes_written f (comes (length out) (length work))) out
   pub wiped : work' ≡ replicate (length work) 0

@@ -7,7 +7,7 @@ use Rattle.record.specs.Form.{place_in}
 use Rattle.record.specs.Handed.{form_of}
 use Rattle.record.specs.Order.{Least}
 use Rattle.record.specs.Rows.{Row, document_count_in, event_count_in}
-use Rattle.record.specs.Outcome.{Resolution, offends, gives, Outcome, accepted, refusing, outcome}
+use Rattle.record.specs.Outcome.{Resolution, offends, gives, accepted, refusing, outcome}
 use Rattle.record.specs.declared.event.Event.{Event}
 use Rattle.record.specs.declared.form.Handed.{Handed}
 
@@ -24,16 +24,16 @@ pub data WrittenRow (h : Handed) (s : List ℕ) (works : ℕ) (Offends : ℕ →
   row_7 : (es : List Event) → made ≡ gives es → 8000 < length es → n ≡ 7 → p ≡ 0 → WrittenRow h s works Offends made outs n p
   row_8 : (es : List Event) → made ≡ gives es → outs < 4 + (form_of h).width * length es → n ≡ 8 → p ≡ 0 → WrittenRow h s works Offends made outs n p
 
--- "Given exactly when", of any call that writes: R are the rows that it can give, `Made` says what it may write, and o is what it comes to
-pub record ExactlyWhen {W : Type 0} (R : ℕ → ℕ → Type 0) (Made : W → Type 0) (o : Outcome W) : Type 0 where
-  pub refused : (n p : ℕ) → o ≡ refusing n p → Least R n p
-  pub given : (n p : ℕ) → Least R n p → o ≡ refusing n p
-  pub good : (w : W) → o ≡ accepted w → Made w × ((n p : ℕ) → R n p → ⊥)
-  pub written : (w : W) → Made w → ((n p : ℕ) → R n p → ⊥) → o ≡ accepted w
-
--- proved in proofs/ExactlyWritten.antt, for every resolver that judges good records by its shape rule, and for every record, however it is handed over, and pair
--- of lengths
-abbrev pub ExactlyWritten : Handed → List ℕ → ℕ → (ℕ → Type 0) → (ℕ → ℕ → Resolution) → ℕ → Type 0
-ExactlyWritten h s works Offends resolve outs =
-    ExactlyWhen (WrittenRow h s works Offends (resolve (document_count_in (form_of h) s) (event_count_in (form_of h) s)) outs)
-    (λ (es : List Event). resolve (document_count_in (form_of h) s) (event_count_in (form_of h) s) ≡ gives es) (outcome (form_of h) (admitted h s works) resolve outs)
+-- "Given exactly when": proved in proofs/ExactlyWritten.antt, for every resolver that judges good records by its shape rule, and for every
+-- record, however it is handed over, and pair of lengths
+pub record ExactlyWritten (h : Handed) (s : List ℕ) (works : ℕ) (Offends : ℕ → Type 0) (resolve : ℕ → ℕ → Resolution) (outs : ℕ) : Type 0 where
+  pub refused : (n p : ℕ) → outcome (form_of h) (admitted h s works) resolve outs ≡ refusing n p →
+      Least (WrittenRow h s works Offends (resolve (document_count_in (form_of h) s) (event_count_in (form_of h) s)) outs) n p
+  pub given : (n p : ℕ) → Least (WrittenRow h s works Offends (resolve (document_count_in (form_of h) s) (event_count_in (form_of h) s)) outs) n p →
+      outcome (form_of h) (admitted h s works) resolve outs ≡ refusing n p
+  pub good : (es : List Event) → outcome (form_of h) (admitted h s works) resolve outs ≡ accepted es →
+      (resolve (document_count_in (form_of h) s) (event_count_in (form_of h) s) ≡ gives es)
+      × ((n p : ℕ) → WrittenRow h s works Offends (resolve (document_count_in (form_of h) s) (event_count_in (form_of h) s)) outs n p → ⊥)
+  pub written : (es : List Event) → resolve (document_count_in (form_of h) s) (event_count_in (form_of h) s) ≡ gives es →
+      ((n p : ℕ) → WrittenRow h s works Offends (resolve (document_count_in (form_of h) s) (event_count_in (form_of h) s)) outs n p → ⊥) →
+      outcome (form_of h) (admitted h s works) resolve outs ≡ accepted es

@@ -69,20 +69,6 @@ fn call_lists(handed: Handed, s: &[u8], out: &mut [u8], work: &mut [u8]) -> Writ
     }
 }
 
-// A move: how many bytes the moved record has, and its options.
-fn call_move(handed: Handed, s: &[u8], out: &mut [u8], work: &mut [u8]) -> Written {
-    match moves::move_record(handed, s, out, work) {
-        moves::Answer::Moved { bytes, options } => {
-            say_with(b"bytes ", bytes);
-            say_with(b" options ", options);
-            return Written::Record(bytes);
-        }
-        moves::Answer::Refused(refusal) => {
-            return say_refusal(refusal);
-        }
-    }
-}
-
 // The call that a letter stands for; of any other letter nothing is said.
 pub fn call_by(letter: u8, handed: Handed, s: &[u8], out: &mut [u8], work: &mut [u8]) -> Written {
     match letter {
@@ -90,7 +76,6 @@ pub fn call_by(letter: u8, handed: Handed, s: &[u8], out: &mut [u8], work: &mut 
         b'a' => call_attention(handed, s, out, work),
         b'h' => call_headings(handed, s, out, work),
         b'l' => call_lists(handed, s, out, work),
-        b'm' => call_move(handed, s, out, work),
         _ => Written::Nothing,
     }
 }

@@ -4,7 +4,7 @@
 //
 //     whole attention 59 84 65536 #3 "*a*" #6 +1@0 -1@1 +0@1 -0@2 +1@2 -1@3
 //
-// That is a label; the call: `read`, `attention`, `headings`, `lists` or `move`; the options; how many bytes of output and of work memory are lent;
+// That is a label; the call: `read`, `attention`, `headings` or `lists`; the options; how many bytes of output and of work memory are lent;
 // and the record, in the notation of the crate `script`. A line that begins with a space is passed over.
 //
 // Of each call is said what it answered, then the section as it stands in the output, then what became of the work memory:
@@ -16,11 +16,6 @@
 //
 //     whole-2 attention2 124 65536 %59 #3 "*a*" #6 +1@0 -1@1 +0@1 -0@2 +1@2 -1@3
 //     whole-2: events 10 groups 1 tried 1; 10: +2@0/9 +3@0/2 -3@1/1 +4@1/6 +0@1/5 -0@2/4 -4@2/3 +3@2/8 -3@3/7 -2@3/0; work memory zero
-//
-// `move` moves a record of the old form forward, and `move2` one of form 2 back. Of these is said what the moved record has in each section:
-//
-//     forward move 59 38 65536 #1 "a" #2 +0@0 -0@1
-//     forward: bytes 38 options 59; 1 %59; #1 "a"; 2: +0@0/1 -0@1/0; work memory zero
 //
 // Of a label that begins with `big-` the section's events are left out, and its count is said; of form 2 also whether each event's partner is the
 // true one. Both buffers are filled with 0xa5 before each call and looked at whole after it: the output has to be as it was behind the section, and

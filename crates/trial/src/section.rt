@@ -1,10 +1,10 @@
-// What a call wrote, a section or a whole record, read back byte by byte.
+// The section that a call wrote, read back byte by byte.
 
 ghost use Rattle.std.specs.Prelude.{◌+◌, ◌≤◌, length};
 
 use crate::buffers::say_kept;
 use crate::say::{say, say_number, say_with};
-use record::bytes::{u32_at, wide};
+use record::bytes::u32_at;
 use record::event::event_at;
 use record::form::Handed;
 
@@ -13,7 +13,6 @@ use record::form::Handed;
 pub enum Written {
     Nothing,
     Section(usize),
-    Record(usize),
 }
 
 // An event's kind, as a sign.
@@ -155,79 +154,6 @@ fn width_of(handed: Handed) -> usize
     }
 }
 
-// Where the sections of a moved record begin, and how wide its events are: those of the form that it did not have.
-#[derive(Drop)]
-struct Moved {
-    front: usize,
-    width: usize,
-}
-
-fn moved_from(handed: Handed) -> Moved
-    ensures { (result.front ≤ 5) × (8 ≤ result.width) × (result.width ≤ 12) }
-{
-    match handed {
-        Handed::Old(_) => Moved {
-            front: 5,
-            width: 12,
-        },
-        Handed::Second => Moved { front: 0, width: 8 },
-    }
-}
-
-// The first section of form 2, its count and its option byte.
-fn say_front(out: &[u8], front: usize)
-    requires { (front ≤ 5) × (front ≤ length out.now) }
-{
-    if front < 5 {
-        return;
-    }
-    say_with(b"; ", u32_at(out, 0));
-    say_with(b" %", wide(out[4]));
-}
-
-// A document as it stands, unless it is to be left out.
-fn say_document(document: &[u8], brief: bool) {
-    if brief {
-        return;
-    }
-    say(b" \"");
-    say(document);
-    say(b"\"");
-}
-
-// Says so where a moved record does not end where its sections do.
-fn say_end(said: usize, end: usize) {
-    if said != end {
-        say_with(b"; ENDS at ", end);
-    }
-}
-
-// A moved record of n bytes: its first section, if it has one, its document, its events, and the output behind them. One whose sections have no room in
-// the output is not said.
-fn say_record(out: &[u8], n: usize, form: Moved, brief: bool)
-    requires { (form.front ≤ 5) × (8 ≤ form.width) × (form.width ≤ 12) }
-{
-    let front = form.front;
-    let width = form.width;
-    if out.len() < 8 + front {
-        return;
-    }
-    say_front(out, front);
-    let d = u32_at(out, front);
-    say_with(b"; #", d);
-    if out.len() - 8 - front < d {
-        return;
-    }
-    let behind = 4 + front + d;
-    say_document(&out[4 + front..behind], brief);
-    let e = u32_at(out, behind);
-    if e > 8000 {
-        return;
-    }
-    say_section(&out[behind..], e, width, brief);
-    say_end(n, behind + end_of(e, width));
-}
-
 // The output after a call.
 pub fn say_output(out: &[u8], handed: Handed, written: Written, brief: bool) {
     match written {
@@ -236,9 +162,6 @@ pub fn say_output(out: &[u8], handed: Handed, written: Written, brief: bool) {
         }
         Written::Section(n) => {
             say_section(out, n, width_of(handed), brief);
-        }
-        Written::Record(n) => {
-            say_record(out, n, moved_from(handed), brief);
         }
     }
 }

@@ -1,4 +1,4 @@
-//! The calls, and an answer to any of them: the numbers of its C struct in their order, and the section it writes, or the record that it moves.
+//! The calls, and an answer to any of them: the numbers of its C struct in their order, and the section it writes.
 
 use std::fmt;
 
@@ -14,13 +14,11 @@ pub enum Call {
     ListItem,
     Continuation,
     Heading,
-    /// Forward of a record of the old form, back of one of form 2.
-    Move,
 }
 
 impl Call {
-    pub const ALL: [Call; 9] =
-        [Call::Read, Call::Attention, Call::Headings, Call::Lists, Call::SpaceOrTab, Call::ListItem, Call::Continuation, Call::Heading, Call::Move];
+    pub const ALL: [Call; 8] =
+        [Call::Read, Call::Attention, Call::Headings, Call::Lists, Call::SpaceOrTab, Call::ListItem, Call::Continuation, Call::Heading];
 
     pub fn name(self) -> &'static str {
         match self {
@@ -32,13 +30,12 @@ impl Call {
             Call::ListItem => "list_item",
             Call::Continuation => "continuation",
             Call::Heading => "heading",
-            Call::Move => "move_forward",
         }
     }
 
     /// Whether it is a record that the call takes, and not a line.
     pub fn takes_record(self) -> bool {
-        matches!(self, Call::Read | Call::Attention | Call::Headings | Call::Lists | Call::Move)
+        matches!(self, Call::Read | Call::Attention | Call::Headings | Call::Lists)
     }
 
     /// The names of the numbers in an answer.
@@ -51,7 +48,6 @@ impl Call {
             Call::ListItem => &["number", "place", "found", "taken", "left", "size", "blank", "mark"],
             Call::Continuation => &["number", "place", "found", "taken", "left", "blank"],
             Call::Heading => &["number", "place", "found", "events"],
-            Call::Move => &["number", "place", "bytes", "options"],
         }
     }
 }
@@ -90,9 +86,7 @@ impl Question {
     pub fn show(&self, answer: &Answer) -> String {
         let fields = self.call.fields(self.form);
         let mut text: Vec<String> = fields.iter().zip(answer.numbers).map(|(field, value)| format!("{field} {value}")).collect();
-        if self.call == Call::Move {
-            text.push(format!("record {:?}", answer.section));
-        } else if !answer.section.is_empty() {
+        if !answer.section.is_empty() {
             text.push(show_section(&answer.section, self.form));
         }
         text.join(" ")
@@ -101,9 +95,6 @@ impl Question {
 
 /// The name of a call on records of a form.
 pub fn name_in(form: Form, call: Call) -> String {
-    if (form, call) == (Form::Second, Call::Move) {
-        return "move_back".to_string();
-    }
     format!("{}{}", call.name(), if form == Form::Second { "2" } else { "" })
 }
 

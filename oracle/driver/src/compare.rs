@@ -292,48 +292,14 @@ impl Bench {
         }
     }
 
-    /// Put the same record to a move, with room for what comes of it, exactly enough or a byte short, and hold what is moved against document 02 in plain
-    /// Rust. A record that was moved has to come back byte for byte.
-    fn hold_moves(&mut self, question: &Question, source: Source, work: usize, document: Option<Markdown>) {
-        let asked = Question { call: Call::Move, ..question.clone() };
-        let exact = paper::answer(&asked, OUTPUT, work).section.len();
-        let output = [exact, exact.saturating_sub(1), exact + 1, OUTPUT][question.input.len() % 4];
-        let Some(ours) = self.put_move(&asked, source, output, work, document) else { return };
-        if ours.numbers[0] == 0 {
-            let (form, options) = match question.form {
-                Form::Old => (Form::Second, 0),
-                Form::Second => (Form::Old, ours.numbers[3] as u32),
-            };
-            let again = Question { form, input: ours.section, options, ..asked };
-            let Some(home) = self.put_move(&again, source, question.input.len(), work, document) else { return };
-            if home.section != question.input || home.numbers[3] != ours.numbers[3] {
-                let it = format!("it was {:?}", question.input);
-                self.differ("not as it was", &again, source, &again.show(&home), &it, document);
-            }
-        }
-    }
-
-    fn put_move(&mut self, asked: &Question, source: Source, output: usize, work: usize, document: Option<Markdown>) -> Option<Answer> {
-        let paper = paper::answer(asked, output, work);
-        let ours = self.ask_library(asked, source, output, work, document)?;
-        if ours != paper {
-            let (us, it) = (asked.show(&ours), asked.show(&paper));
-            self.differ("not as document 02", asked, source, &us, &format!("document 02: {it}"), document);
-        }
-        Some(ours)
-    }
-
-    /// Put a question with given buffers to the library and to document 01; a record to a move, and one of the old form to the call of form 2 too; and, if it
-    /// is accepted, to the crate. `known` is the crate's answer where it was seen at work, and `document` the Markdown it was at work on.
+    /// Put a question with given buffers to the library and to document 01; a record of the old form to the call of form 2 too; and, if it is accepted, to
+    /// the crate. `known` is the crate's answer where it was seen at work, and `document` the Markdown it was at work on.
     fn put(&mut self, question: &Question, source: Source, output: usize, work: usize, known: Option<Answer>, document: Option<Markdown>) {
         let paper = paper::answer(question, output, work);
         let Some(ours) = self.ask_library(question, source, output, work, document) else { return };
         if ours != paper {
             let (us, it) = (question.show(&ours), question.show(&paper));
             self.differ("not as document 01", question, source, &us, &format!("document 01: {it}"), document);
-        }
-        if question.call.takes_record() {
-            self.hold_moves(question, source, work, document);
         }
         if question.form == Form::Second {
             return;

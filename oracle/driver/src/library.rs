@@ -55,13 +55,6 @@ fn numbers(question: &Question, output: &mut [u8], work: &mut [u8]) -> Numbers {
         (Call::Headings, Form::Second) => resolved(ffi::resolve_headings2(input, output, work)),
         (Call::Lists, Form::Old) => resolved(ffi::resolve_lists(input, options, output, work)),
         (Call::Lists, Form::Second) => resolved(ffi::resolve_lists2(input, output, work)),
-        (Call::Move, form) => {
-            let r = match form {
-                Form::Old => ffi::move_forward(input, options, output, work),
-                Form::Second => ffi::move_back(input, output, work),
-            };
-            [r.number, r.place, r.bytes, r.options, 0, 0, 0, 0]
-        }
         (Call::SpaceOrTab, _) => {
             let r = ffi::space_or_tab(input, options, column, *a, *b);
             [r.number, r.place, r.found, r.taken, r.left, 0, 0, 0]
@@ -98,7 +91,7 @@ fn all(bytes: &[u8], value: u8) -> bool {
 
 /// The library's answer, with an output and a work memory of these lengths; or what it did to the buffers that it may not.
 pub fn answer(question: &Question, output: usize, work: usize, lent: &mut Lent) -> Result<Answer, &'static str> {
-    let writes = matches!(question.call, Call::Attention | Call::Headings | Call::Lists | Call::Heading | Call::Move);
+    let writes = matches!(question.call, Call::Attention | Call::Headings | Call::Lists | Call::Heading);
     let (output, work) = (if writes { output } else { 0 }, if question.call.takes_record() { work } else { 0 });
     lent.output[..output + GUARD].fill(PATTERN);
     lent.work[..work + GUARD].fill(STALE);
@@ -109,16 +102,12 @@ pub fn answer(question: &Question, output: usize, work: usize, lent: &mut Lent) 
         _ => 0,
     };
     let found = numbers[0] == 0 && writes && (question.call != Call::Heading || numbers[2] == 1);
-    let length = match question.call {
-        _ if !found => 0,
-        Call::Move => numbers[2],
-        _ => 4 + question.form.width() * events,
-    };
+    let length = if found { 4 + question.form.width() * events } else { 0 };
     if length > output {
-        return Err("more answered than the output has room for");
+        return Err("more events answered than the output has room for");
     }
     if !all(&lent.output[length..output + GUARD], PATTERN) {
-        return Err(if found { "output changed past what is written" } else { "output changed though nothing is written" });
+        return Err(if found { "output changed past the section" } else { "output changed though nothing is written" });
     }
     if !all(&lent.work[..work], 0) {
         return Err("work memory not zero");

@@ -1,6 +1,5 @@
 //! Holds the static library against the crate markdown 1.0.0, both against document 01 in plain Rust, and the library against the standard: the
-//! content of its headings' lines, and the examples of headings, tabs, list items and other blocks. Every record is put to the calls of form 2 too, and
-//! moved there and back.
+//! content of its headings' lines, and the examples of headings, tabs, list items and other blocks. Every record is put to the calls of form 2 too.
 //!
 //! `oracle/run` builds and runs it. Arguments: `--markdown DIR` (as often as wanted) adds Markdown files and the standard's examples, `--scale N`
 //! divides the counts by N for a short run, `--differences FILE` names the list of known ones, `--store FILE` writes the stored list of the crate's

@@ -30,16 +30,6 @@ struct Good<'a> {
 }
 
 impl Good<'_> {
-    /// The record in the other form: the same options, document and events.
-    fn moved(&self) -> Vec<u8> {
-        let count = (self.document.len() as u32).to_le_bytes();
-        let (front, form) = match self.form {
-            Form::Old => (vec![1, 0, 0, 0, self.options as u8], Form::Second),
-            Form::Second => (vec![], Form::Old),
-        };
-        [&front, &count[..], self.document, &section(&self.events, form)].concat()
-    }
-
     /// The shape rule is broken by what enters at event `i`.
     fn not_in_shape(&self, i: usize) -> Refused {
         (6, self.form.front() + 8 + self.document.len() + self.form.width() * i)
@@ -722,15 +712,6 @@ pub fn answer(question: &Question, output: usize, work: usize) -> Answer {
                 let events = if *call == Call::Headings { headings(&good)? } else { lists(&good)? };
                 let numbers = Answer::of(&[events.len(), 0, 0]);
                 written(events, *form, output, numbers)
-            }
-            Call::Move => {
-                let good = check(input, *form, *options, work)?;
-                let section = good.moved();
-                let bytes = section.len();
-                if output < bytes {
-                    return Err((8, 0));
-                }
-                Answer { section, ..Answer::of(&[bytes, good.options as usize]) }
             }
             Call::SpaceOrTab => {
                 let columns = columns_of(line_of(input, *options, *column)?, *column);

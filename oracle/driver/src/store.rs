@@ -375,7 +375,7 @@ pub fn store(file: &str) {
         bytes.extend_from_slice(&answer.section);
     }
     std::fs::write(file, &bytes).expect("the stored list can be written");
-    for call in &Call::ALL[1..Call::Move as usize] {
+    for call in &Call::ALL[1..] {
         println!("{}: {}", call.name(), counts[*call as usize]);
     }
     println!("{} answers, {} bytes", counts.iter().sum::<usize>(), bytes.len());

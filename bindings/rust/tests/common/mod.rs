@@ -52,17 +52,12 @@ impl Lent {
 
     /// It is zero, all of it.
     pub fn is_zero(&self) -> bool {
-        is_all(self.after(), 0)
+        self.after().iter().all(|&byte| byte == 0)
     }
 }
 
 pub fn is_dirty(bytes: &[u8]) -> bool {
-    is_all(bytes, DIRT)
-}
-
-/// Compared as a whole: byte by byte that takes most of the time of tests that are not optimised.
-fn is_all(bytes: &[u8], byte: u8) -> bool {
-    bytes == vec![byte; bytes.len()]
+    bytes.iter().all(|&byte| byte == DIRT)
 }
 
 /// Any resolver. Those of form 2 find their options in the record, and are told them for nothing.
@@ -107,40 +102,28 @@ pub fn record2(options: Options, document: &[u8], notation: &str) -> Vec<u8> {
 
 /// A section, byte by byte as document 01 lays it out, from events in that notation.
 pub fn section(notation: &str) -> Vec<u8> {
-    section_of(&events(notation))
+    let events = events(notation);
+    let mut bytes = (events.len() as u32).to_le_bytes().to_vec();
+    for event in events {
+        bytes.extend(eight_bytes(event));
+    }
+    bytes
 }
 
 /// The same in form 2.
 pub fn section2(notation: &str) -> Vec<u8> {
-    section2_of(&events(notation))
-}
-
-/// A section of these events, byte by byte.
-pub fn section_of(events: &[Event]) -> Vec<u8> {
-    let mut bytes = four_bytes(events.len()).to_vec();
-    for event in events {
+    let events = events(notation);
+    let mut bytes = (events.len() as u32).to_le_bytes().to_vec();
+    for (event, partner) in events.iter().zip(partners(&events)) {
         bytes.extend(eight_bytes(*event));
+        bytes.extend((partner as u32).to_le_bytes());
     }
     bytes
-}
-
-/// The same in form 2.
-pub fn section2_of(events: &[Event]) -> Vec<u8> {
-    let mut bytes = four_bytes(events.len()).to_vec();
-    for (event, partner) in events.iter().zip(partners(events)) {
-        bytes.extend(eight_bytes(*event));
-        bytes.extend(four_bytes(partner));
-    }
-    bytes
-}
-
-pub fn four_bytes(number: usize) -> [u8; 4] {
-    (number as u32).to_le_bytes()
 }
 
 fn eight_bytes(event: Event) -> Vec<u8> {
     let kind = if event.kind == Kind::Enter { 0 } else { 1 };
-    [&[kind, event.name.0, 0, 0][..], &four_bytes(event.place)].concat()
+    [&[kind, event.name.0, 0, 0][..], &(event.place as u32).to_le_bytes()].concat()
 }
 
 /// The partners of events that are all closed: an exit's is the last enter before it that has none yet.

@@ -1,16 +1,16 @@
--- `reader::next_event` meets its contract: a walk of its MIR, by hand. The struct is taken apart, and `reader::read_at` is called.
+-- `reader::next_event` meets its contract: a walk of its MIR, by hand. The struct is taken apart, and `reader::event_or_end` is called.
 -- The struct is Copy: what it owns is had twice. One copy is kept whole for the exit, and of the other what its slice owns goes to the call,
--- beside the lifetime's token, which comes back. What is required is what `read_at` requires.
+-- beside the lifetime's token, which comes back.
 -- Assumes nothing.
 use mathlib.Core.Path.{◌≡◌, refl}
-use Prim.Native.Nat.{ℕ, ◌+◌, ◌≤◌, ◌<◌, ◌^◌}
+use Prim.Native.Nat.{◌<◌, ◌^◌}
 use mathlib.Core.List.{[], ◌∷◌}
 use lib.Dec.{T as Holds}
 use lib.ListN.{length}
 use seplogic.Ra.Ura.{Ura}
 use mir.Syntax.{named, w64}
 use mir.Val.{Val, WT, has_ty, vint}
-use base.Logic.{SProp, ent, sep, snd∗, ex_e, id⊢}
+use base.Logic.{SProp, ent, sep, emp, via, fst∗, snd∗, ex_e, id⊢}
 use base.Fml.{Lft, Share, Fml, ftrue, flft}
 use prog.Memory.{Memory}
 use prog.Routine.{Routine}
@@ -19,17 +19,18 @@ use types.Logic.{Logic, sem}
 use contract.Lifetimes.{Lfts}
 use contract.Monad.{Fun, fact}
 use contract.Running.{tables, tables_of}
-use types.Kit.{‵, raw, ◌⊛◌, given, ⋆, some, later, ◌$◌, ◌∵◌, !, qed, by, move, drop, use1, use2, split, learn, pick, fsplit, fjoin, suffices, frame, await, done}
+use types.Kit.{‵, raw, ◌⊛◌, given, ⋆, some, later, ◌$◌, ◌∵◌, !, qed, by, move, drop, use1, use2, split, join, learn, pick, fsplit, fjoin, suffices, frame, await, done}
 use types.Part.{whole, sub, look_in}
 use types.Run.{look, init, forget, stop, fld, from, load, of_opd, and_then, no_more, assigns, land, returns, enter, alloc1, alloc0, params1, pass1, pass0, free1, free0}
 use sound.WpLaws.{FmC, fm_of, WpFn-mono}
 use denote.RattleType.{RattleType, owns}
 use denote.Laws.{Is, shows}
-use denote.Plain.{uint_vals, uint_Tells, uint_Makes}
+use denote.Plain.{uint_Makes}
 use denote.Builtin.{u8, usize}
 use denote.Signature.{named_lft}
 use denote.Slice.{slice_val, ShrSlice}
 use denote.Steps.{owned, peeks, heard, nothing}
+use denote.Enum.Laws as EL
 use denote.Struct.Declared.{Declared}
 use denote.Struct.Laws as LL
 use denote.Struct.Rest.{all_own, field_own, rest, own_open, own_out}
@@ -39,20 +40,20 @@ use denote.Triple.Call.{calls_at}
 use denote.Triple.Entry.{Vals, on_entry}
 use denote.Triple.Spec.{Meets, triple_of}
 use denote.Triple.Table.{entered, cited}
-use denote.Triple.Walked.{says, needs, Stays, stay_none, walk_of, Goes-none, Walks, ends_at, walked, walk_Meets}
+use denote.Triple.Walked.{says, Stays, stay_none, walk_of, Goes-none, Walks, ends_at, walked, walk_Meets}
 use denote.Exit.{yes}
 use denote.Triple.Clauses.{ensured, lasts}
-use Rattle.reader.specs.Read.{read_at}
+use Rattle.reader.specs.Read.{found_at}
 use Rattle.reader.specs.declared.Reader.{Reader}
-use Rattle.reader.specs.declared.Read.{Read}
+use Rattle.reader.specs.declared.Found.{Found}
 use Rattle.reader.specs.contracts.Reader as T
 use Rattle.reader.proofs.Reader.TheLaws as T'
-use Rattle.reader.specs.contracts.Read as S
-use Rattle.reader.proofs.Read.TheLaws as S'
-use Rattle.reader.specs.contracts.read_at as callee
-use Rattle.reader.proofs.read_at.Symbol as callee-def
-use Rattle.reader.proofs.read_at.Symbol.{name as #reader·read-at}
-use Rattle.reader.proofs.read_at.Met as callee-thm
+use Rattle.reader.specs.contracts.Found as S
+use Rattle.reader.proofs.Found.TheLaws as S'
+use Rattle.reader.specs.contracts.event_or_end as callee
+use Rattle.reader.proofs.event_or_end.Symbol as callee-def
+use Rattle.reader.proofs.event_or_end.Symbol.{name as #reader·event-or-end}
+use Rattle.reader.proofs.event_or_end.Met as callee-thm
 use Rattle.reader.specs.contracts.next_event.Key.{name as #reader·next_event}
 use Rattle.reader.specs.contracts.next_event as self
 use Rattle.reader.proofs.next_event.Statement as stated
@@ -63,14 +64,14 @@ abbrev B : Lfts 1 → RattleType
 B κs = T.the_row (named_lft 1 0 tt κs)
 
 abbrev stayed : Stays (self.ended).signature.params (self.ended).kept
-stayed = (stay_none B yes, (stay_none (λ _. usize) yes, tt))
+stayed = (stay_none B yes, tt)
 
 module _ {M : Type 1} {𝓤 : Ura M} (𝓛 : Logic 𝓤) (mem : Memory → SProp 𝓤) (run : Routine → Fun 𝓤) where
   -- the contract that the proof cites
   abbrev Callee : Contract 𝓤
   Callee = triple_of 𝓛 callee.signature (callee.spec 𝓛 mem run)
 
-module _ {M : Type 1} {𝓤 : Ura M} (𝓛 : Logic 𝓤) (mem : Memory → SProp 𝓤) (run : Routine → Fun 𝓤) (κ : Lft) (q : Share) (d : Reader) (width : ℕ) (width_fits : width < 2 ^ 64) where
+module _ {M : Type 1} {𝓤 : Ura M} (𝓛 : Logic 𝓤) (mem : Memory → SProp 𝓤) (run : Routine → Fun 𝓤) (κ : Lft) (q : Share) (d : Reader) where
   open 𝓛 use {H}
 
   abbrev mach : Val
@@ -80,15 +81,15 @@ module _ {M : Type 1} {𝓤 : Ura M} (𝓛 : Logic 𝓤) (mem : Memory → SProp
   abbrev v : Val
   v = slice_val d.record.ref_ptr (length d.record.now)
 
-  abbrev found : Read
-  found = read_at width d.record.now d.at
+  abbrev found : Found
+  found = found_at d.record.now d.at
 
   -- the arguments and their machine values
-  abbrev args : Reader × (ℕ × Unit {0})
-  args = (d, (width, tt))
+  abbrev args : Reader × Unit {0}
+  args = (d, tt)
 
   abbrev vals : Vals self.signature (κ, tt)
-  vals = (mach ∷ [], (vint w64 width ∷ [], tt))
+  vals = (mach ∷ [], tt)
 
   abbrev Post : Val → SProp 𝓤
   Post = (walk_of 𝓛 self.ended stayed (self.clauses 𝓛 mem run)).post (((κ, tt), (q, tt), tt, args, vals), tt)
@@ -108,64 +109,64 @@ module _ {M : Type 1} {𝓤 : Ura M} (𝓛 : Logic 𝓤) (mem : Memory → SProp
 
   -- what the callee is passed
   abbrev passed : Vals callee.signature (κ, tt)
-  passed = (v ∷ [], (vint w64 d.at ∷ [], (vint w64 width ∷ [], tt)))
+  passed = (v ∷ [], (vint w64 d.at ∷ [], tt))
 
   abbrev to : (Callee 𝓛 mem run).Ghost
-  to = (((κ, tt), (q, tt), tt, (d.record, (d.at, (width, tt))), passed), tt)
+  to = (((κ, tt), (q, tt), tt, (d.record, (d.at, tt)), passed), tt)
 
-  asked : (8 ≤ width) × (d.at + width ≤ length d.record.now) → ent 𝓤 (on_entry 𝓛 callee.signature (κ, tt) (q, tt) (d.record, (d.at, (width, tt))) passed) ((Callee 𝓛 mem run).pre to)
-  asked within = qed 𝓛 ((‵ (flft κ q) ⊛ ‵ ftrue) ∷ ‵ (owns (ShrSlice (named 0) κ u8 ∷ usize ∷ usize ∷ []) (d.record, (d.at, (width, tt))) passed) ∷ []) ∵ says ! within $ frame ! $ done !
+  asked : ent 𝓤 (on_entry 𝓛 callee.signature (κ, tt) (q, tt) (d.record, (d.at, tt)) passed) ((Callee 𝓛 mem run).pre to)
+  asked = qed 𝓛 ((‵ (flft κ q) ⊛ ‵ ftrue) ∷ ‵ (owns (ShrSlice (named 0) κ u8 ∷ usize ∷ []) (d.record, (d.at, tt)) passed) ∷ []) ∵ join ! $ frame ! $ done !
 
   -- what the struct owns gives what the callee asks, and is kept
-  apart : d.at < 2 ^ 64 → (8 ≤ width) × (d.at + width ≤ length d.record.now) → ent 𝓤 (on_entry 𝓛 self.signature (κ, tt) (q, tt) args vals) (sep 𝓤 ((Callee 𝓛 mem run).pre to) (sem 𝓛 Own))
-  apart fits within =
-      qed 𝓛 ((‵ (flft κ q) ⊛ ‵ ftrue) ∷ ‵ (owns (B (κ, tt) ∷ usize ∷ []) args vals) ∷ []) ∵
+  apart : d.at < 2 ^ 64 → ent 𝓤 (on_entry 𝓛 self.signature (κ, tt) (q, tt) args vals) (sep 𝓤 ((Callee 𝓛 mem run).pre to) (sem 𝓛 Own))
+  apart fits =
+      qed 𝓛 ((‵ (flft κ q) ⊛ ‵ ftrue) ∷ ‵ (owns (B (κ, tt) ∷ []) args vals) ∷ []) ∵
       move ! (1 ∷ []) $ fsplit ! $ move ! (1 ∷ []) $ drop ! $ use1 𝓛 (‵ Own ⊛ ‵ Own) ((LL.copy D (T'.the_copy (named_lft 1 0 tt (κ, tt))) 𝓛).twice d (mach ∷ [])) $ split ! $
       use1 𝓛 (given (mach ∷ [] ≡ mach ∷ []) (‵ (all_own D.parts L vd))) (own_open 𝓛 D L vd mach) $ learn ! (λ _. use1 𝓛 (‵ (field_own D.parts L 0 d.record) ⊛ ‵ (rest D.parts L 0 vd)) (own_out 𝓛 D.parts L 0 vd) $ split ! $
-      -- [what its slice owns; what at owns; what the struct owns; the token]
-      move ! (1 ∷ []) $ drop ! $ nothing ! $ owned ! usize (Is usize) (uint_Makes 𝓛 w64) width _ (refl, width_fits) $ fjoin ! $ owned ! usize (Is usize) (uint_Makes 𝓛 w64) d.at _ (refl, fits) $ fjoin ! $ move ! (1 ∷ 0 ∷ []) $ fjoin ! $
-      move ! (2 ∷ 0 ∷ []) $ use2 𝓛 (raw ((Callee 𝓛 mem run).pre to)) (asked within) $ frame ! $ done !)
+      -- [what record owns; what at owns; what the struct owns; the token]
+      move ! (1 ∷ []) $ drop ! $ nothing ! $ owned ! usize (Is usize) (uint_Makes 𝓛 w64) d.at _ (refl, fits) $ fjoin ! $ move ! (1 ∷ 0 ∷ []) $ fjoin ! $
+      move ! (2 ∷ 0 ∷ []) $ use2 𝓛 (raw ((Callee 𝓛 mem run).pre to)) asked $ frame ! $ done !)
 
   -- of the callee's `ensured`, the clause alone: it has no `&mut`, so what is said of last values is dropped
-  said : (r : Read) → ent 𝓤 (ensured 𝓛 callee.ended (callee.clauses 𝓛 mem run) (κ, tt) (d.record, (d.at, (width, tt))) tt r) (fact 𝓤 (r ≡ found))
-  said r = ex_e 𝓤 _ (λ ws. snd∗ 𝓤 (sem 𝓛 (lasts callee.ended (κ, tt) (d.record, (d.at, (width, tt))) ws)) (fact 𝓤 (r ≡ found)))
+  said : (r : Found) → ent 𝓤 (ensured 𝓛 callee.ended (callee.clauses 𝓛 mem run) (κ, tt) (d.record, (d.at, tt)) tt r) (fact 𝓤 (r ≡ found))
+  said r = ex_e 𝓤 _ (λ ws. snd∗ 𝓤 (sem 𝓛 (lasts callee.ended (κ, tt) (d.record, (d.at, tt)) ws)) (fact 𝓤 (r ≡ found)))
 
-  exits : (r : Read) (u : Val) → r ≡ found → ent 𝓤 (⋆ 𝓛 (‵ ((S.the_row).own_val r (u ∷ [])) ∷ (‵ (flft κ q) ⊛ ‵ ftrue) ∷ ‵ Own ∷ [])) (Post u)
+  exits : (r : Found) (u : Val) → r ≡ found → ent 𝓤 (⋆ 𝓛 (‵ ((S.the_row).own_val r (u ∷ [])) ∷ (‵ (flft κ q) ⊛ ‵ ftrue) ∷ ‵ Own ∷ [])) (Post u)
   exits r u e =
       qed 𝓛 (‵ ((S.the_row).own_val r (u ∷ [])) ∷ (‵ (flft κ q) ⊛ ‵ ftrue) ∷ ‵ Own ∷ []) ∵
-      suffices ! _ (ends_at 𝓛 self.ended stayed (self.clauses 𝓛 mem run) (((κ, tt), (q, tt), tt, args, vals), tt) u r (tt, (tt, tt)) (tt, (tt, tt))) $ says ! e $
-      move ! (1 ∷ []) $ frame ! $ nothing ! $ owned ! usize (Is usize) (uint_Makes 𝓛 w64) width _ (refl, width_fits) $ fjoin ! $ move ! (2 ∷ 0 ∷ []) $ fjoin ! $ frame ! $ done !
+      suffices ! _ (ends_at 𝓛 self.ended stayed (self.clauses 𝓛 mem run) (((κ, tt), (q, tt), tt, args, vals), tt) u r (tt, tt) (tt, tt)) $ says ! e $
+      move ! (1 ∷ []) $ frame ! $ nothing ! $ move ! (2 ∷ 0 ∷ []) $ fjoin ! $ frame ! $ done !
 
-  module _ (C : Calls 𝓤 H) (Λ : Loops 𝓤 H) (fm : FmC 𝓤 H 𝓛.laws C) (known : Triple 𝓤 (C #reader·read-at) (Callee 𝓛 mem run)) where
-    walk : Holds (has_ty (T'.mir (named 0)) mach) × WT mach → (8 ≤ width) × (d.at + width ≤ length d.record.now) → ent 𝓤 (on_entry 𝓛 self.signature (κ, tt) (q, tt) args vals) (WpFn 𝓤 H C Λ code.function (mach ∷ vint w64 width ∷ []) Post)
-    walk wt within =
-        qed 𝓛 (raw (on_entry 𝓛 self.signature (κ, tt) (q, tt) args vals) ∷ []) ∵ enter ! C Λ code.function (mach ∷ vint w64 width ∷ []) _ $
-        alloc1 ! (λ l₀. alloc1 ! (λ l₁. alloc1 ! (λ l₂. alloc1 ! (λ l₃. alloc1 ! (λ l₄. alloc0 ! $ params1 ! $
-        pass1 ! (init ! 6 refl wt) $ pass1 ! (init ! 4 refl (tt, record { fits = width_fits })) $ pass0 ! $
-        assigns ! (of_opd ! (load ! (from ! (fld ! refl (stop !))) (look_in ! 6 (sub ! 0 refl (whole !))))) (from ! (stop !)) (init ! 2 refl (tt, wt.1.0)) $
-        assigns ! (of_opd ! (load ! (from ! (fld ! refl (stop !))) (look_in ! 6 (sub ! 1 refl (whole !))))) (from ! (stop !)) (init ! 0 refl (tt, wt.1.1.0)) $
-        move ! (10 ∷ []) $ use1 𝓛 (raw ((Callee 𝓛 mem run).pre to) ⊛ ‵ Own) (apart wt.1.1.0.fits within) $ split ! $
-        calls_at ! fm (Callee 𝓛 mem run) known to (and_then ! (load ! (from ! (stop !)) (look ! 4 refl)) (and_then ! (load ! (from ! (stop !)) (look ! 2 refl)) (and_then ! (load ! (from ! (stop !)) (look ! 6 refl)) (no_more !)))) (λ u.
-        use1 𝓛 (later (some (λ (r : Read). ((‵ (flft κ q) ⊛ ‵ ftrue) ⊛ ‵ ((S.the_row).own_val r (u ∷ []))) ⊛ raw (ensured 𝓛 callee.ended (callee.clauses 𝓛 mem run) (κ, tt) (d.record, (d.at, (width, tt))) tt r)))) (id⊢ 𝓤 _) $ await ! tt $ pick ! (λ r.
+  module _ (C : Calls 𝓤 H) (Λ : Loops 𝓤 H) (fm : FmC 𝓤 H 𝓛.laws C) (known : Triple 𝓤 (C #reader·event-or-end) (Callee 𝓛 mem run)) where
+    walk : Holds (has_ty (T'.mir (named 0)) mach) × WT mach → ent 𝓤 (on_entry 𝓛 self.signature (κ, tt) (q, tt) args vals) (WpFn 𝓤 H C Λ code.function (mach ∷ []) Post)
+    walk wt =
+        qed 𝓛 (raw (on_entry 𝓛 self.signature (κ, tt) (q, tt) args vals) ∷ []) ∵ enter ! C Λ code.function (mach ∷ []) _ $
+        alloc1 ! (λ l₀. alloc1 ! (λ l₁. alloc1 ! (λ l₂. alloc1 ! (λ l₃. alloc0 ! $ params1 ! $
+        pass1 ! (init ! 4 refl wt) $ pass0 ! $
+        assigns ! (of_opd ! (load ! (from ! (fld ! refl (stop !))) (look_in ! 4 (sub ! 0 refl (whole !))))) (from ! (stop !)) (init ! 2 refl (tt, wt.1.0)) $
+        assigns ! (of_opd ! (load ! (from ! (fld ! refl (stop !))) (look_in ! 4 (sub ! 1 refl (whole !))))) (from ! (stop !)) (init ! 0 refl (tt, wt.1.1.0)) $
+        move ! (8 ∷ []) $ use1 𝓛 (raw ((Callee 𝓛 mem run).pre to) ⊛ ‵ Own) (apart wt.1.1.0.fits) $ split ! $
+        calls_at ! fm (Callee 𝓛 mem run) known to (and_then ! (load ! (from ! (stop !)) (look ! 4 refl)) (and_then ! (load ! (from ! (stop !)) (look ! 2 refl)) (no_more !))) (λ u.
+        use1 𝓛 (later (some (λ (r : Found). ((‵ (flft κ q) ⊛ ‵ ftrue) ⊛ ‵ ((S.the_row).own_val r (u ∷ []))) ⊛ raw (ensured 𝓛 callee.ended (callee.clauses 𝓛 mem run) (κ, tt) (d.record, (d.at, tt)) tt r)))) (id⊢ 𝓤 _) $ await ! tt $ pick ! (λ r.
         split ! $ move ! (1 ∷ []) $ use1 𝓛 (raw (fact 𝓤 (r ≡ found))) (said r) $ heard ! (r ≡ found) (λ e. split ! $ move ! (1 ∷ []) $
         -- [the result; the token; what the struct owns; the locals, last first; room for _0; …]
         peeks ! S.the_row (Is S.the_row) (shows 𝓛 S.the_row) r (u ∷ []) (λ is.
-        land ! (from ! (stop !)) (init ! 11 refl ((LL.lawful S.the_type S'.the_laws 𝓛).typed r _ is).0) $
-        returns ! (look ! 11 refl) $ forget ! 3 refl $ forget ! 5 refl $ forget ! 7 refl $ forget ! 9 refl $ forget ! 11 refl $
-        move ! (11 ∷ 12 ∷ []) $ free1 ! $ move ! (9 ∷ 10 ∷ []) $ free1 ! $ move ! (7 ∷ 8 ∷ []) $ free1 ! $ move ! (5 ∷ 6 ∷ []) $ free1 ! $ move ! (3 ∷ 4 ∷ []) $ free1 ! $ free0 ! $ by ! (exits r u e))))))))))
+        land ! (from ! (stop !)) (init ! 9 refl ((EL.lawful S.the_type S'.the_laws 𝓛 tt).typed r _ is).0) $
+        returns ! (look ! 9 refl) $ forget ! 3 refl $ forget ! 5 refl $ forget ! 7 refl $ forget ! 9 refl $
+        move ! (9 ∷ 10 ∷ []) $ free1 ! $ move ! (7 ∷ 8 ∷ []) $ free1 ! $ move ! (5 ∷ 6 ∷ []) $ free1 ! $ move ! (3 ∷ 4 ∷ []) $ free1 ! $ free0 ! $ by ! (exits r u e)))))))))
 
 module _ {M : Type 1} {𝓤 : Ura M} (𝓛 : Logic 𝓤) (mem : Memory → SProp 𝓤) (run : Routine → Fun 𝓤) where
   open 𝓛 use {H}
 
-  self-walks : (C : Calls 𝓤 H) (Λ : Loops 𝓤 H) → FmC 𝓤 H 𝓛.laws C → Triple 𝓤 (C #reader·read-at) (Callee 𝓛 mem run)
+  self-walks : (C : Calls 𝓤 H) (Λ : Loops 𝓤 H) → FmC 𝓤 H 𝓛.laws C → Triple 𝓤 (C #reader·event-or-end) (Callee 𝓛 mem run)
       → Walks 𝓛 self.ended stayed (WpFn 𝓤 H C Λ code.function) (self.clauses 𝓛 mem run)
-  self-walks C Λ fm known = walked 𝓛 self.ended stayed (self.clauses 𝓛 mem run) (WpFn 𝓤 H C Λ code.function) (λ κs. (LL.vals (T.the_type (named_lft 1 0 tt κs)) (T'.the_laws (named_lft 1 0 tt κs)), (uint_vals w64, tt))) (λ κs. (LL.tells (T.the_type (named_lft 1 0 tt κs)) (T'.the_laws (named_lft 1 0 tt κs)), (uint_Tells w64, tt)))
-      (λ κs qs bounds a g are. needs 𝓤 _ _ (walk 𝓛 mem run κs.0 qs.0 a.0 a.1.0 are.1.0.1 C Λ fm known ((LL.lawful (T.the_type (named_lft 1 0 tt κs)) (T'.the_laws (named_lft 1 0 tt κs)) 𝓛).typed a.0 _ are.0).0))
+  self-walks C Λ fm known = walked 𝓛 self.ended stayed (self.clauses 𝓛 mem run) (WpFn 𝓤 H C Λ code.function) (λ κs. (LL.vals (T.the_type (named_lft 1 0 tt κs)) (T'.the_laws (named_lft 1 0 tt κs)), tt)) (λ κs. (LL.tells (T.the_type (named_lft 1 0 tt κs)) (T'.the_laws (named_lft 1 0 tt κs)), tt))
+      (λ κs qs bounds a g are. via 𝓤 _ (fst∗ 𝓤 _ (emp 𝓤)) (walk 𝓛 mem run κs.0 qs.0 a.0 C Λ fm known ((LL.lawful (T.the_type (named_lft 1 0 tt κs)) (T'.the_laws (named_lft 1 0 tt κs)) 𝓛).typed a.0 _ are.0).0))
 
 self-meets : {M : Type 1} {𝓤 : Ura M} (𝓛 : Logic 𝓤) (mem : Memory → SProp 𝓤) (run : Routine → Fun 𝓤) (𝓣 : Tables 𝓤 𝓛.H)
-    → Triple 𝓤 (𝓣.C #reader·read-at) (Callee 𝓛 mem run)
+    → Triple 𝓤 (𝓣.C #reader·event-or-end) (Callee 𝓛 mem run)
     → Meets 𝓛 self.signature (WpFn 𝓤 𝓛.H 𝓣.C 𝓣.Λ code.function) (self.spec 𝓛 mem run)
-self-meets {𝓤 = 𝓤} 𝓛 mem run 𝓣 known = walk_Meets 𝓛 self.ended stayed (Goes-none 𝓛 1 B yes (λ κs x f. refl), (Goes-none 𝓛 1 (λ _. usize) yes (λ κs x f. refl), tt)) (self.clauses 𝓛 mem run) (WpFn 𝓤 𝓛.H 𝓣.C 𝓣.Λ code.function) (WpFn-mono 𝓤 𝓛.H 𝓛.laws 𝓣 code.function)
+self-meets {𝓤 = 𝓤} 𝓛 mem run 𝓣 known = walk_Meets 𝓛 self.ended stayed (Goes-none 𝓛 1 B yes (λ κs x f. refl), tt) (self.clauses 𝓛 mem run) (WpFn 𝓤 𝓛.H 𝓣.C 𝓣.Λ code.function) (WpFn-mono 𝓤 𝓛.H 𝓛.laws 𝓣 code.function)
     (self-walks 𝓛 mem run 𝓣.C 𝓣.Λ (fm_of 𝓤 𝓛.H 𝓛.laws 𝓣) known)
 
 pub next-event-spec : {M : Type 1} → stated.statement M
@@ -174,4 +175,4 @@ next-event-spec 𝓤 𝓛 𝓜 𝓡 =
     entered 𝓤 𝓛.H (triple_of 𝓛 self.signature (self.spec 𝓛 𝓜.mem 𝓡.run))
     (tables 𝓤 𝓛.H 𝓜 𝓡 code.env).C (tables 𝓤 𝓛.H 𝓜 𝓡 code.env).Λ #reader·next_event code.function (code.unfolded 𝓤 𝓛.H 𝓜 𝓡)
     (self-meets 𝓛 𝓜.mem 𝓡.run (tables_of 𝓤 𝓛.H 𝓜 (tables 𝓤 𝓛.H 𝓜 𝓡 code.env))
-    (cited 𝓤 𝓛.H (Callee 𝓛 𝓜.mem 𝓡.run) 𝓜 𝓡 code.env #reader·read-at callee-def.routine code.calls-reader::read-at (callee-thm.met 𝓤 𝓛 𝓜 𝓡)))
+    (cited 𝓤 𝓛.H (Callee 𝓛 𝓜.mem 𝓡.run) 𝓜 𝓡 code.env #reader·event-or-end callee-def.routine code.calls-reader::event-or-end (callee-thm.met 𝓤 𝓛 𝓜 𝓡)))

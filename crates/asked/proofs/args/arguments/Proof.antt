@@ -14,9 +14,6 @@ decreases-loop from takes count asked₀ i₀ asked i = count - i
 arg-count-requires : tie.Need-arg-count-requires invariant-loop decreases-loop
 arg-count-requires c κs = search rules
 
-usual-form-requires : tie.Need-usual-form-requires invariant-loop decreases-loop
-usual-form-requires c κs = search rules
-
 loop-holds : tie.Need-loop-init invariant-loop decreases-loop
 loop-holds c = search rules
 
@@ -42,7 +39,6 @@ arguments-spec =
     invariant-loop
     decreases-loop
     arg-count-requires
-    usual-form-requires
     loop-holds
     take-requires
     add-i

@@ -1,13 +1,15 @@
--- `asked::made::put_good` is safe: the events are sound, so that a section can be made of them.
+-- `asked::made::put_good` is safe: the events are sound, so that they can be put by a pen.
 -- Assumes nothing.
 use mathlib.Core.Path.{refl}
-use Rattle.asked.proofs.Lent.{events_balanced}
 use borrow.Author.Rules.{rules}
+use Rattle.asked.proofs.Lent.{events_fit}
 use Rattle.asked.proofs.made.put_good.Statement.{statement}
 use Rattle.asked.proofs.made.put_good.Tie as tie
 use Rattle.asked.proofs.made.put_good.Reads as reads
 use Rattle.asked.proofs.made.put_good.Lts as lts
-use Rattle.partners.proofs.put_section.Reads as put-section-reads
+use Rattle.partners.proofs.begin.Reads as begin-reads
+use Rattle.partners.proofs.copy.Reads as copy-reads
+use Rattle.record.proofs.bytes.put_u32.Reads as put-u32-reads
 use Rattle.record.proofs.form.place_of.Reads as place-of-reads
 use Rattle.terminal.proofs.words.copy_in.Reads as copy-in-reads
 
@@ -38,21 +40,27 @@ part-copy-in-end c = search rules
 copy-in-requires : tie.Need-copy-in-requires
 copy-in-requires c κs = search rules
 
-sub-put-section : tie.Need-overflow-sub-put-section
-sub-put-section c = search rules
+put-u32-requires : tie.Need-put-u32-requires
+put-u32-requires c κs = search rules
 
-part-put-section-start : tie.Need-slice-bounds-put-section-start
-part-put-section-start c = search rules
+begin-requires : tie.Need-begin-requires
+begin-requires c κs = search rules
 
-part-put-section-end : tie.Need-slice-bounds-put-section-end
-part-put-section-end c = search rules
+sub-copy : tie.Need-overflow-sub-copy
+sub-copy c = search rules
 
-put-section-requires : tie.Need-put-section-requires
-put-section-requires c κs =
-    let q = c.before.before.before.before.before.before.before.before.before.before.before.requires in
-    let h = c.before.before.before.before.before.before.before.before.place_of.ensures in
-    let l = c.before.before.before.before.before.before.before.if1.false in
-    (q.0.wide, search rules, q.2, search rules, search rules, events_balanced c.before.before.before.before.before.before.before.before.before.before.before.args.form _ _ _ _ refl q.4)
+part-copy-start : tie.Need-slice-bounds-copy-start
+part-copy-start c = search rules
+
+part-copy-end : tie.Need-slice-bounds-copy-end
+part-copy-end c = search rules
+
+copy-requires : tie.Need-copy-requires
+copy-requires c κs =
+    let q = c.before.before.before.before.before.before.before.before.before.before.before.before.before.before.before.before.requires in
+    let h = c.before.before.before.before.before.before.before.before.before.before.before.before.before.place_of.ensures in
+    let l = c.before.before.before.before.before.before.before.before.before.before.before.before.if1.false in
+    (search rules, search rules, events_fit c.before.before.before.before.before.before.before.before.before.before.before.before.before.before.before.before.args.form _ _ c.before.before.before.before.before.before.before.before.before.before.before.before.before.before.before.before.args.d c.before.before.before.before.before.before.before.before.before.before.before.before.before.before.before.before.args.events _ q.0 q.2 refl (search rules) q.4 c.before.begin.ensures)
 
 same_length : tie.Need-same-length
 same_length c = search rules
@@ -73,9 +81,11 @@ put-good-spec =
     part-copy-in-start
     part-copy-in-end
     copy-in-requires
-    sub-put-section
-    part-put-section-start
-    part-put-section-end
-    put-section-requires
+    put-u32-requires
+    begin-requires
+    sub-copy
+    part-copy-start
+    part-copy-end
+    copy-requires
     same_length
     returns-2)

@@ -1,5 +1,0 @@
-pub mod Writing
-pub mod Settling
-pub mod Exactly
-pub mod Laws
-pub mod OneForm
