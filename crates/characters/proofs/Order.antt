@@ -6,8 +6,8 @@ use mathlib.Core.Bool.{Bool, true, false, ◌&&◌, ◌||◌}
 use mathlib.Core.List.{List, [], ◌∷◌}
 use native.Mathlib.Omega.{arith}
 use lib.Dec.{leb}
-use lib.ListN.{length, get_or}
-use borrow.Author.Tests.{le-leb, lt-leb, leb-true}
+use lib.ListN.{length}
+use borrow.Author.Tests.{le-leb, leb-true}
 use Rattle.characters.specs.Ranges.{within, member, rising, low, high, In, MemberIn, RangesApart}
 
 pub and_left : (a b : Bool) → a && b ≡ true → a ≡ true

@@ -2,7 +2,7 @@
 -- range that ends there or later, or else of the last one, so that a look-up has few ranges to halve.
 -- Assumes nothing.
 use Rattle.std.specs.Prelude.{ℕ, ◌+◌, ◌-◌, ◌*◌, ◌<◌, ◌≡◌, Bool, true, ◌&&◌, ◌||◌, List, leb, ltb, eqb, length, get_or, drop}
-use Rattle.characters.specs.Ranges.{unpacked, low, high}
+use Rattle.characters.specs.Ranges.{unpacked, high}
 use Rattle.characters.specs.Tables.{punctuation_ranges}
 
 -- what is in a block that begins at a number is in the ranges from one to another, both included: the one before ends below the block, and the last of them ends

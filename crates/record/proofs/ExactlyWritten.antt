@@ -16,7 +16,7 @@ use Rattle.record.specs.Form.{place_in}
 use Rattle.record.specs.Handed.{form_of}
 use Rattle.record.specs.Order.{rank, Least}
 use Rattle.record.specs.Rows.{Row, document_count_in, event_count_in}
-use Rattle.record.specs.Outcome.{Resolution, offends, gives, Outcome, accepted, refused, refusing, sized, settled, outcome}
+use Rattle.record.specs.Outcome.{Resolution, offends, gives, Outcome, accepted, refusing, sized, settled, outcome}
 use Rattle.record.specs.Written.{Judges, WrittenRow, by_check, row_6, row_7, row_8, ExactlyWritten}
 use Rattle.record.specs.declared.event.Event.{Event}
 use Rattle.record.specs.declared.form.Handed.{Handed}

@@ -14,7 +14,7 @@ use Rattle.record.specs.Form.{old, second, place_in, mate_in, Known}
 use Rattle.record.specs.Handed.{form_of, options_of}
 use Rattle.record.specs.Event.{Stored, stored_at, all_stored_at, event_at, events_by, events_in}
 use Rattle.record.specs.Stack.{innermost_of, after, open_after, open_at}
-use Rattle.record.specs.Sound.{sound_from, sound}
+use Rattle.record.specs.Sound.{sound_from}
 use Rattle.record.specs.Good.{GoodIn}
 use Rattle.record.specs.Check.{refuse, count_at, fitting, first_return, formed, paired, truly, judge, inside_of, end_of, event_count_of, checked_in, fronted, admitted}
 use Rattle.record.specs.declared.event.Event.{Event}

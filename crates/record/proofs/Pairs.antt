@@ -93,6 +93,8 @@ pub record Partner (all : List Event) (k : ℕ) : Type 0 where
 partner_of : (all : List Event) (k n : ℕ) (is ns : List ℕ) → ns ≡ n ∷ outer ns → Pairs all k is ns →
     (i : ℕ) × (is ≡ i ∷ outer is) × (i < k) × ((nth all i).kind ≡ 0) × ((nth all i).name ≡ n)
 partner_of all k n [] [] q closed = let z : ◌≡◌ {A = ℕ} 0 1 = cc in absurd (omega arith)
+partner_of all k n [] (m ∷ ns) q x = elim x [ ]
+partner_of all k n (i ∷ is) [] q x = elim x [ ]
 partner_of all k n (i ∷ is) (m ∷ ns) q (opened l a b r) = (i, refl, l, a, b ∙ cc)
 
 pub partner : (all : List Event) (deep d k : ℕ) → sound deep d all ≡ true → k < length all → (nth all k).kind ≡ 1 → Partner all k
@@ -105,6 +107,8 @@ partner all deep d k s h x =
 
 none_closed : (all : List Event) (k : ℕ) (is ns : List ℕ) → none ns ≡ true → Pairs all k is ns → is ≡ []
 none_closed all k [] [] q closed = refl
+none_closed all k [] (n ∷ ns) q x = elim x [ ]
+none_closed all k (i ∷ is) [] q x = elim x [ ]
 none_closed all k (i ∷ is) (n ∷ ns) q (opened l a b r) = let z : ◌≡◌ {A = ℕ} 0 1 = cc in absurd (omega arith)
 
 -- in the end none is open

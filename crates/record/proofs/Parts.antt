@@ -7,7 +7,6 @@ use native.Mathlib.Nat.{mul-le-mul_left, mul-le-mul_right}
 use native.Mathlib.Omega.{arith}
 use lib.ListN.{length, get_or, drop, length-drop}
 use lib.Seq.{get_or-take, get_or-drop, length-take-le}
-use Rattle.record.specs.Form.{old}
 use Rattle.record.specs.Event.{event_at, events_by, document_in}
 use Rattle.record.specs.Stack.{nth}
 use Rattle.record.specs.declared.form.Form.{Form}

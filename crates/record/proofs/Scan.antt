@@ -15,7 +15,7 @@ use Rattle.record.proofs.Stretch.{passed_none, passed_here, passed_next}
 pub first_passed : {s : List ℕ} {from end r : ℕ} (n : ℕ) → end ≡ from + n → Passed (is_not 13) s from end 1 r → r ≡ first_return n s from
 unfolding first_return choose is_not
 first_passed zero h p = passed_none p (omega arith)
-first_passed {s} {from} {end} {r} (suc n) h p = go (eqb (get_or s from 0) 13) refl (λ q. first_passed n (omega arith) q)
+first_passed {s} {from} {end} {r} (suc n) h p = go (eqb (get_or s from 0) 13) refl (λ q. first_passed {from = from + 1} n (omega arith) q)
   where
     go : (z : Bool) → eqb (get_or s from 0) 13 ≡ z → (Passed (is_not 13) s (from + 1) end 1 r → r ≡ first_return n s (from + 1)) →
         r ≡ choose z from (first_return n s (from + 1))

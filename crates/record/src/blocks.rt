@@ -15,7 +15,7 @@ pub const MIDDLE: usize = 32;
 pub const NARROW: usize = 8;
 
 // A kind of byte: either of two, where `within` is set, else neither of them.
-#[derive(Drop)]
+#[derive(Clone, Copy)]
 pub struct ByteKind {
     pub one: u8,
     pub other: u8,

@@ -15,21 +15,21 @@ use crate::limits::{
 use crate::stack::Open;
 
 // A refusal: document 01's number, and the place that it names.
-#[derive(Drop)]
+#[derive(Clone, Copy)]
 pub struct Refusal {
     pub number: usize,
     pub place: usize,
 }
 
 // What a check finds: the two counts of a good record, or the refusal.
-#[derive(Drop)]
+#[derive(Clone, Copy)]
 pub enum Reading {
     Good { document: usize, events: usize },
     Refused(Refusal),
 }
 
 // A section's count, where it fits.
-#[derive(Drop)]
+#[derive(Clone, Copy)]
 pub enum Count {
     Fits(usize),
     Misfit,

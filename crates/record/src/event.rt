@@ -7,7 +7,7 @@ ghost use Rattle.record.specs.Event.{event_at, event_bytes};
 use crate::bytes::{put_u32, u32_at, wide};
 
 // An event: its kind (0 enter, 1 exit), its name, and its place in the document.
-#[derive(Drop)]
+#[derive(Clone, Copy)]
 pub struct Event {
     pub kind: u8,
     pub name: u8,

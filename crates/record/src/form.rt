@@ -6,7 +6,7 @@ ghost use Rattle.record.specs.Form.{old as oldForm, second as secondForm, place_
 ghost use Rattle.record.specs.Handed.{form_of, options_of};
 
 // The bytes before the document's count, and the bytes of an event.
-#[derive(Drop)]
+#[derive(Clone, Copy)]
 pub struct Form {
     pub front: usize,
     pub width: usize,
@@ -38,7 +38,7 @@ pub fn place_of(form: Form, d: usize, k: usize) -> usize
 }
 
 // How a record is handed over: in the old form, with the option number beside it, or in form 2, which carries its options.
-#[derive(Drop)]
+#[derive(Clone, Copy)]
 pub enum Handed {
     Old(u32),
     Second,

@@ -3,6 +3,8 @@
 // Upper crates go by the promises made here and by the laws in proofs/; they see no body. Good, Soundness, Pairs and Parts say what a good
 // record is, Splice and Sections how writes come together, Exactly and ExactlyWritten which refusal is given when.
 
+#![tactic(auto)]
+
 pub mod limits; // limits, kinds, names, options
 pub mod bytes; // numbers of four bytes, wiping
 pub mod blocks; // bytes of one kind, passed in blocks

@@ -5,7 +5,7 @@
 
 ghost use Rattle.std.specs.Prelude.{◌≡◌, replicate};
 
-#[derive(Drop)]
+#[derive(Clone, Copy)]
 pub struct Open {
     pub names: [u8; 64],
     pub numbers: [usize; 64],
