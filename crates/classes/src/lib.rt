@@ -4,6 +4,8 @@
 // Unicode's ranges. The compiler lays a table out anew wherever it is named, so whoever has look-ups to do makes the two once and lends them; the ranges only
 // where they are needed.
 
+#![tactic(auto)]
+
 ghost use Rattle.std.specs.Prelude.{◌≡◌, false, ◌≤◌, ◌<◌};
 ghost use Rattle.characters.specs.Index.{Indexed};
 ghost use Rattle.classes.specs.Class.{class_of};
@@ -11,7 +13,7 @@ ghost use Rattle.classes.specs.Lent.{AsciiTable, Lent, lacks as lacksRanges};
 
 use characters::ranges::{is_punctuation, is_space};
 
-#[derive(Drop)]
+#[derive(Clone, Copy)]
 pub enum Class {
     Other,
     Whitespace,

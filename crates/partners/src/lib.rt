@@ -6,6 +6,8 @@
 // outermost's in the last event's field, the next one's in the last but one's. Each open enter has its exit still to come, so there are fields enough. So a
 // result may be of any depth, and no memory but its own is needed.
 
+#![tactic(auto)]
+
 ghost use Rattle.std.specs.Prelude.{◌≡◌, [], ◌∷◌, ◌+◌, ◌*◌, ◌≤◌, length};
 ghost use Rattle.record.specs.Bytes.{u32_bytes, Wrote};
 ghost use Rattle.record.specs.Event.{event, events_by};
@@ -17,7 +19,7 @@ use record::form::Form;
 
 // Where the next event goes, and how many bytes events are apart. Where they carry partner numbers: the number of the next event, and the place where the number
 // of the innermost open enter is kept, which is behind the section as long as none is open.
-#[derive(Drop)]
+#[derive(Clone, Copy)]
 pub struct Pen {
     pub at: usize,
     pub width: usize,

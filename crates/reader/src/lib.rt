@@ -5,6 +5,8 @@
 // and leaves the rest to one of those three. The checker covers no function that has to do with a struct that holds a slice, so each of
 // these is proved by a walk of its MIR, by hand. `standing` hides the reader again: its callers are covered.
 
+#![tactic(auto)]
+
 ghost use Rattle.std.specs.Prelude.{◌≡◌};
 ghost use Rattle.reader.specs.Read.{first_event, past_events, found_at, standing_at, count_of, event_number};
 
@@ -12,14 +14,14 @@ use record::bytes::u32_at;
 use record::event::event_at;
 
 // A lent record, and a place in it: the number of bytes before it.
-#[derive(Drop)]
+#[derive(Clone, Copy)]
 pub struct Reader<'a> {
     pub record: &'a [u8],
     pub at: usize,
 }
 
 // What stands at a place: an event, or the end, which is also there where fewer than eight bytes are left.
-#[derive(Drop)]
+#[derive(Clone, Copy)]
 pub enum Found {
     Event { kind: u8, name: u8, place: usize },
     End,

@@ -19,7 +19,7 @@ use record::blocks::{ByteKind, MIDDLE, NARROW, WIDE, pass_blocks};
 const FEW: usize = 16;
 
 // What is taken of the spaces and tabs in front: whole bytes, the columns of these and of a cut tab, and the columns that are left of that tab.
-#[derive(Drop)]
+#[derive(Clone, Copy)]
 pub struct Reach {
     pub bytes: usize,
     pub columns: usize,

@@ -19,7 +19,7 @@ pub const MAX_COLUMN: usize = 16384;
 const SHORT: usize = 10;
 
 // What the check finds: the length of the line proper, or the refusal.
-#[derive(Drop)]
+#[derive(Clone, Copy)]
 pub enum Checked {
     Ends(usize),
     Bad(Refusal),

@@ -19,6 +19,8 @@
 //
 // A word that is none of these spells nothing. Bytes that do not fit the lent buffer are dropped.
 
+#![tactic(auto)]
+
 pub mod second; // the events of form 2, and their true partners
 
 ghost use Rattle.std.specs.Prelude.{◌+◌, ◌≤◌, ◌<◌, length};

@@ -3,5 +3,7 @@
 //
 // The code of crates above goes by the names of `layout`, and writes no offset.
 
+#![tactic(auto)]
+
 pub mod words; // numbers of two bytes
 pub mod layout; // what stands where
