@@ -136,7 +136,7 @@ pub run_passed : {kind : ℕ → Bool} {l : List ℕ} {from end r : ℕ} (n : �
     r ≡ from + leading kind (drop from (take end l))
 run_passed {kind} {l} {from} {end} {r} zero h k p =
     omega (arith, passed_none p (omega arith), run_none kind (take end l) from (omega (arith, length-take end l)))
-run_passed {kind} {l} {from} {end} {r} (suc n) h k p = go (kind (get_or l from 0)) refl (λ q. run_passed n (omega arith) k q)
+run_passed {kind} {l} {from} {end} {r} (suc n) h k p = go (kind (get_or l from 0)) refl (λ q. run_passed {from = from + 1} n (omega arith) k q)
   where
     inside : from < length (take end l)
     inside = omega (arith, length-take end l)

@@ -1,4 +1,3 @@
-use Prim.Native.Nat.{◌-◌}
 use Rattle.record.proofs.Stretch.{all_none}
 use Rattle.scan.proofs.InColumns.{is_same, not_same, all_more, passed_stop, passed_end, passed_before}
 use borrow.Author.Rules.{rules}

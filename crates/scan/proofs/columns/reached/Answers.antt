@@ -1,5 +1,4 @@
 use mathlib.Core.Logic.{⊎_elim}
-use Prim.Native.Nat.{◌-◌}
 use Rattle.scan.proofs.InColumns.{spaces_passed, is_same, all_more, neither_one, stopped, ended, full}
 use Rattle.record.proofs.Stretch.{all_none}
 use borrow.Author.Rules.{rules}

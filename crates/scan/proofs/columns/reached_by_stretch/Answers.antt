@@ -1,5 +1,4 @@
 use mathlib.Core.Path.{sym, ◌∙◌}
-use Prim.Native.Nat.{◌-◌}
 use native.Mathlib.Omega.{arith}
 use Rattle.scan.proofs.InColumns.{spaces_passed, stopped, ended, cuts, turn, width_small, spanned_fits}
 use borrow.Author.Rules.{rules}

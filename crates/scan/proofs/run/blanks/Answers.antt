@@ -1,6 +1,5 @@
 use mathlib.Core.Path.{sym, ◌∙◌}
 use mathlib.Core.Logic.{⊎_elim}
-use Prim.Native.Nat.{◌-◌}
 use Rattle.scan.proofs.Leading.{start, turn, stopped, ended}
 use Rattle.scan.specs.Run.{blanks}
 use borrow.Author.Rules.{rules}

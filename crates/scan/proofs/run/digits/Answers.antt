@@ -1,5 +1,4 @@
 use mathlib.Core.Path.{sym, ◌∙◌}
-use Prim.Native.Nat.{◌-◌}
 use Rattle.scan.proofs.Leading.{start, turn, stopped, ended}
 use borrow.Author.Rules.{rules}
 use Rattle.scan.proofs.run.digits.Goals as goal

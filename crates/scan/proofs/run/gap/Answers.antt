@@ -1,5 +1,4 @@
 use mathlib.Core.Path.{sym, ◌∙◌}
-use Prim.Native.Nat.{◌-◌}
 use Rattle.scan.proofs.Leading.{start, turn, stopped, ended}
 use Rattle.scan.specs.Run.{blanks}
 use borrow.Author.Rules.{rules}

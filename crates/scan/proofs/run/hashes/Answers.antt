@@ -1,4 +1,3 @@
-use Prim.Native.Nat.{◌-◌}
 use Rattle.scan.proofs.Leading.{start, turn, stopped, ended}
 use Rattle.scan.proofs.ByteKinds.{a_hash, no_hash}
 use borrow.Author.Rules.{rules}
