@@ -4,14 +4,14 @@ ghost use Rattle.std.specs.Prelude.{◌≡◌};
 ghost use Rattle.lines.specs.Going.{cleared};
 
 // "Each container's record says whether it is bulleted or ordered, and by which mark."
-#[derive(Drop)]
+#[derive(Clone, Copy)]
 pub enum Kind {
     Bullet(u8),
     Ordered(u8),
 }
 
 // Its kind, the indentation that its further lines need, and whether it began with a blank rest and has had no filled line since.
-#[derive(Drop)]
+#[derive(Clone, Copy)]
 pub struct Container {
     pub kind: Kind,
     pub size: usize,

@@ -10,7 +10,7 @@ use scan::line::{Checked, check_line};
 use scan::run::{byte_at, is_blank, is_blank_line};
 
 // The bytes taken and the columns left of a cut tab, or the finding "not a continuation", each with the container as it then stands; or a refusal.
-#[derive(Drop)]
+#[derive(Clone, Copy)]
 pub enum Going {
     Goes {
         taken: usize,

@@ -10,14 +10,14 @@ use scan::line::{Checked, check_line};
 use scan::run::{byte_at, digits, is_blank, is_blank_line};
 
 // A list marker and its width, if there is one.
-#[derive(Drop)]
+#[derive(Clone, Copy)]
 pub enum Marker {
     Marked { kind: Kind, width: usize },
     Unmarked,
 }
 
 // The bytes taken, the columns left of a cut tab and the container that opens, the finding "not a list item", or a refusal.
-#[derive(Drop)]
+#[derive(Clone, Copy)]
 pub enum Start {
     Item {
         taken: usize,

@@ -2,6 +2,8 @@
 //
 // Each looks at one line as it is lent. All of them begin with the same check of it and read its spaces and tabs by the same scan: the crate `scan`.
 
+#![tactic(auto)]
+
 pub mod container; // what is kept of an open list item
 pub mod spaces; // space-or-tab
 pub mod item; // list item start

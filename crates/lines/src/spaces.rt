@@ -8,7 +8,7 @@ use scan::columns::reached;
 use scan::line::{Checked, check_line};
 
 // The bytes taken and the columns left of a cut tab, the finding "too few", or a refusal.
-#[derive(Drop)]
+#[derive(Clone, Copy)]
 pub enum Spaces {
     Taken { taken: usize, left: usize },
     TooFew,
