@@ -1,5 +1,7 @@
 // The heading reader: whether a line is an ATX heading (CommonMark 0.31 §4.2), and its events, written to an output.
 
+#![tactic(auto)]
+
 ghost use Rattle.std.specs.Prelude.{◌≡◌, ◌+◌, ◌*◌, ◌≤◌, ◌<◌, length};
 ghost use Rattle.record.specs.Bytes.{Wrote};
 ghost use Rattle.record.specs.Event.{flat};
@@ -15,14 +17,14 @@ use scan::line::{Checked, check_line};
 use scan::run::{gap, hashes, is_blank, word};
 
 // A piece of a heading line: its name (0, 12 or 14) and how many bytes it has.
-#[derive(Drop)]
+#[derive(Clone, Copy)]
 pub struct Piece {
     pub name: u8,
     pub size: usize,
 }
 
 // The number of events written, the finding "not a heading", or a refusal.
-#[derive(Drop)]
+#[derive(Clone, Copy)]
 pub enum Headed {
     Heading { events: usize },
     NotHeading,

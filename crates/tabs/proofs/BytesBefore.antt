@@ -9,7 +9,7 @@ use native.Mathlib.Omega.{arith}
 use lib.ListN.{take}
 use lib.Dec.{eqb, leb}
 use borrow.Author.Tests.{le-leb}
-use Rattle.record.specs.Choice.{choose, and}
+use Rattle.record.specs.Choice.{choose}
 use Rattle.record.specs.Options.{option_on}
 use Rattle.record.proofs.Bools.{clash, and_left, and_right}
 use Rattle.scan.specs.Run.{space_or_tab, leading, every, blanks}

@@ -14,7 +14,7 @@ use Rattle.record.specs.Options.{option_on}
 use Rattle.record.specs.declared.check.Refusal.{Refusal}
 use Rattle.record.proofs.Bools.{and_right}
 use Rattle.scan.specs.Run.{every, blank, blanks}
-use Rattle.scan.specs.Columns.{columns, reach}
+use Rattle.scan.specs.Columns.{reach}
 use Rattle.scan.specs.Line.{line_of, reading}
 use Rattle.tabs.specs.BytesBefore.{indentation_before, no_tab, whole}
 use Rattle.scan.specs.declared.columns.Reach.{Reach}
