@@ -274,7 +274,7 @@ def convert(crate, folder, names_key, names, func):
             c = params[0]
             if len(params) > 1 and re.search(rf"(?<![\w.']){re.escape(params[1])}(?![\w'])", term):
                 f.trouble.append(f"{n}: takes {params[1]}")
-            if term.strip() == "search rules":
+            if term.strip() == "search rules" and not unfolding:
                 continue
             term = f.paths(term, k, c)
             # a test `!x` now gives what x is
