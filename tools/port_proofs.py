@@ -278,7 +278,7 @@ def convert(crate, folder, names_key, names, func):
                 continue
             term = f.paths(term, k, c)
             # a test `!x` now gives what x is
-            term = re.sub(r"not-(?:true|false) c\.[\w.'-]+\.result (c\.[\w.'-]+)", r"\1", term)
+            term = re.sub(r"not-(?:true|false) (?:c\.[\w.'-]+|_) (c\.[\w.'-]+)", r"\1", term)
             new = rename[n]
             ans_text.append("\n".join(comments + [f"pub {new} : goal.{new}", unfolding + f"{new} {c} ={term}"]))
             continue

@@ -2,18 +2,18 @@
 -- Assumes nothing.
 use Prim.Native.Nat.{ℕ, suc, ◌≤◌, ◌<◌}
 use mathlib.Core.Path.{◌≡◌, refl, sym, ◌∙◌}
-use mathlib.Core.Bool.{Bool, true, false, not, ◌&&◌}
+use mathlib.Core.Bool.{Bool, false, not}
 use mathlib.Core.List.{List}
 use native.Mathlib.Omega.{arith}
 use native.Mathlib.Decide.{dec_lt}
-use lib.Dec.{eqb, ltb}
+use lib.Dec.{eqb}
 use lib.ListN.{length, get_or}
 use borrow.Author.Tests.{ne_eqb, lt-ltb, le-ltb}
 use Rattle.record.specs.Choice.{choose}
 use Rattle.characters.specs.Beside.{neighbour_before, neighbour_after}
 use Rattle.characters.specs.Laws.{Past, malformed, character}
 use Rattle.characters.specs.Beside.{Neighbour}
-use Rattle.characters.specs.Beside.{Edge, Character, Malformed}
+use Rattle.characters.specs.Beside.{Edge, Character}
 use Rattle.characters.proofs.Neighbours.{edge_after, edge_before, ascii_after, ascii_before, past_after, past_before}
 use Rattle.runs.specs.Flanking.{beside_marker}
 use Rattle.runs.specs.Runs.{byte_at}

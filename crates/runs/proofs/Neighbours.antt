@@ -1,8 +1,6 @@
 -- What stands beside a run and what the run can do by it are what the rules' sentences say: the statements of specs/Neighbours.antt.
 -- Assumes nothing.
-use mathlib.Core.Path.{◌≡◌, ap, ◌∙◌}
-use mathlib.Core.List.{List}
-use Prim.Native.Nat.{ℕ}
+use mathlib.Core.Path.{ap, ◌∙◌}
 use lib.ListN.{get_or}
 use Rattle.record.specs.Options.{option_on}
 use Rattle.characters.specs.Beside.{neighbour_before, neighbour_after}
@@ -12,7 +10,7 @@ use Rattle.classes.proofs.Ascii.{as_asked}
 use Rattle.runs.specs.Runs.{first_place}
 use Rattle.runs.specs.Flanking.{class_beside}
 use Rattle.runs.specs.Pieces.{standing}
-use Rattle.runs.specs.Neighbours.{ClassesBeside, BesideAsAsked, StandsAsWritten}
+use Rattle.runs.specs.Neighbours.{BesideAsAsked, StandsAsWritten}
 use Rattle.runs.proofs.AsWritten.{open_as_written, close_as_written}
 
 pub beside_as_asked : BesideAsAsked

@@ -3,6 +3,8 @@
 // The definitions stand in specs/, from the record's runs to the output; no definition there knows how a resolver stores its runs. The code
 // here is what every resolver needs of them: whether a run can open or close, and whether a closer takes an opener.
 
+#![tactic(auto)]
+
 ghost use Rattle.std.specs.Prelude.{◌≡◌, true, false, not, ◌&&◌};
 ghost use Rattle.characters.specs.Beside.{Character};
 ghost use Rattle.classes.specs.Lent.{Lent, lacks};
@@ -13,7 +15,7 @@ ghost use Rattle.runs.specs.Rule.{threes as threesOf, tildes as tildesOf};
 use classes::{Class, class_of};
 
 // The next match from a run on: its opener, its closer and the candidates tried for it; or that there is none, and those tried.
-#[derive(Drop)]
+#[derive(Clone, Copy)]
 pub enum Next {
     Match {
         opener: usize,
@@ -88,7 +90,7 @@ fn opens_by(strike: bool, marker: u8, before: Class, left: u32, after: Class, ri
 }
 
 // Whether a run can open, and whether it can close.
-#[derive(Drop)]
+#[derive(Clone, Copy)]
 pub struct Flanks {
     pub opens: bool,
     pub closes: bool,
