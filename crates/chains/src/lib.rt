@@ -6,5 +6,7 @@
 //
 // What is promised here is what is read and written. That this is the plain rule is shown one crate higher.
 
+#![tactic(auto)]
+
 pub mod walk; // the next match
 pub mod taking; // what a match does

@@ -8,7 +8,7 @@ ghost use Rattle.chains.specs.Walk.{closing as closingAt, opening as openingAt, 
 use runs::{Next, eligible};
 
 // What a walk finds, and how many runs are open then.
-#[derive(Drop)]
+#[derive(Clone, Copy)]
 pub struct Walked {
     pub next: Next,
     pub height: usize,

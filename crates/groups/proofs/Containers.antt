@@ -1,7 +1,7 @@
 -- A group never crosses a container. Opener and closer have one container, so the same events are open at both; an enter that is open at one
 -- of them is open at the other, and one that is open at neither was left before the opener, stands between them with its exit, or comes later.
 -- Assumes nothing.
-use Prim.Native.Nat.{ℕ, suc, ◌+◌, ◌-◌, ◌≤◌, ◌<◌}
+use Prim.Native.Nat.{ℕ, suc, ◌+◌, ◌≤◌, ◌<◌}
 use mathlib.Core.Path.{◌≡◌, sym, ap, ◌∙◌}
 use mathlib.Core.Bool.{true, false}
 use mathlib.Core.List.{List, []}
@@ -15,7 +15,7 @@ use Rattle.record.specs.declared.event.Event.{Event}
 use Rattle.record.proofs.Bools.{and_left, clash}
 use Rattle.runs.specs.Runs.{Run, enters_run, innermost_of, runs_of}
 use Rattle.runs.specs.Rule.{Profile}
-use Rattle.runs.specs.Plain.{Standing, Group, at, group_at}
+use Rattle.runs.specs.Plain.{Standing, Group, group_at}
 use Rattle.runs.specs.Pieces.{standing, outcome, closed, opened}
 use Rattle.groups.specs.Places.{run_at, Stands}
 use Rattle.groups.specs.Spans.{opener_of, closer_of, span_from, text_from, text_to, span_to}

@@ -2,6 +2,8 @@
 //
 // It is the one pass of a resolver that looks at the document's bytes. What it leaves in the memory is all that a matcher may read.
 
+#![tactic(auto)]
+
 pub mod shape; // number 6: the shape of a run
 pub mod slot; // what one slot holds, written
 pub mod pass; // the pass over the events

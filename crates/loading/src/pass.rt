@@ -11,27 +11,27 @@ ghost use Rattle.loading.specs.Promise.{Loads, Passes};
 
 use super::shape::shaped_at;
 use super::slot::settle;
+use characters::ranges::punctuation;
 use classes::ascii_classes;
 use record::form::{Form, place_of};
 use record::limits::{ATTENTION_SEQUENCE, ENTER};
-use characters::ranges::punctuation;
 
 // How many runs the slots hold, or the number of the enter event of the first run whose shape is broken.
-#[derive(Drop)]
+#[derive(Clone, Copy)]
 pub enum Loaded {
     Runs(usize),
     Offends(usize),
 }
 
 // The same of a pass that may have no ranges: it is wide where it has none and one of the neighbours is past ASCII.
-#[derive(Drop)]
+#[derive(Clone, Copy)]
 pub enum Pass {
     Done(Loaded),
     Wide,
 }
 
 // The enter events that are open, by number, beside a depth.
-#[derive(Drop)]
+#[derive(Clone, Copy)]
 pub struct Inside {
     pub numbers: [usize; 64],
     pub depth: usize,

@@ -11,6 +11,7 @@ ghost use Rattle.slots.specs.Layout.{Room, with_opens, with_closes, with_chain, 
 ghost use Rattle.loading.specs.Filling.{bit, Filled, Settling, Settled, SettledOr};
 
 use super::shape::option_on;
+use characters::beside::{neighbour_after, neighbour_before};
 use classes::lacks;
 use record::bytes::u32_at;
 use record::form::Form;
@@ -20,7 +21,6 @@ use slots::layout::{
     put_chain, put_closes, put_first_group, put_latest_group, put_left, put_link, put_marker,
     put_opens, put_whole,
 };
-use characters::beside::{neighbour_after, neighbour_before};
 
 // A flag as a byte.
 fn flag(on: bool) -> u8

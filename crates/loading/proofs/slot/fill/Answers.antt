@@ -1,0 +1,7 @@
+-- `loading::slot::fill` meets its contract: the writes, one after the other, are those of `filled`.
+use Rattle.loading.proofs.Slotting.{written}
+use borrow.Author.Rules.{rules}
+use Rattle.loading.proofs.slot.fill.Goals as goal
+
+pub returns : goal.returns
+returns c = written (search rules) (search rules) (search rules) c.put_whole.ensures c.put_left.ensures c.put_marker.ensures c.put_flags.ensures c.put_fresh.ensures
