@@ -14,7 +14,7 @@ import sys
 
 
 def norm(s):
-    return s.replace("_", "").replace("-", "")
+    return s.replace("_", "").replace("-", "").lower()
 
 
 def blocks(text):
@@ -74,11 +74,16 @@ class Function:
         """The new path of `c` + fields at the place number k; fields is a list of old field names."""
         i = 0
         while i < len(fields) and fields[i] == "before":
-            k = self.parent(k)
-            if k is None:
-                return None
+            if k is not None:
+                k = self.parent(k)
             i += 1
         rest = fields[i:]
+        if k is None:
+            # today's code has fewer steps: go by the name alone, where one step bears it
+            if rest and rest[0] in ("args", "requires", "ranges", "pre"):
+                return ".".join(["c", "requires" if rest[0] == "pre" else rest[0]] + rest[1:])
+            found = [q for q in self.by_number if rest and q[2][0] and norm(q[2][0]) == norm(rest[0])]
+            return self.tested(found[0][2][1], rest[1:]) if len({q[2][1] for q in found}) == 1 else None
         if not rest:
             return "c" if i == 0 else None
         p = self.by_number[k]

@@ -36,7 +36,7 @@ last_within start = omega arith
 last_within (then o c m f) = let a = matches_account m in omega (arith, f.within, a.as_many)
 
 -- past the last run nothing is closed
-pub none_closed : {gs : List Group} (q marker at : ℕ) → Proper q gs → closings gs q marker at ≡ []
+pub none_closed : (q : ℕ) {gs : List Group} (marker at : ℕ) → Proper q gs → closings gs q marker at ≡ []
 unfolding closings choose
 none_closed q marker at none = refl
 none_closed q marker at (more {g} a b c p) = rw (ne_eqb g.closer q (λ z. omega arith)) (none_closed q marker at p)

@@ -1,10 +1,9 @@
-use Prim.Native.Nat.{◌-◌}
 use mathlib.Core.Path.{sym, ◌∙◌}
-use mathlib.Core.Logic.{⊎_elim}
 use native.Mathlib.Omega.{arith}
 use Rattle.loading.proofs.Walk.{start, container_none, container_top, inner, left_one, shallow, entered, whole_here, document_whole, whole_next, next_place, broken, settling, run_passed, answers_broken, answers_runs, pass_done, pass_wide}
 use borrow.Author.Rules.{rules}
 use Rattle.loading.proofs.pass.load_by.Goals as goal
+use Rattle.loading.proofs.pass.load_by.Goals.{then-depth-gt0, else-depth-gt0}
 
 pub loop-i-init : goal.loop-i-init
 loop-i-init c = start _ _ _ _ _ _ _ _ _ (search rules) c.outside-inside.ensures.0 c.outside-inside.ensures.1
@@ -70,10 +69,10 @@ settle-requires c = (
   search rules,
   settling c.loop-i.invariant c.loop-i-test.true _ c.place_of-at.ensures c.if-s-at-ne-ENTER.false c.if-s-at-ne-ATTENTION_SEQUENCE.false
       (sym c.shaped_at.ensures ∙ c.if-not-shaped_at.false)
-      (⊎_elim
-      (λ a. rw a.2 (container_top c.loop-i.invariant a.0.taken))
-      (λ a. rw a.1 (container_none c.loop-i.invariant a.0.left))
-      c.if-depth-gt0.branch)
+      (elim c.if-depth-gt0.branch [
+        | then-depth-gt0 a ↦ rw a.container-is (container_top c.loop-i.invariant a.if-depth-gt0.true)
+        | else-depth-gt0 a ↦ rw a.container-is (container_none c.loop-i.invariant a.if-depth-gt0.false)
+      ])
       (search rules),
 )
 
@@ -84,10 +83,10 @@ pub loop-i-preserved : goal.loop-i-preserved
 loop-i-preserved c =
     run_passed c.loop-i.invariant c.loop-i-test.true _ c.place_of-at.ensures c.if-s-at-ne-ENTER.false c.if-s-at-ne-ATTENTION_SEQUENCE.false
     (sym c.shaped_at.ensures ∙ c.if-not-shaped_at.false)
-    (⊎_elim
-    (λ a. rw a.2 (container_top c.loop-i.invariant a.0.taken))
-    (λ a. rw a.1 (container_none c.loop-i.invariant a.0.left))
-    c.if-depth-gt0.branch)
+    (elim c.if-depth-gt0.branch [
+      | then-depth-gt0 a ↦ rw a.container-is (container_top c.loop-i.invariant a.if-depth-gt0.true)
+      | else-depth-gt0 a ↦ rw a.container-is (container_none c.loop-i.invariant a.if-depth-gt0.false)
+    ])
     (c.settle.ensures.done (c.if-not-settle.false))
     (search rules)
 

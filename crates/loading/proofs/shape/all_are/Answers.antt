@@ -1,4 +1,3 @@
-use Prim.Native.Nat.{◌-◌}
 use Rattle.loading.proofs.Markers.{start, differs, passes, alike}
 use borrow.Author.Rules.{rules}
 use Rattle.loading.proofs.shape.all_are.Goals as goal
