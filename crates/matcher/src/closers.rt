@@ -9,7 +9,7 @@ use runs::Next;
 
 // Where one closer leaves things: the run to go on from, how many runs are open, how many groups there are and how many candidates were tried;
 // or that a match came for which there is no room.
-#[derive(Drop)]
+#[derive(Clone, Copy)]
 pub enum Step {
     Closed {
         next: usize,
@@ -70,7 +70,7 @@ pub fn handle_closer(
 }
 
 // What all matches come to: how many groups, and how many candidates were tried; or that there are more groups than a result can hold.
-#[derive(Drop)]
+#[derive(Clone, Copy)]
 pub enum Found {
     Groups { groups: usize, tried: usize },
     TooMany,
