@@ -50,7 +50,7 @@ owed_enter {mates} {e} {es} {i} {m} z (opened q r) = opened (q ∙ closing_enter
 owed_exit : {mates : ℕ → ℕ} {e : Event} {es : List Event} {i m n : ℕ} {hs : List ℕ} → (e.kind ≡ 0 → ⊥) → n ≡ m + 1 →
     Owed mates (e ∷ es) i n hs → Owed mates es (i + 1) m hs
 owed_exit z q closed = closed
-owed_exit {mates} {e} {es} {i} {m} {n} z q (opened p r) = opened (p ∙ closing_inner e es n m i z q) (owed_exit z (ap (λ (x : ℕ). x + 1) q) r)
+owed_exit {mates} {e} {es} {i} {m} {n} z q (opened p r) = opened (p ∙ closing_inner e es n m i z q) (owed_exit {m = m + 1} z (ap (λ (x : ℕ). x + 1) q) r)
 
 owed_outer : {mates : ℕ → ℕ} {e : Event} {es : List Event} {i : ℕ} {opens : List ℕ} → (e.kind ≡ 0 → ⊥) → Owed mates (e ∷ es) i 0 opens →
     Owed mates es (i + 1) 0 (outer opens)

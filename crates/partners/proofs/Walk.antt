@@ -302,6 +302,7 @@ length_partners es = length_from es 0 []
 
 not_held : {A : Type 0} (k : ℕ) (held : List ℕ) → held ≡ [] → Held k held ⊎ A → A
 not_held k [] e (inr a) = a
+not_held {A = A} k [] e (inl x3) = elim x3 [ ]
 not_held k (h ∷ hs) e s = let z : ◌≡◌ {A = ℕ} 0 1 = cc in absurd (omega arith)
 
 -- the walk can be gone

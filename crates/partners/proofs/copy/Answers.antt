@@ -1,4 +1,3 @@
-use Prim.Native.Nat.{◌-◌}
 use borrow.Author.Rules.{rules}
 use Rattle.partners.proofs.Copying.{begun, read_room, one_fits, one_more, copied}
 use Rattle.partners.proofs.copy.Goals as goal

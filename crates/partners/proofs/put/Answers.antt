@@ -28,25 +28,25 @@ pub returns-then-kind-eq0 : goal.returns-then-kind-eq0
 returns-then-kind-eq0 c = put_enter _ c.if-pen-lt12.false c.if-kind-eq0.true c.put_event.ensures c.keep.ensures
 
 pub u32_at-enter-requires : goal.u32_at-enter-requires
-u32_at-enter-requires c = let h = held_room c.before.before.before.before.before.before.before.before.before.requires c.if-pen-lt12.false c.if-kind-eq0.false c.put_event.ensures in search rules
+u32_at-enter-requires c = let h = held_room c.requires c.if-pen-lt12.false c.if-kind-eq0.false c.put_event.ensures in search rules
 
 pub put_u32-requires : goal.put_u32-requires
-put_u32-requires c = let h = enter_low c.before.before.before.before.before.before.before.before.before.before.before.requires c.if-pen-lt12.false c.if-kind-eq0.false c.put_event.ensures c.u32_at-enter.ensures.0 in search rules
+put_u32-requires c = let h = enter_low c.requires c.if-pen-lt12.false c.if-kind-eq0.false c.put_event.ensures c.u32_at-enter.ensures.0 in search rules
 
 pub overflow_add-pen : goal.overflow_add-pen
-overflow_add-pen c = let h = link_room c.before.before.before.before.before.before.before.before.before.before.before.before.before.before.before.before.requires c.if-pen-lt12.false in search rules
+overflow_add-pen c = let h = link_room c.requires c.if-pen-lt12.false in search rules
 
 pub put_u32-requires-2 : goal.put_u32-requires-2
-put_u32-requires-2 c = let h = link_room c.before.before.before.before.before.before.before.before.before.before.before.before.before.before.before.before.requires c.if-pen-lt12.false in search rules
+put_u32-requires-2 c = let h = link_room c.requires c.if-pen-lt12.false in search rules
 
 pub overflow_add-result-2 : goal.overflow_add-result-2
-overflow_add-result-2 c = let h = link_room c.before.before.before.before.before.before.before.before.before.before.before.before.before.before.before.before.before.before.before.before.requires c.if-pen-lt12.false in search rules
+overflow_add-result-2 c = let h = link_room c.requires c.if-pen-lt12.false in search rules
 
 pub overflow_add-result-3 : goal.overflow_add-result-3
-overflow_add-result-3 c = let h = link_room c.before.before.before.before.before.before.before.before.before.before.before.before.before.before.before.before.before.before.before.before.before.requires c.if-pen-lt12.false in search rules
+overflow_add-result-3 c = let h = link_room c.requires c.if-pen-lt12.false in search rules
 
 pub overflow_add-result-4 : goal.overflow_add-result-4
-overflow_add-result-4 c = let h = held_room c.before.before.before.before.before.before.before.before.before.before.before.before.before.before.before.before.before.before.before.before.before.before.requires c.if-pen-lt12.false c.if-kind-eq0.false c.put_event.ensures in search rules
+overflow_add-result-4 c = let h = held_room c.requires c.if-pen-lt12.false c.if-kind-eq0.false c.put_event.ensures in search rules
 
 pub returns : goal.returns
 returns c = put_exit _ c.if-pen-lt12.false c.if-kind-eq0.false c.put_event.ensures c.u32_at-enter.ensures.0 c.put_u32.ensures c.put_u32-2.ensures
