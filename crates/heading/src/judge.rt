@@ -11,7 +11,7 @@ use crate::text::inner_size;
 use record::limits::{ENTER, HEADING};
 
 // The number of the enter event of the earliest heading that offends, or the number of events of the result.
-#[derive(Drop)]
+#[derive(Clone, Copy)]
 pub enum Judged {
     Offends(usize),
     Sized(usize),

@@ -6,6 +6,8 @@
 //
 // A first pass judges the shape of each heading and counts the events of the result, a second writes them.
 
+#![tactic(auto)]
+
 pub mod seek; // the first and the last event of some sort
 pub mod shape; // the shape rule
 pub mod text; // the text rule

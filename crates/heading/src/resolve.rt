@@ -17,7 +17,7 @@ use record::form::{Form, Handed, form_of, place_of};
 use record::limits::MAX_RESULT;
 
 // How many events the section that is written has, or the refusal.
-#[derive(Drop)]
+#[derive(Clone, Copy)]
 pub enum Answer {
     Resolved { events: usize },
     Refused(Refusal),

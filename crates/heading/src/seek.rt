@@ -9,7 +9,7 @@ ghost use Rattle.heading.specs.Steps.{sought_by};
 use record::limits::{DATA, EXIT, HEADING, HEADING_SEQUENCE};
 
 // What is looked for: the exit of a heading, or an event of Data or of a `#` run.
-#[derive(Drop)]
+#[derive(Clone, Copy)]
 pub enum Sought {
     HeadingExit,
     DataOrRun,

@@ -13,7 +13,7 @@ use record::bytes::u32_at;
 use record::limits::{DATA, ENTER, EXIT, HEADING_SEQUENCE, HEADING_TEXT, SPACE_OR_TAB};
 
 // Where a text lies among a heading's inner events: how many stand before it, and how many up to its end. Where there is none, these are the same.
-#[derive(Drop)]
+#[derive(Clone, Copy)]
 pub struct Text {
     pub before: usize,
     pub through: usize,
