@@ -16,12 +16,13 @@ use Rattle.record.proofs.ExactlyWritten.{exactly_written}
 use Rattle.list.specs.Tree.{tree_of}
 use Rattle.list.specs.Lists.{offenders, lists}
 use Rattle.list.proofs.Added.{result_of}
-use Rattle.list.proofs.Earliest.{Rising, then, Among, front, behind, earliest}
+use Rattle.list.proofs.Earliest.{Rising, no_more, then, Among, front, behind, earliest}
 use Rattle.list.specs.Offence.{Offends}
 use Rattle.list.proofs.Offending.{named_offends, offends_named}
 
 -- all of rising numbers are at or above the first bound
 at_least : {k j : ℕ} {js : List ℕ} → Rising k js → Among j js → k ≤ j
+at_least no_more a = elim a [ ]
 at_least (then {j = i} l r) (front e) = omega arith
 at_least (then {j = i} l r) (behind a) =
     let h = at_least r a in

@@ -252,8 +252,8 @@ module _ {document : List ℕ} {es : List Event} where
   unfolding listed joins choose
   row_gathered flag none lies_none stop f g = g
   row_gathered {a} {c} flag (pair n from to inside next) {out} (lies_pair {b = b} x i y r m s) stop f g = go (eqb n 15) refl
-      (λ on h. row_gathered on next r stop h g)
-      (λ o h. row_gathered false inside i (λ l e. not_both e (exits_is y)) (flag_fresh (inside_fresh x)) h)
+      (λ on h. row_gathered {a = b + 1} on next r stop h g)
+      (λ o h. row_gathered {a = a + 1} false inside i (λ l e. not_both e (exits_is y)) (flag_fresh (inside_fresh x)) h)
     where
       go : (z : Bool) → eqb n 15 ≡ z → ((on : Bool) → Flag document es on (b + 1) next → Gathered document es (b + 1) (listed document on next out)) →
           ((o : List Event) → Gathered document es b o → Gathered document es (a + 1) (listed document false inside o)) →

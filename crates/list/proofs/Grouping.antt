@@ -320,8 +320,8 @@ module _ {document : List ℕ} {es : List Event} (out : List Event) where
   unfolding listed neighbour
   row_grouped true none m rest lies_none stop f g q = absurd ((f.waits refl).marked refl)
   row_grouped false none m rest lies_none stop f g q = record { next_at = m; left = q; whole = no_more; homes = λ k h l e. absurd (omega arith) }
-  row_grouped flag (pair n from to inside next) m rest (lies_pair x i y r mk s) stop f g q =
+  row_grouped {a} flag (pair n from to inside next) m rest (lies_pair {b = b} x i y r mk s) stop f g q =
       pair_grouped m inside next rest x i y r mk s stop g
-      (λ m₁ o h d. row_grouped false inside m₁ o i (λ l e. not_both e (exits_is y)) (flag_fresh (inside_fresh x)) h d)
-      (λ on m₂ h d. row_grouped on next m₂ rest r stop h g d)
+      (λ m₁ o h d. row_grouped {a = a + 1} false inside m₁ o i (λ l e. not_both e (exits_is y)) (flag_fresh (inside_fresh x)) h d)
+      (λ on m₂ h d. row_grouped {a = b + 1} on next m₂ rest r stop h g d)
       flag f q (is_item_lem n)

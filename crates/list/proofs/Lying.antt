@@ -121,7 +121,7 @@ module _ {document : List ℕ} {es : List Event} where
   no_item_lies none lies_none q k h l e = omega arith
   no_item_lies {a} {c} (pair n from to inside next) (lies_pair {b = b} x i y r m s) q k h l e =
       go (none_by (is_item n) (no_item inside) (no_item next) q) (order a k) (order b k)
-      (λ t u w. no_item_lies inside i t k u w e) (λ t u. no_item_lies next r t k u l e)
+      (λ t u w. no_item_lies {a = a + 1} inside i t k u w e) (λ t u. no_item_lies {a = b + 1} next r t k u l e)
     where
       go : (is_item n ≡ false) × (no_item inside ≡ true) × (no_item next ≡ true) → (a < k) ⊎ ((a ≡ k) ⊎ (k < a)) → (b < k) ⊎ ((b ≡ k) ⊎ (k < b)) →
           (no_item inside ≡ true → a + 1 ≤ k → k < b → ⊥) → (no_item next ≡ true → b + 1 ≤ k → ⊥) → ⊥
@@ -138,8 +138,8 @@ module _ {document : List ℕ} {es : List Event} where
       let up : a + 1 ≤ b = rises (lies_whole i) in
       let on : b + 1 ≤ c = rises (lies_whole r) in
       by_none (is_item n) (no_item inside) (no_item next) (ne_eqb n 15 (λ z. f a (omega arith) (omega arith) ((enters_is x).its_name ∙ z)))
-      (lies_no_item inside i (λ k h l e. f k (omega arith) (omega arith) e))
-      (lies_no_item next r (λ k h l e. f k (omega arith) l e))
+      (lies_no_item {a = a + 1} inside i (λ k h l e. f k (omega arith) (omega arith) e))
+      (lies_no_item {a = b + 1} next r (λ k h l e. f k (omega arith) l e))
 
 -- "14, 21, 22 and 23": what may stand between is what the tree passes
 pub stands_between : {n : ℕ} → MayStand n → (between n ≡ true) × (n ≡ 15 → ⊥)
@@ -176,7 +176,7 @@ module _ {document : List ℕ} {es : List Event} {a b n from to : ℕ} {inside :
   lies_passed p =
       let same : p.name ≡ n = sym p.pair.enters.its_name ∙ (enters_is x).its_name in
       let s = stands_between (rw same at p.may) in
-      (s.1, and_both _ _ s.0 (lies_no_item inside i (λ k h l e. p.no_item_lem k (omega arith) l e)))
+      (s.1, and_both _ _ s.0 (lies_no_item {a = a + 1} inside i (λ k h l e. p.no_item_lem k (omega arith) l e)))
 
 -- the neighbour of the tree
 passed_by : (z b : Bool) (m k : ℕ) → z ≡ false → b ≡ true → choose z m (choose b k 0) ≡ k
@@ -195,7 +195,7 @@ module _ {document : List ℕ} {es : List Event} where
   pub neighbour_met : {a c : ℕ} (row : Row) → Lies document es a row c → (neighbour document row ≡ 0 → ⊥) → Meets document es a (neighbour document row)
   unfolding neighbour choose
   neighbour_met none lies_none w = absurd (w refl)
-  neighbour_met {a} {c} (pair n from to inside next) (lies_pair {b = b} x i y r m s) w = go (eqb n 15) refl (neighbour_met next r) w
+  neighbour_met {a} {c} (pair n from to inside next) (lies_pair {b = b} x i y r m s) w = go (eqb n 15) refl (neighbour_met {a = b + 1} next r) w
     where
       go : (z : Bool) → eqb n 15 ≡ z → ((neighbour document next ≡ 0 → ⊥) → Meets document es (b + 1) (neighbour document next)) →
           (choose z (mark_of document inside) (choose (and (between n) (no_item inside)) (neighbour document next) 0) ≡ 0 → ⊥) →
@@ -222,4 +222,4 @@ module _ {document : List ℕ} {es : List Event} where
       let same : d ≡ b = one_exit q.pair (pair_lies x i y) in
       let t = lies_passed x i y (rw same at q) in
       passed_by (eqb n 15) (and (between n) (no_item inside)) (mark_of document inside) (neighbour document next) (ne_eqb n 15 t.0) t.1
-      ∙ met_neighbour next r stop (rw same at w) p
+      ∙ met_neighbour {a = b + 1} next r stop (rw same at w) p

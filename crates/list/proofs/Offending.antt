@@ -87,6 +87,7 @@ module _ (document : List ℕ) where
   pub offends_named : (i : ℕ) (close : Bool) (row : Row) (k : ℕ) (others : List ℕ) {item : Row} {c : Bool} → ItemAt i close row k item c →
       (c ≡ true) ⊎ (Begins document item → ⊥) → Among k (offenders document i close row others)
   unfolding offenders offending
+  offends_named i close none k others {item = item} {c = c} a b = elim a [ ]
   offends_named i close (pair n from to held next) k others here b =
       front_put (and (is_item 15) (choose close true (eqb (mark_of document held) 0))) i _ (and_both _ _ (eq-eqb 15 15 refl) (testing document close held b))
   offends_named i close (pair n from to held next) k others (inside a) b =

@@ -15,6 +15,7 @@ use Rattle.record.specs.Good.{GoodIn}
 use Rattle.record.specs.Check.{admitted}
 use Rattle.record.specs.Outcome.{offends, gives, settled, onto}
 use Rattle.record.specs.Partners.{balanced, section_in}
+use Rattle.record.specs.Stack.{outer}
 use Rattle.record.specs.Promise.{Answered}
 use Rattle.record.specs.declared.event.Event.{Event}
 use Rattle.record.specs.declared.form.Form.{Form}
@@ -28,7 +29,7 @@ use Rattle.list.proofs.Nesting.{nested}
 use Rattle.list.specs.Tree.{Row, written, tree_of}
 use Rattle.list.proofs.Reading.{tree_written}
 use Rattle.list.specs.Lists.{offenders, listed, settling, lists}
-use Rattle.list.specs.Walk.{onward, offenders_in, notes, noted, spliced, added}
+use Rattle.list.specs.Walk.{onward, offenders_in, mark_in, nearest, top, notes, noted, spliced, added}
 use Rattle.list.specs.Noting.{finding, Noted}
 use Rattle.list.specs.Promise.{outcome_of, answer_of}
 use Rattle.list.specs.declared.chain.Findings.{Findings}
@@ -83,7 +84,10 @@ notes_long : (document : List ℕ) (joined : Bool) (marks : List ℕ) (es : List
 unfolding notes
 notes_long document joined marks [] = refl
 notes_long document joined marks (x ∷ es) =
-    notes_by _ _ _ _ _ (suc (length es)) (ap suc (notes_long document _ _ es)) (ap suc (notes_long document _ _ es)) (ap suc (notes_long document _ _ es))
+    notes_by _ _ _ _ _ (suc (length es))
+    (ap suc (notes_long document false (mark_in document es ∷ marks) es))
+    (ap suc (notes_long document (eqb (nearest document 0 es) (top marks)) (outer marks) es))
+    (ap suc (notes_long document joined marks es))
 
 false_not : false ≡ true → ⊥
 false_not q = let z : ◌≡◌ {A = ℕ} 0 1 = cc in omega arith

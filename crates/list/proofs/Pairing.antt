@@ -46,8 +46,8 @@ one_end : {es : List Event} {n m a b c : ℕ} → Whole es a b → Exits es n b 
 one_end no_more x no_more y = refl
 one_end no_more x (one_more f j w s) y = absurd (not_both f x)
 one_end (one_more e i v r) x no_more y = absurd (not_both e y)
-one_end (one_more {b = b} e i v r) x (one_more {b = c} f j w s) y =
-    let q : b ≡ c = one_end i v j w in
+one_end (one_more {name = name} {b = b} e i v r) x (one_more {name = name'} {b = c} f j w s) y =
+    let q : b ≡ c = one_end {n = name} {m = name'} i v j w in
     one_end r x (rw q s) y
 
 -- an enter has one exit

@@ -16,7 +16,7 @@ use record::check::{Reading, Refusal, admit};
 use record::form::{Form, Handed, form_of, place_of};
 
 // What a call answers: how many events the section that it wrote has, or a refusal.
-#[derive(Drop)]
+#[derive(Clone, Copy)]
 pub enum Answer {
     Resolved { events: usize },
     Refused(Refusal),

@@ -19,14 +19,14 @@ use record::limits::{
 };
 
 // The marks of the items that are open.
-#[derive(Drop)]
+#[derive(Clone, Copy)]
 pub struct Items {
     pub marks: [u8; 64],
     pub open: usize,
 }
 
 // What the first pass finds: how many events are added, or the number of the enter event that offends.
-#[derive(Drop)]
+#[derive(Clone, Copy)]
 pub enum Findings {
     Added(usize),
     Offends(usize),

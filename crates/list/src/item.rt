@@ -17,7 +17,7 @@ use record::limits::{
 };
 
 // The events ahead: the place of the next, and how many are left. So a step is an addition, whatever the form.
-#[derive(Drop)]
+#[derive(Clone, Copy)]
 pub struct Ahead {
     pub at: usize,
     pub left: usize,

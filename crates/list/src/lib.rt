@@ -7,6 +7,8 @@
 // second writes, by a pen of `partners`. So no byte of the output is touched before the answer is known. Both passes go over a record of any form; the
 // public call takes either of the two.
 
+#![tactic(auto)]
+
 pub mod item; // the shape of an item, and its mark
 pub mod chain; // the neighbouring item, and the first pass
 pub mod write; // the second pass
