@@ -18,7 +18,7 @@ use Rattle.record.proofs.Bools.{and_left}
 use Rattle.runs.specs.declared.Next.{Next}
 use Rattle.runs.specs.declared.Next.TheVariants.{Match, Done}
 use Rattle.runs.specs.Rule.{Rule}
-use Rattle.runs.specs.Plain.{Standing, Group, group, at, opener, closer, candidate, takes, Look, hit, miss, settle, back, look, forth, next, taken_by, matched, Outcome, ends, rounds, total}
+use Rattle.runs.specs.Plain.{Standing, Group, group, at, opener, closer, candidate, takes, Look, hit, miss, settle, back, look, forth, taken_by, matched, Outcome, ends, rounds, total}
 use Rattle.matcher.specs.Closer.{Finish, finish}
 use Rattle.matcher.proofs.Chained.{opener_left, closer_left, forth_suc, back_suc, back_zero}
 use Rattle.matcher.proofs.Matched.{matched_length, left_le, left_closer}

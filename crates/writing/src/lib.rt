@@ -4,6 +4,8 @@
 // It needs no search: a run's slot names its first group as a closer, after which its others stand side by side, and its latest group as an
 // opener, from which each group names the one before. It writes by a pen, which knows the form and links the events.
 
+#![tactic(auto)]
+
 ghost use Rattle.std.specs.Prelude.{◌≡◌, true, [], ◌∷◌, ◌+◌, ◌*◌, ◌≤◌, ◌<◌, length};
 ghost use Rattle.record.specs.Bytes.{u32_at};
 ghost use Rattle.record.specs.Form.{place_in};
@@ -60,7 +62,7 @@ fn put_opening(out: &mut [u8], pen: Pen, marker: u8, taken: usize, from: usize, 
 }
 
 // Where a pen and a run stand after some of the run's pieces: the pen, and the next byte of the run.
-#[derive(Drop)]
+#[derive(Clone, Copy)]
 struct Places {
     pen: Pen,
     place: usize,
@@ -162,7 +164,7 @@ fn put_run(
 }
 
 // Where a pen and the runs stand after an event: the pen, and the number of the next run.
-#[derive(Drop)]
+#[derive(Clone, Copy)]
 struct Step {
     pen: Pen,
     run: usize,

@@ -1,4 +1,3 @@
-use Prim.Native.Nat.{◌-◌}
 use mathlib.Core.Path.{◌∙◌}
 use native.Mathlib.Omega.{arith}
 use Rattle.matcher.proofs.Handling.{keeps_start, keeps_sound, keeps_small, keeps_done_few, keeps_done, keeps_few, keeps_below, keeps_full, keeps_takable, keeps_again, handled_by_closer_by}

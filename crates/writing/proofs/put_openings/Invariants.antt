@@ -1,0 +1,10 @@
+-- `writing::put_openings` meets its contract. The invariant: what is written is the run's opening pieces among the groups that are behind, and
+-- its next byte with what it gave to the others is its end; the measure is the group's number, since a link names an earlier one.
+use Rattle.writing.proofs.OpeningTurn.{Opening}
+use Rattle.writing.proofs.put_openings.Given as goal
+
+abbrev pub invariant-loop-g : goal.invariant-loop-g
+invariant-loop-g l = Opening l.initial.out l.initial.next l.w l.groups l.q l.marker l.from l.g l.out l.next l.place
+
+abbrev pub decreases-loop-g : goal.decreases-loop-g
+decreases-loop-g l = l.g
