@@ -22,7 +22,7 @@ use record::form::{Form, Handed, form_of, options_of, place_of};
 use record::limits::OPTION_SINGLE_TILDE;
 
 // What a call answers: how many events the section that it wrote has, how many groups it made and how many candidates it tried; or a refusal.
-#[derive(Drop)]
+#[derive(Clone, Copy)]
 pub enum Answer {
     Resolved {
         events: usize,

@@ -12,7 +12,7 @@ use slots::layout::left;
 use writing::write_events;
 
 // What comes of the groups: the section written with so many events, or number 7 or 8.
-#[derive(Drop)]
+#[derive(Clone, Copy)]
 pub enum Written {
     Events(usize),
     Long,
