@@ -4,7 +4,7 @@ use mathlib.Core.Path.{◌≡◌, refl, sym, ap, ◌∙◌}
 use mathlib.Core.Bool.{Bool}
 use mathlib.Core.List.{List}
 use mathlib.Core.Option.{none, some}
-use Prim.Native.Nat.{ℕ, ◌+◌, ◌*◌, ◌<◌}
+use Prim.Native.Nat.{ℕ, ◌+◌, ◌<◌}
 use native.Mathlib.Omega.{arith}
 use lib.ListN.{length}
 use Rattle.record.specs.Options.{option_on}
@@ -15,7 +15,7 @@ use Rattle.record.specs.Rows.{document_count_in}
 use Rattle.record.specs.Event.{document_in, events_in}
 use Rattle.record.specs.Good.{GoodIn}
 use Rattle.record.specs.Check.{admitted}
-use Rattle.record.specs.Outcome.{offends, Outcome, refusing, settled, onto, bytes_written}
+use Rattle.record.specs.Outcome.{Outcome, refusing, settled, onto, bytes_written}
 use Rattle.record.specs.Promise.{Answered}
 use Rattle.record.specs.declared.form.Form.{Form}
 use Rattle.record.specs.declared.form.Handed.{Handed}

@@ -1,5 +1,4 @@
 use mathlib.Core.Path.{sym, ◌∙◌}
-use Prim.Native.Nat.{◌-◌}
 use Rattle.attention.proofs.Counting.{start, counted, passed, counted_all}
 use borrow.Author.Rules.{rules}
 use Rattle.attention.proofs.result.count_emptied.Goals as goal
@@ -14,7 +13,7 @@ loop-q-preserved c =
     let more = c.loop-q-test.true in
     let e = c.left.ensures.0 in
     elim c.if-left-eq0.branch [
-      then-left-eq0 u ↦ rw u.count-is (counted i more (sym e ∙ u.if-left-eq0.true))
+      | then-left-eq0 u ↦ rw u.count-is (counted i more (sym e ∙ u.if-left-eq0.true))
       | else-left-eq0 u ↦ rw u.count-is (passed i more (λ z. u.if-left-eq0.false (e ∙ z)))
     ]
 

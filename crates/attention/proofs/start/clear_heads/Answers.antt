@@ -1,5 +1,4 @@
 use mathlib.Core.Path.{refl}
-use Prim.Native.Nat.{◌-◌}
 use native.Mathlib.Omega.{arith}
 use Rattle.attention.proofs.Heads.{cleared_none, cleared_more, cleared_all}
 use borrow.Author.Rules.{rules}
