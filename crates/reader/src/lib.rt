@@ -1,9 +1,8 @@
 // A record reader holds the lent record and its own place in it.
 //
 // It reads any bytes, good record or not, and never past their end. The work is done over a slice and a number, in `first_event`,
-// `past_events` and `event_or_end`, which the borrow checker covers. The functions over the reader are thin: each takes it apart or makes one,
-// and leaves the rest to one of those three. The checker covers no function that has to do with a struct that holds a slice, so each of
-// these is proved by a walk of its MIR, by hand. `standing` hides the reader again: its callers are covered.
+// `past_events` and `event_or_end`. The functions over the reader are thin: each takes it apart or makes one, and leaves the rest to one of
+// those three, so that none of them needs a proof beyond what those promise. `standing` hides the reader again.
 
 #![tactic(auto)]
 
