@@ -23,12 +23,10 @@ ARCHIVE := $(LARK_ARCHIVE)
 else
 ARCHIVE := target/staticlib/libledgerlark.a
 BUILT := $(ARCHIVE)
-SOURCES := crates.txt $(shell find crates -name '*.rt' -o -name '*.antt')
+SOURCES := crates.txt $(shell find crates -name out -prune -o -name '*.rt' -print -o -name '*.antt' -print)
 
-# rt leaves alone what has not changed, so the date is set here.
 $(ARCHIVE): $(SOURCES)
-	rt staticlib ledgerlark
-	@touch $@
+	tools/archive
 endif
 
 .PHONY: all check install uninstall bench oracle clean
@@ -66,4 +64,4 @@ oracle: $(BUILT)
 	LARK_ARCHIVE="$$(realpath '$(ARCHIVE)')" oracle/run
 
 clean:
-	rm -rf target bindings/rust/target oracle/target bench/driver/target
+	rm -rf target crates/*/out bindings/rust/target oracle/target bench/driver/target

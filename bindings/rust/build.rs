@@ -78,7 +78,7 @@ fn fail(wrong: &str) -> ! {
     let version = env!("CARGO_PKG_VERSION");
     eprintln!("{wrong} One of these makes it right:");
     eprintln!("- set LARK_ARCHIVE to the path of a {ARCHIVE} (a relative one starts at this crate's folder);");
-    eprintln!("- run `make` or `rt staticlib ledgerlark` at the repository's root, which leaves it in target/staticlib;");
+    eprintln!("- run `make` or `tools/archive` at the repository's root, which leaves it in target/staticlib;");
     eprintln!(
         "- install version {version} of it (`make install`) where pkg-config looks. PKG_CONFIG names another command than pkg-config."
     );

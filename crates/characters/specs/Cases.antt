@@ -85,8 +85,8 @@ pub counts : (counted punctuation_ranges ≡ 9369) × (length punctuation_ranges
 unfolding counted punctuation_ranges space_ranges
 counts = (refl, refl, refl, refl)
 
--- a checksum of each table, which crates/unicode/tables takes from Unicode's file: the bounds as the digits of one number in base 1,114,112, by 2,147,483,647. A
--- range that is moved in the definition and in the code alike, so that the counts hold, shows here
+-- a checksum of each table, which crates/characters/tables takes from Unicode's file: the bounds as the digits of one number in base 1,114,112, by 2,147,483,647.
+-- A range that is moved in the definition and in the code alike, so that the counts hold, shows here
 unfoldable pub checksum : ℕ → List ℕ → ℕ
 checksum sum [] = sum
 checksum sum (bound ∷ t) = checksum ((sum * 1114112 + bound) % 2147483647) t

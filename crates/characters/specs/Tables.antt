@@ -1,5 +1,5 @@
--- The ranges of Unicode 16.0.0, made from its file UnicodeData.txt by crates/unicode/tables: the first and the last code point of each, one range after the
--- other.
+-- The ranges of Unicode 16.0.0, made from its file UnicodeData.txt by crates/characters/tables: the first and the last code point of each, one range after
+-- the other.
 -- Assumes nothing.
 use Rattle.std.specs.Prelude.{ℕ, List, [], ◌∷◌}
 

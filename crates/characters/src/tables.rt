@@ -1,5 +1,5 @@
-// The ranges of Unicode 16.0.0, made from its file UnicodeData.txt by crates/unicode/tables: a range in one number, its first code point times 2,048 and how
-// many follow. So a table takes half the stack of whoever lends it.
+// The ranges of Unicode 16.0.0, made from its file UnicodeData.txt by crates/characters/tables: a range in one number, its first code point times 2,048 and
+// how many follow. So a table takes half the stack of whoever lends it.
 
 // The general categories P (punctuation) and S (symbol): for each 1,024 code points the number of the first range that ends there or
 // later, or else of the last one, 129 numbers; and then the ranges.

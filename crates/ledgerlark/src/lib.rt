@@ -1,7 +1,6 @@
-// The static library: the public calls as C sees them, and nothing else.
+// The public calls as C sees them, and nothing else. `ledgerlark_c` exports them.
 //
-// A slice is a pointer and then its length. An answer is a struct by value whose fields are document 01's numbers. Each call passes
-// on the promise of the crate below.
+// An answer is a struct by value whose fields are document 01's numbers. Each call passes on the promise of the crate below.
 
 pub mod line; // the calls on a line
 pub mod resolve; // the calls on a record

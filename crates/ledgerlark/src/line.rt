@@ -250,8 +250,7 @@ fn headed_of(found: Headed) -> LarkHeaded
 }
 
 // The spaces and tabs in front of a line that starts at a column; and so below.
-#[unsafe(no_mangle)]
-pub extern "C" fn lark_space_or_tab(
+pub fn lark_space_or_tab(
     line: &[u8],
     options: u32,
     column: usize,
@@ -264,21 +263,14 @@ pub extern "C" fn lark_space_or_tab(
 }
 
 // A list item that starts on a line.
-#[unsafe(no_mangle)]
-pub extern "C" fn lark_list_item(
-    line: &[u8],
-    options: u32,
-    column: usize,
-    interrupting: u32,
-) -> LarkItem
+pub fn lark_list_item(line: &[u8], options: u32, column: usize, interrupting: u32) -> LarkItem
     ensures { ItemAs line.now options column interrupting result }
 {
     item_of(lines::item::list_item(line, options, column, interrupting != 0))
 }
 
 // Whether a line goes on with a list item.
-#[unsafe(no_mangle)]
-pub extern "C" fn lark_continuation(
+pub fn lark_continuation(
     line: &[u8],
     options: u32,
     column: usize,
@@ -298,13 +290,7 @@ pub extern "C" fn lark_continuation(
 }
 
 // A heading's events, not yet resolved.
-#[unsafe(no_mangle)]
-pub extern "C" fn lark_heading(
-    line: &[u8],
-    options: u32,
-    column: usize,
-    out: &mut [u8],
-) -> LarkHeaded
+pub fn lark_heading(line: &[u8], options: u32, column: usize, out: &mut [u8]) -> LarkHeaded
     ensures { HeadedAs line.now options column out.old result out.new }
 {
     headed_of(atx::heading(line, options, column, out))

@@ -166,16 +166,14 @@ fn lists_of(found: list::call::Answer) -> LarkResolved
 }
 
 // Whether a record is good, and how large its parts are.
-#[unsafe(no_mangle)]
-pub extern "C" fn lark_read(s: &[u8], options: u32, work: &mut [u8]) -> LarkReading
+pub fn lark_read(s: &[u8], options: u32, work: &mut [u8]) -> LarkReading
     ensures { ReadAs s.now options work.old result work.new }
 {
     reading_of(record::call::read(Handed::Old(options), s, work))
 }
 
 // The attention runs of a record resolved.
-#[unsafe(no_mangle)]
-pub extern "C" fn lark_resolve_attention(
+pub fn lark_resolve_attention(
     s: &[u8],
     options: u32,
     out: &mut [u8],
@@ -187,8 +185,7 @@ pub extern "C" fn lark_resolve_attention(
 }
 
 // The headings of a record resolved.
-#[unsafe(no_mangle)]
-pub extern "C" fn lark_resolve_headings(
+pub fn lark_resolve_headings(
     s: &[u8],
     options: u32,
     out: &mut [u8],
@@ -200,13 +197,7 @@ pub extern "C" fn lark_resolve_headings(
 }
 
 // The list items of a record resolved.
-#[unsafe(no_mangle)]
-pub extern "C" fn lark_resolve_lists(
-    s: &[u8],
-    options: u32,
-    out: &mut [u8],
-    work: &mut [u8],
-) -> LarkResolved
+pub fn lark_resolve_lists(s: &[u8], options: u32, out: &mut [u8], work: &mut [u8]) -> LarkResolved
     ensures { ListsAs s.now options out.old work.old result out.new work.new }
 {
     lists_of(list::call::resolve_lists(Handed::Old(options), s, out, work))
@@ -215,30 +206,26 @@ pub extern "C" fn lark_resolve_lists(
 // The calls on a record in form 2: each is the call above on the record as it is handed over there, which has its options in it. What they write
 // carries partner numbers.
 
-#[unsafe(no_mangle)]
-pub extern "C" fn lark_read2(s: &[u8], work: &mut [u8]) -> LarkReading2
+pub fn lark_read2(s: &[u8], work: &mut [u8]) -> LarkReading2
     ensures { Read2As s.now work.old result work.new }
 {
     let options = options_of(Handed::Second, s) as usize;
     reading2_of(options, record::call::read(Handed::Second, s, work))
 }
 
-#[unsafe(no_mangle)]
-pub extern "C" fn lark_resolve_attention2(s: &[u8], out: &mut [u8], work: &mut [u8]) -> LarkResolved
+pub fn lark_resolve_attention2(s: &[u8], out: &mut [u8], work: &mut [u8]) -> LarkResolved
     ensures { Attention2As crate s.now out.old work.old result out.new work.new }
 {
     attention_of(attention::call::resolve_attention(Handed::Second, s, out, work))
 }
 
-#[unsafe(no_mangle)]
-pub extern "C" fn lark_resolve_headings2(s: &[u8], out: &mut [u8], work: &mut [u8]) -> LarkResolved
+pub fn lark_resolve_headings2(s: &[u8], out: &mut [u8], work: &mut [u8]) -> LarkResolved
     ensures { Headings2As s.now out.old work.old result out.new work.new }
 {
     headings_of(heading::resolve::resolve_headings(Handed::Second, s, out, work))
 }
 
-#[unsafe(no_mangle)]
-pub extern "C" fn lark_resolve_lists2(s: &[u8], out: &mut [u8], work: &mut [u8]) -> LarkResolved
+pub fn lark_resolve_lists2(s: &[u8], out: &mut [u8], work: &mut [u8]) -> LarkResolved
     ensures { Lists2As s.now out.old work.old result out.new work.new }
 {
     lists_of(list::call::resolve_lists(Handed::Second, s, out, work))

@@ -1,4 +1,4 @@
--- `unicode::ranges::in_ranges` meets its contract: the ranges before those that are left end below the character, those behind begin above it, and what is
+-- `characters::ranges::in_ranges` meets its contract: the ranges before those that are left end below the character, those behind begin above it, and what is
 -- left gets less.
 use Rattle.characters.proofs.Packed.{Halves}
 use Rattle.characters.proofs.ranges.in_ranges.Given as goal

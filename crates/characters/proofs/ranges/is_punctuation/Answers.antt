@@ -1,4 +1,4 @@
--- `unicode::ranges::is_punctuation` meets its contract: past the last block nothing is, and within one the ranges that the index names are enough.
+-- `characters::ranges::is_punctuation` meets its contract: past the last block nothing is, and within one the ranges that the index names are enough.
 use Prim.Native.Nat.{ℕ, ◌+◌, ◌/◌}
 use mathlib.Core.Path.{ap, ◌∙◌}
 use mathlib.Core.List.{List}

@@ -1,4 +1,4 @@
--- `unicode::ranges::is_space` meets its contract: nothing past the last range is a space, and the code's numbers are the definition's bounds, which are in
+-- `characters::ranges::is_space` meets its contract: nothing past the last range is a space, and the code's numbers are the definition's bounds, which are in
 -- order.
 use mathlib.Core.Path.{refl}
 use native.Mathlib.Omega.{arith}

@@ -1,4 +1,4 @@
--- `unicode::ranges::punctuation` meets its contract: the code's numbers are the definition's bounds, range by range, and each block passes its test; antt
+-- `characters::ranges::punctuation` meets its contract: the code's numbers are the definition's bounds, range by range, and each block passes its test; antt
 -- computes both.
 use mathlib.Core.Path.{refl}
 use Rattle.characters.specs.Ranges.{unpacked}
