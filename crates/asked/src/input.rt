@@ -1,7 +1,7 @@
 // Texts and records, from arguments, files and standard input.
 
+use terminal::host::{Host, Stream};
 use crate::args::{Asked, SECOND_FORM};
-use libc::STDIN_FILENO;
 use record::form::Handed;
 use terminal::say::fail;
 use terminal::words::same;
@@ -14,23 +14,23 @@ pub enum Got {
 }
 
 // All that a descriptor has, as far as the buffer goes. The first read shows whether it can be read at all: a directory cannot.
-fn read_all(fd: i32, buffer: &mut [u8], name: &[u8]) -> Got {
-    let first = libc::read(fd, buffer);
+fn read_all(host: &mut Host, stream: Stream, buffer: &mut [u8], name: &[u8]) -> Got {
+    let first = libc::read(stream, buffer);
     if first < 0 {
-        fail(name);
+        fail(host, name);
         return Got::Nothing;
     }
     let n = io::count(first, buffer);
     if n == 0 {
         return Got::Bytes(0);
     }
-    let more = io::read_full(fd, &mut buffer[n..]);
+    let more = io::read_full(stream, &mut buffer[n..]);
     Got::Bytes(n + more)
 }
 
 // All that standard input has, as far as the buffer goes.
-fn read_input(buffer: &mut [u8]) -> Got {
-    read_all(STDIN_FILENO, buffer, b"standard input")
+fn read_input(host: &mut Host, buffer: &mut [u8]) -> Got {
+    read_all(host, STDIN_FILENO, buffer, b"standard input")
 }
 
 // How many of n bytes are left without the line feed at their end.
@@ -48,8 +48,8 @@ fn without_feed(buffer: &[u8], n: usize) -> usize {
 }
 
 // The text on standard input.
-fn text_input(buffer: &mut [u8]) -> Got {
-    match read_input(buffer) {
+fn text_input(host: &mut Host, buffer: &mut [u8]) -> Got {
+    match read_input(host, buffer) {
         Got::Bytes(n) => Got::Bytes(without_feed(buffer, n)),
         Got::Nothing => Got::Nothing,
     }
@@ -60,9 +60,9 @@ fn text_input(buffer: &mut [u8]) -> Got {
 pub const TEXT_ROOM: usize = 16386;
 
 // The text that is asked about. Of an argument that does not fit, the buffer has the beginning.
-pub fn text_asked(asked: Asked, buffer: &mut [u8]) -> Got {
+pub fn text_asked(host: &mut Host, asked: Asked, buffer: &mut [u8]) -> Got {
     if asked.operand == 0 {
-        return text_input(buffer);
+        return text_input(host, buffer);
     }
     let n = os::arg(asked.operand, buffer);
     if os::errno() != 0 {
@@ -72,14 +72,14 @@ pub fn text_asked(asked: Asked, buffer: &mut [u8]) -> Got {
 }
 
 // All that a file has, as far as the buffer goes. Where it cannot be opened, that is said.
-fn read_file(path: &[u8], buffer: &mut [u8]) -> Got {
+fn read_file(host: &mut Host, path: &[u8], buffer: &mut [u8]) -> Got {
     let fd = os::open_read(path);
     if fd < 0 {
-        fail(path);
+        fail(host, path);
         return Got::Nothing;
     }
-    let got = read_all(fd, buffer, path);
-    libc::close(fd);
+    let got = read_all(host, stream, buffer, path);
+    libc::close(stream);
     got
 }
 
@@ -102,25 +102,25 @@ pub fn result_memory() -> [u8; RESULT_ROOM] {
 }
 
 // The record in a file, or on standard input where the file's name is a dash.
-fn read_record(path: &[u8], buffer: &mut [u8]) -> Got {
+fn read_record(host: &mut Host, path: &[u8], buffer: &mut [u8]) -> Got {
     if same(path, b"-") {
-        return read_input(buffer);
+        return read_input(host, buffer);
     }
-    read_file(path, buffer)
+    read_file(host, path, buffer)
 }
 
 // The record that is asked about.
-pub fn record_asked(asked: Asked, buffer: &mut [u8]) -> Got {
+pub fn record_asked(host: &mut Host, asked: Asked, buffer: &mut [u8]) -> Got {
     if asked.operand == 0 {
-        return read_input(buffer);
+        return read_input(host, buffer);
     }
     let mut path = io::buffer();
     let n = os::arg(asked.operand, &mut path);
     if os::errno() != 0 {
-        fail(b"the file's name");
+        fail(host, b"the file's name");
         return Got::Nothing;
     }
-    read_record(&path[..n], buffer)
+    read_record(host, &path[..n], buffer)
 }
 
 // How the record that is asked about, or that is made, is handed over: in the old form, with the options beside it, or in form 2, with them in it.

@@ -13,6 +13,7 @@ mod line; // the command `line`
 mod resolve; // the commands on records
 mod show; // the commands `show` and `record`
 
+use terminal::host::{Host, Stream};
 use asked::args::{Asked, FILE, FILE_OF_EVENTS, LINE, TEXT, TEXT_AND_EVENTS, are_good, arguments};
 use asked::input::{Got, TEXT_ROOM, text_asked};
 use help::{HELP, VERSION, say_help, say_version, wish_from};
@@ -56,14 +57,14 @@ fn taken_by(call: Call) -> u8 {
 }
 
 // The commands on a record.
-fn run_on_record(command: &[u8], next: usize) -> u8 {
+fn run_on_record(host: &mut Host, command: &[u8], next: usize) -> u8 {
     if let OnRecord::Is(call) = call_of(command) {
-        return resolve::run(call, arguments(next, taken_by(call)));
+        return resolve::run(host, call, arguments(host, next, taken_by(call)));
     }
     if next == 0 {
         return WRONG;
     }
-    blame(b"no such command", next - 1)
+    blame(host, b"no such command", next - 1)
 }
 
 // The commands on a text.
@@ -75,26 +76,26 @@ enum OnText {
 }
 
 // What a command says of its text, and the status that it leaves with.
-fn answer(command: OnText, text: &[u8], asked: Asked) -> u8 {
+fn answer(host: &mut Host, command: OnText, text: &[u8], asked: Asked) -> u8 {
     match command {
-        OnText::Show { styled } => show::show_text(text, asked, styled),
-        OnText::Line => line::read_line(text, asked),
-        OnText::Record => show::record_text(text, asked),
+        OnText::Show { styled } => show::show_text(host, text, asked, styled),
+        OnText::Line => line::read_line(host, text, asked),
+        OnText::Record => show::record_text(host, text, asked),
     }
 }
 
 // A command on a text. It answers only where its arguments are good and the text can be had.
-fn run_on_text(command: OnText, asked: Asked) -> u8 {
-    if !are_good(asked) {
+fn run_on_text(host: &mut Host, command: OnText, asked: Asked) -> u8 {
+    if !are_good(host, asked) {
         return WRONG;
     }
     let mut bytes = [0u8; TEXT_ROOM];
-    match text_asked(asked, &mut bytes) {
+    match text_asked(host, asked, &mut bytes) {
         Got::Bytes(n) => {
             if n > TEXT_ROOM {
                 return WRONG;
             }
-            return answer(command, &bytes[0..n], asked);
+            return answer(host, command, &bytes[0..n], asked);
         }
         Got::Nothing => {
             return WRONG;
@@ -103,66 +104,66 @@ fn run_on_text(command: OnText, asked: Asked) -> u8 {
 }
 
 // The commands on a text, help and version; `next` is the number of the argument behind the command.
-fn run(command: &[u8], next: usize, styled: bool) -> u8 {
+fn run(host: &mut Host, command: &[u8], next: usize, styled: bool) -> u8 {
     if same(command, b"show") {
-        return run_on_text(OnText::Show { styled: styled }, arguments(next, TEXT));
+        return run_on_text(host, OnText::Show { styled: styled }, arguments(host, next, TEXT));
     }
     if same(command, b"line") {
-        return run_on_text(OnText::Line, arguments(next, LINE));
+        return run_on_text(host, OnText::Line, arguments(host, next, LINE));
     }
     if same(command, b"record") {
-        return run_on_text(OnText::Record, arguments(next, TEXT_AND_EVENTS));
+        return run_on_text(host, OnText::Record, arguments(host, next, TEXT_AND_EVENTS));
     }
     if same(command, b"help") {
-        return done(say_help(libc::STDOUT_FILENO));
+        return done(host, say_help(host, Stream::Output));
     }
     if same(command, b"version") {
-        return done(say_version());
+        return done(host, say_version(host));
     }
-    run_on_record(command, next)
+    run_on_record(host, command, next)
 }
 
 // The command is argument i. One that does not fit the word is none of ours.
-fn command_at(i: usize, styled: bool) -> u8 {
+fn command_at(host: &mut Host, i: usize, styled: bool) -> u8 {
     let mut word = [0u8; 16];
     let n = os::arg(i, &mut word);
     if i >= os::arg_count() {
-        say_help(libc::STDERR_FILENO);
+        say_help(host, Stream::Complaints);
         return WRONG;
     }
-    run(&word[..n], i + 1, styled)
+    run(host, &word[..n], i + 1, styled)
 }
 
 // Help or version, where one of the arguments from number i on asks for it, or the command, which is argument i.
-fn answer_from(i: usize, styled: bool) -> u8 {
-    match wish_from(i) {
-        HELP => done(say_help(libc::STDOUT_FILENO)),
-        VERSION => done(say_version()),
-        _ => command_at(i, styled),
+fn answer_from(host: &mut Host, i: usize, styled: bool) -> u8 {
+    match wish_from(host, i) {
+        HELP => done(host, say_help(host, Stream::Output)),
+        VERSION => done(host, say_version(host)),
+        _ => command_at(host, i, styled),
     }
 }
 
 // Whether argument i is this word.
-fn is_word(i: usize, word: &[u8]) -> bool {
+fn is_word(host: &Host, i: usize, word: &[u8]) -> bool {
     let mut got = [0u8; 16];
     let n = os::arg(i, &mut got);
     same(&got[..n], word)
 }
 
 // Writes the status where the script `lark` reads it.
-fn tell(status: u8) {
+fn tell(host: &Host, status: u8) {
     io::print_decimal(STATUS_FILENO, status as u64);
 }
 
 // The command is the first argument, or stands behind the word that the script `lark` says.
 fn main() {
-    if is_word(1, b"--status") {
-        tell(answer_from(2, false));
+    if is_word(host, 1, b"--status") {
+        tell(host, answer_from(host, 2, false));
         return;
     }
-    if is_word(1, b"--styled") {
-        tell(answer_from(2, true));
+    if is_word(host, 1, b"--styled") {
+        tell(host, answer_from(host, 2, true));
         return;
     }
-    answer_from(1, false);
+    answer_from(host, 1, false);
 }
