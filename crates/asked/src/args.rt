@@ -5,7 +5,7 @@
 // options; where it is a file, any other word that looks like one is wrong. Where there are two texts, one that looks like an option was meant
 // as one.
 
-use terminal::host::Host;
+use terminal::host::{Host, argument, argument_count, argument_length};
 use terminal::number::{LARGEST, Number, spelled};
 use terminal::say::{blame, wrong};
 use terminal::words::{same, word_start};
@@ -52,7 +52,7 @@ pub const SECOND_FORM: u32 = 2;
 // arguments, or is 0 where there is none, and so is the first of the events; `dashed` says that the operand looks like an option. `awaits` is the
 // letter of the option whose number is the next word, or 0, and `ended` says that -- was there. Where something is wrong, `culprit` is the number
 // of that argument.
-#[derive(Drop)]
+#[derive(Clone, Copy)]
 pub struct Asked {
     pub takes: u8,
     pub options: u32,
@@ -126,17 +126,21 @@ fn take_value(asked: Asked, i: usize, value: u32) -> Asked {
     put_number(asked, value)
 }
 
-// Argument i as the number behind an option. The largest stands for every larger one: it is over all limits.
-fn take_number(host: &Host, asked: Asked, i: usize) -> Asked {
-    let mut word = [0u8; 32];
-    let n = os::arg(i, &mut word);
-    if os::errno() != 0 {
-        return put_wrong(asked, TOO_LONG, i);
-    }
-    match spelled(&word[..n]) {
+// Argument i, which spells this, as the number behind an option. The largest stands for every larger one: it is over all limits.
+fn take_spelled(asked: Asked, i: usize, number: Number) -> Asked {
+    match number {
         Number::Is(value) => take_value(asked, i, value),
         Number::Large => take_value(asked, i, LARGEST),
         Number::Not => put_wrong(asked, NO_NUMBER, i),
+    }
+}
+
+// Argument i as the number behind an option.
+fn take_number(host: &Host, asked: Asked, i: usize) -> Asked {
+    let mut word = [0u8; 32];
+    match argument(host, i, &mut word) {
+        Some(n) => take_spelled(asked, i, spelled(&word[..n])),
+        None => put_wrong(asked, TOO_LONG, i),
     }
 }
 
@@ -279,7 +283,7 @@ fn take_option(asked: Asked, i: usize, option: u8, dashed: bool) -> Asked {
 // Argument i where no number is awaited and -- was not there.
 fn take_word(host: &Host, asked: Asked, i: usize) -> Asked {
     let mut word = [0u8; 16];
-    let n = os::arg(i, &mut word);
+    let n = argument_length(host, i, &mut word);
     let option = letter(&word[..n]);
     take_option(asked, i, option, is_dashed(word[0], word[1]))
 }
@@ -295,7 +299,7 @@ fn wants_event(asked: Asked) -> bool {
 // The byte that the first word of argument i begins with, or 0 where its beginning has none.
 fn first_of_words(host: &Host, i: usize) -> u8 {
     let mut words = [0u8; 32];
-    os::arg(i, &mut words);
+    argument_length(host, i, &mut words);
     let at = word_start(&words, 0);
     if at >= words.len() {
         return 0;
@@ -353,7 +357,7 @@ fn take(host: &Host, asked: Asked, i: usize) -> Asked {
 
 // The arguments from a number on, of a command that takes this.
 pub fn arguments(host: &Host, from: usize, takes: u8) -> Asked {
-    let count = os::arg_count();
+    let count = argument_count(host);
     let mut asked = Asked {
         takes,
         options: USUAL,
@@ -441,7 +445,10 @@ pub fn are_good(host: &mut Host, asked: Asked) -> bool {
         return false;
     }
     if gives_other_options(asked) {
-        wrong(host, b"-o does not go with --form 2 here: the record has its options in it");
+        wrong(
+            host,
+            b"-o does not go with --form 2 here: the record has its options in it",
+        );
         return false;
     }
     true

@@ -5,17 +5,17 @@
 
 ghost use Rattle.std.specs.Prelude.{◌+◌, ◌≤◌, length};
 
-use terminal::host::Host;
 use crate::input::{RECORD_ROOM, memory};
 use record::bytes::put_u32;
 use record::event::put_event;
 use record::limits::MAX_EVENTS;
+use terminal::host::{Host, argument, argument_count};
 use terminal::notation::{Noted, event_in};
 use terminal::say::{blame, blame_word};
 use terminal::words::{word_end, word_start};
 
 // How many events there are so far, or that a word is none, which is then said.
-#[derive(Drop)]
+#[derive(Clone, Copy)]
 pub enum Taken {
     Events(usize),
     Nothing,
@@ -65,19 +65,20 @@ fn put_argument(host: &mut Host, i: usize, section: &mut [u8], events: usize) ->
     requires { 16396 ≤ length section.old }
 {
     let mut words = memory();
-    let n = os::arg(i, &mut words);
-    if os::errno() != 0 {
-        blame(host, b"too long", i);
-        return Taken::Nothing;
+    match argument(host, i, &mut words) {
+        Some(n) => put_words(host, &words[..n], section, events),
+        None => {
+            blame(host, b"too long", i);
+            Taken::Nothing
+        }
     }
-    put_words(host, &words[..n], section, events)
 }
 
 // The same for all arguments from a number on.
 fn put_arguments(host: &mut Host, first: usize, section: &mut [u8]) -> Taken
     requires { 16396 ≤ length section.old }
 {
-    let count = os::arg_count();
+    let count = argument_count(host);
     let mut events = 0;
     let mut i = first;
     while i < count {

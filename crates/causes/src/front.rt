@@ -1,9 +1,9 @@
 // Why the first section of a record of form 2, which has the option byte, is refused: the causes of refusals 2 and 3 there. The record of the old
 // form has no such section.
 
-use terminal::host::Host;
 use crate::refuse::because;
 use record::bytes::u32_at;
+use terminal::host::Host;
 
 // The first section is not an option byte: the cause of refusal 2.
 pub fn explain_front(host: &mut Host, rec: &[u8]) {
@@ -23,5 +23,8 @@ pub fn explain_front_length(host: &mut Host, rec: &[u8]) {
         because(host, b"the first section's count is cut off");
         return;
     }
-    because(host, b"the first section's count runs past the record's end");
+    because(
+        host,
+        b"the first section's count runs past the record's end",
+    );
 }

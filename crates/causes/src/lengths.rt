@@ -1,13 +1,13 @@
 // Why a length does not fit: the cause of refusal 3, of a record.
 
-use terminal::host::Host;
 use crate::front::explain_front_length;
 use crate::refuse::because;
 use record::bytes::u32_at;
 use record::limits::{MAX_DOCUMENT, MAX_EVENTS};
+use terminal::host::Host;
 
 // What is wrong with a count: it is cut off, it is over its limit, or what it counts runs past the record's end.
-#[derive(Drop)]
+#[derive(Clone, Copy)]
 enum Misfit {
     CutOff,
     Over,

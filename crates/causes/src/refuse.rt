@@ -5,7 +5,6 @@
 //
 // The record of a text is judged while its events stand as the section has them, side by side, whatever its form: only sound events have partners.
 
-use terminal::host::Host;
 use crate::front::explain_front;
 use crate::lengths::explain_length;
 use crate::shapes::explain_shape;
@@ -15,6 +14,7 @@ use record::check::Refusal;
 use record::form::{Form, Handed, form_of, old, options_of};
 use record::limits::{MAX_DOCUMENT, MAX_EVENTS};
 use terminal::events::{complain_event, event_of};
+use terminal::host::Host;
 use terminal::say::{REFUSED, complain, complain_with};
 
 // The words of each number, the same in the header and in the binding. Numbers 1 and 8 are never given here, where enough is lent of each.
@@ -22,7 +22,10 @@ fn complain_words(host: &mut Host, number: usize) {
     complain(host, b": ");
     match number {
         1 => complain(host, b"the work memory is under 65,536 bytes"),
-        2 => complain(host, b"the options are over 63, the column over 16,384, or the first count not 1"),
+        2 => complain(
+            host,
+            b"the options are over 63, the column over 16,384, or the first count not 1",
+        ),
         3 => complain(host, b"a length does not fit"),
         4 => complain(host, b"a carriage return"),
         5 => complain(host, b"an event is not sound"),
@@ -87,7 +90,10 @@ fn refuse_return(host: &mut Host, text: &[u8], at: usize) -> u8 {
     begin_at(host, 4, at);
     complain_words(host, 4);
     if ends_line(text, at) {
-        complain(host, b"; where lines end in CR LF, take the CR away, as tr -d '\\r' does");
+        complain(
+            host,
+            b"; where lines end in CR LF, take the CR away, as tr -d '\\r' does",
+        );
     }
     end(host)
 }
@@ -105,7 +111,8 @@ pub fn refuse_line(host: &mut Host, line: &[u8], refusal: Refusal) -> u8 {
     if line.len() > MAX_DOCUMENT {
         return refuse_length(host, place, b"the line is over 16,384 bytes");
     }
-    refuse_length(host,
+    refuse_length(
+        host,
         place,
         b"the heading has over 1,023 words, # runs and spaces between them",
     )
@@ -128,14 +135,21 @@ fn refuse_crowd(host: &mut Host, place: usize, given: bool) -> u8 {
     if given {
         return refuse_length(host, place, b"over 2,048 events are given");
     }
-    refuse_length(host,
+    refuse_length(
+        host,
         place,
         b"the text has over 1,024 runs and pieces between them",
     )
 }
 
 // The record of a text is refused for a length: the text's, or the events', of which the section has at least one past the limit.
-fn refuse_text_length(host: &mut Host, text: &[u8], section: &[u8], width: usize, given: bool) -> u8 {
+fn refuse_text_length(
+    host: &mut Host,
+    text: &[u8],
+    section: &[u8],
+    width: usize,
+    given: bool,
+) -> u8 {
     if text.len() > MAX_DOCUMENT {
         return refuse_length(host, MAX_DOCUMENT, b"the text is over 16,384 bytes");
     }
@@ -176,7 +190,14 @@ pub fn complain_which(host: &mut Host, section: &[u8], width: usize, k: usize) {
 }
 
 // Which of so many events is not sound, and why: the k-th, in a document of d bytes, or else the end.
-fn complain_unsound(host: &mut Host, section: &[u8], width: usize, events: usize, k: usize, d: usize) {
+fn complain_unsound(
+    host: &mut Host,
+    section: &[u8],
+    width: usize,
+    events: usize,
+    k: usize,
+    d: usize,
+) {
     if k < events {
         complain_which(host, section, width, k);
         complain_words(host, 5);
@@ -188,7 +209,8 @@ fn complain_unsound(host: &mut Host, section: &[u8], width: usize, events: usize
 }
 
 // Events that are not sound, by the number of one, or of their end.
-fn refuse_events(host: &mut Host,
+fn refuse_events(
+    host: &mut Host,
     section: &[u8],
     width: usize,
     events: usize,
@@ -218,7 +240,8 @@ fn refuse_given(host: &mut Host, text: &[u8], section: &[u8], width: usize, at: 
     let events = u32_at(section, 0);
     let d = text.len();
     let k = number_at(at, d, width);
-    refuse_events(host,
+    refuse_events(
+        host,
         section,
         width,
         events,
@@ -229,7 +252,8 @@ fn refuse_given(host: &mut Host, text: &[u8], section: &[u8], width: usize, at: 
 }
 
 // A refusal of the record of a text, as it was to be handed over, and of a section's events, which were given beside it or were made of it.
-pub fn refuse_text(host: &mut Host,
+pub fn refuse_text(
+    host: &mut Host,
     text: &[u8],
     section: &[u8],
     handed: Handed,
@@ -250,7 +274,8 @@ pub fn refuse_text(host: &mut Host,
 }
 
 // A run, a heading or an item that is not of its shape, by the number of the event that enters it.
-fn refuse_shape(host: &mut Host,
+fn refuse_shape(
+    host: &mut Host,
     document: &[u8],
     section: &[u8],
     width: usize,
@@ -271,7 +296,14 @@ fn refuse_shape(host: &mut Host,
 }
 
 // A refusal of what a record holds, which is a document and a section whose counts fit, behind so many bytes in front.
-fn refuse_parts(host: &mut Host, document: &[u8], section: &[u8], form: Form, options: u32, refusal: Refusal) -> u8 {
+fn refuse_parts(
+    host: &mut Host,
+    document: &[u8],
+    section: &[u8],
+    form: Form,
+    options: u32,
+    refusal: Refusal,
+) -> u8 {
     if section.len() < 4 {
         return refuse_bare(host, refusal.number);
     }
@@ -305,7 +337,14 @@ fn refuse_inside(host: &mut Host, rec: &[u8], form: Form, options: u32, refusal:
     }
     let start = 4 + front;
     let behind = start + d;
-    refuse_parts(host, &rec[start..behind], &rec[behind..], form, options, refusal)
+    refuse_parts(
+        host,
+        &rec[start..behind],
+        &rec[behind..],
+        form,
+        options,
+        refusal,
+    )
 }
 
 // A record whose counts do not fit.
@@ -330,7 +369,11 @@ fn refuse_options(host: &mut Host, rec: &[u8], front: usize) -> u8 {
 fn refuse_room(host: &mut Host, width: usize) -> u8 {
     begin(host, 8);
     complain_words(host, 8);
-    complain_with(host, b": a section takes 4 bytes, and for each event ", width);
+    complain_with(
+        host,
+        b": a section takes 4 bytes, and for each event ",
+        width,
+    );
     end(host)
 }
 

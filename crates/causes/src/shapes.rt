@@ -3,7 +3,6 @@
 
 ghost use Rattle.std.specs.Prelude.{◌+◌, ◌≤◌};
 
-use terminal::host::Host;
 use crate::refuse::because;
 use heading::seek::{Sought, before_first};
 use heading::shape::is_headed;
@@ -14,6 +13,7 @@ use record::limits::{
     SPACE_OR_TAB,
 };
 use terminal::events::{WIDEST, complain_event, event_of, is_leaf, place_in, stands};
+use terminal::host::Host;
 use terminal::marker::marker;
 use terminal::say::complain;
 
@@ -65,7 +65,14 @@ fn explain_bytes(host: &mut Host, document: &[u8], from: usize, to: usize, optio
 }
 
 // The run that the k-th event enters.
-fn explain_run(host: &mut Host, document: &[u8], section: &[u8], width: usize, k: usize, options: u32)
+fn explain_run(
+    host: &mut Host,
+    document: &[u8],
+    section: &[u8],
+    width: usize,
+    k: usize,
+    options: u32,
+)
     requires { k ≤ 2048 }
 {
     if !stands(section, width, k + 1, EXIT, ATTENTION_SEQUENCE) {
@@ -195,12 +202,18 @@ fn explain_prefix(host: &mut Host, document: &[u8], section: &[u8], width: usize
 {
     let marker = past_leaf(section, width, k, LIST_ITEM_VALUE);
     if !is_leaf(section, width, marker, LIST_ITEM_MARKER) {
-        because(host, b"the item's prefix does not begin with a marker, or with a value and a marker");
+        because(
+            host,
+            b"the item's prefix does not begin with a marker, or with a value and a marker",
+        );
         return;
     }
     let end = past_leaf(section, width, marker + 2, SPACE_OR_TAB);
     if !stands(section, width, end, EXIT, LIST_ITEM_PREFIX) {
-        because(host, b"the item's prefix does not end behind its marker, or behind the spaces there");
+        because(
+            host,
+            b"the item's prefix does not end behind its marker, or behind the spaces there",
+        );
         return;
     }
     explain_mark(host, document, section, width, marker);
@@ -223,7 +236,8 @@ fn explain_item(host: &mut Host, document: &[u8], section: &[u8], width: usize, 
 }
 
 // What the k-th of so many events enters is refused: by its name it is a run, a heading or an item.
-pub fn explain_shape(host: &mut Host,
+pub fn explain_shape(
+    host: &mut Host,
     document: &[u8],
     section: &[u8],
     width: usize,

@@ -1,12 +1,12 @@
 // Why an event is not sound: the cause of refusal 5. The questions are asked in the order in which the library's check asks them.
 
-use terminal::host::Host;
 use crate::refuse::{because, complain_which};
 use record::event::Event;
 use record::limits::{EXIT, LAST_NAME, MAX_DEPTH};
 use terminal::events::{
     carries_partner, complain_event, event_of, innermost_before, open_before, partner_of, place_in,
 };
+use terminal::host::Host;
 use terminal::say::{complain, complain_with};
 
 // Whether one of the k-th event's two bytes that are to be zero is not.

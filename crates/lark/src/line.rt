@@ -1,6 +1,5 @@
 // The command `line`: what the line readers find in one line, and what the heading resolver makes of it where it is a heading.
 
-use terminal::host::Host;
 use asked::args::Asked;
 use asked::input::{RECORD_ROOM, handed_asked, memory};
 use asked::made::{Made, put_record};
@@ -15,13 +14,14 @@ use record::check::Refusal;
 use record::form::{Handed, form_of, old};
 use record::limits::{HEADING_TEXT, MAX_EVENTS};
 use terminal::events::{event_of, exit_of, first_enter, say_events};
+use terminal::host::Host;
 use terminal::say::{done, end_line, say, say_number, say_range, say_with};
 
 // As many columns as the spaces and tabs of a line can have: 16,384 tabs of four.
 const ALL: usize = 65536;
 
 // What a line is as a heading: its events with the text resolved, none, or a refusal.
-#[derive(Drop)]
+#[derive(Clone, Copy)]
 enum Title {
     Events(usize),
     NotHeading,
@@ -187,7 +187,14 @@ fn say_going(host: &mut Host, going: Going) {
 }
 
 // What is found of a further line of an item whose size and flag are given; whether it was written. The item's mark does not matter.
-fn read_further(host: &mut Host, line: &[u8], options: u32, column: usize, size: usize, blank: bool) -> bool {
+fn read_further(
+    host: &mut Host,
+    line: &[u8],
+    options: u32,
+    column: usize,
+    size: usize,
+    blank: bool,
+) -> bool {
     let held = Container {
         kind: Kind::Bullet(b'-'),
         size,
@@ -201,23 +208,37 @@ fn read_further(host: &mut Host, line: &[u8], options: u32, column: usize, size:
 // What the readers find beside a heading. They have nothing to refuse once the heading has answered, since all refuse a line for the same
 // reasons, but for the heading's own.
 fn read_others(host: &mut Host, line: &[u8], asked: Asked) -> bool {
-    let written = say_start(host, list_item(line, asked.options, asked.column, asked.interrupting));
+    let written = say_start(
+        host,
+        list_item(line, asked.options, asked.column, asked.interrupting),
+    );
     if asked.continuing {
-        return read_further(host, line, asked.options, asked.column, asked.size, asked.blank);
+        return read_further(
+            host,
+            line,
+            asked.options,
+            asked.column,
+            asked.size,
+            asked.blank,
+        );
     }
     written
 }
 
 // The answer on a line that is not refused.
 fn answer(host: &mut Host, line: &[u8], asked: Asked, section: &[u8], title: Title) -> u8 {
-    say_leading(host, space_or_tab(line, asked.options, asked.column, 0, ALL));
+    say_leading(
+        host,
+        space_or_tab(line, asked.options, asked.column, 0, ALL),
+    );
     if let Title::Events(events) = title {
         let form = form_of(handed_asked(asked));
         say_heading(host, section, form.width, events);
     } else {
         say(host, b"heading: no\n");
     }
-    done(host, read_others(host, line, asked))
+    let written = read_others(host, line, asked);
+    done(host, written)
 }
 
 // The answer on any line. The heading comes first: all that can be refused shows there, before a word is written.

@@ -1,15 +1,15 @@
 // The commands on a record: `attention`, `headings`, `lists` and `read`.
 
-use terminal::host::Host;
 use asked::args::{Asked, are_good};
 use asked::input::{Got, RECORD_ROOM, handed_asked, memory, record_asked, result_memory};
 use causes::refuse::refuse_record;
 use record::check::{Reading, Refusal};
 use record::form::{Handed, form_of, options_of};
 use terminal::events::{place_in, say_events};
+use terminal::host::Host;
 use terminal::say::{WRONG, done, end_line, say, say_with};
 
-#[derive(Drop)]
+#[derive(Clone, Copy)]
 pub enum Resolver {
     Attention,
     Headings,
@@ -17,14 +17,14 @@ pub enum Resolver {
 }
 
 // Which call of the library is asked for.
-#[derive(Drop)]
+#[derive(Clone, Copy)]
 pub enum Call {
     Resolve(Resolver),
     Read,
 }
 
 // What a resolver made: how many events its section has, or a refusal.
-#[derive(Drop)]
+#[derive(Clone, Copy)]
 enum Made {
     Events(usize),
     Refused(Refusal),
@@ -67,9 +67,11 @@ fn say_section(host: &mut Host, out: &[u8], width: usize, events: usize) -> bool
 // The section that was made, as text or as bytes.
 fn say_made(host: &mut Host, out: &[u8], width: usize, events: usize, as_text: bool) -> u8 {
     if as_text {
-        return done(host, say_events(host, out, width, events));
+        let written = say_events(host, out, width, events);
+        return done(host, written);
     }
-    done(host, say_section(host, out, width, events))
+    let written = say_section(host, out, width, events);
+    done(host, written)
 }
 
 // The options of a record that carries them.
@@ -84,7 +86,8 @@ fn say_carried(host: &mut Host, handed: Handed, rec: &[u8]) {
 fn say_counts(host: &mut Host, document: usize, events: usize) -> u8 {
     say_with(host, b"document ", document);
     say_with(host, b" events ", events);
-    done(host, end_line(host))
+    let written = end_line(host);
+    done(host, written)
 }
 
 // Whether a record is good, the options that it carries, and its two counts.
@@ -111,7 +114,13 @@ fn make(resolver: Resolver, handed: Handed, rec: &[u8], out: &mut [u8], work: &m
 }
 
 // What a resolver makes of a record, in memory for it alone.
-fn run_resolver(host: &mut Host, resolver: Resolver, handed: Handed, rec: &[u8], as_text: bool) -> u8 {
+fn run_resolver(
+    host: &mut Host,
+    resolver: Resolver,
+    handed: Handed,
+    rec: &[u8],
+    as_text: bool,
+) -> u8 {
     let form = form_of(handed);
     let mut out = result_memory();
     let mut work = memory();

@@ -1,6 +1,5 @@
 // The commands `show` and `record`: a text made into a record, and resolved or written as it is.
 
-use terminal::host::Host;
 use asked::args::Asked;
 use asked::given::{Taken, put_given};
 use asked::input::{RECORD_ROOM, handed_asked, memory, result_memory};
@@ -9,6 +8,7 @@ use asked::split::put_split;
 use attention::call::{Answer, resolve_attention};
 use causes::refuse::refuse_text;
 use record::form::{Handed, form_of};
+use terminal::host::Host;
 use terminal::quoted::say_quoted;
 use terminal::say::{WRONG, done, end_line, say, say_with};
 use terminal::style::PLAIN;
@@ -23,14 +23,28 @@ fn say_counts(host: &mut Host, groups: usize, tried: usize, events: usize) -> bo
 }
 
 // The text, and the tree of what the resolver made of it.
-fn say_groups(host: &mut Host, text: &[u8], made: &[u8], width: usize, events: usize, styled: bool) {
+fn say_groups(
+    host: &mut Host,
+    text: &[u8],
+    made: &[u8],
+    width: usize,
+    events: usize,
+    styled: bool,
+) {
     say_quoted(host, text, PLAIN);
     end_line(host);
     say_tree(host, text, made, width, events, styled);
 }
 
 // The record of a text and of a section's events, resolved: the text, its tree and the counts, or the refusal.
-fn show_record(host: &mut Host, text: &[u8], section: &[u8], rec: &[u8], handed: Handed, styled: bool) -> u8 {
+fn show_record(
+    host: &mut Host,
+    text: &[u8],
+    section: &[u8],
+    rec: &[u8],
+    handed: Handed,
+    styled: bool,
+) -> u8 {
     let form = form_of(handed);
     let mut made = result_memory();
     let mut work = memory();
@@ -41,7 +55,8 @@ fn show_record(host: &mut Host, text: &[u8], section: &[u8], rec: &[u8], handed:
             tried,
         } => {
             say_groups(host, text, &made, form.width, events, styled);
-            return done(host, say_counts(host, groups, tried, events));
+            let written = say_counts(host, groups, tried, events);
+            return done(host, written);
         }
         Answer::Refused(refusal) => {
             return refuse_text(host, text, section, handed, false, refusal);
@@ -69,7 +84,14 @@ pub fn show_text(host: &mut Host, text: &[u8], asked: Asked, styled: bool) -> u8
 }
 
 // The record of a text and of a section's events, which were given beside it or were made of it. Only a good one is written.
-fn write_good(host: &mut Host, text: &[u8], section: &[u8], events: usize, given: bool, asked: Asked) -> u8 {
+fn write_good(
+    host: &mut Host,
+    text: &[u8],
+    section: &[u8],
+    events: usize,
+    given: bool,
+    asked: Asked,
+) -> u8 {
     let handed = handed_asked(asked);
     let mut rec = memory();
     match put_record(text, section, events, handed, asked.options, &mut rec) {
@@ -77,7 +99,8 @@ fn write_good(host: &mut Host, text: &[u8], section: &[u8], events: usize, given
             if n > RECORD_ROOM {
                 return WRONG;
             }
-            return done(host, say(host, &rec[0..n]));
+            let written = say(host, &rec[0..n]);
+            return done(host, written);
         }
         Made::Refused(refusal) => {
             return refuse_text(host, text, section, handed, given, refusal);
