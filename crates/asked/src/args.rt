@@ -5,6 +5,7 @@
 // options; where it is a file, any other word that looks like one is wrong. Where there are two texts, one that looks like an option was meant
 // as one.
 
+use terminal::host::{Host, argument, argument_count, argument_length};
 use terminal::number::{LARGEST, Number, spelled};
 use terminal::say::{blame, wrong};
 use terminal::words::{same, word_start};
@@ -51,7 +52,7 @@ pub const SECOND_FORM: u32 = 2;
 // arguments, or is 0 where there is none, and so is the first of the events; `dashed` says that the operand looks like an option. `awaits` is the
 // letter of the option whose number is the next word, or 0, and `ended` says that -- was there. Where something is wrong, `culprit` is the number
 // of that argument.
-#[derive(Drop)]
+#[derive(Clone, Copy)]
 pub struct Asked {
     pub takes: u8,
     pub options: u32,
@@ -125,17 +126,21 @@ fn take_value(asked: Asked, i: usize, value: u32) -> Asked {
     put_number(asked, value)
 }
 
-// Argument i as the number behind an option. The largest stands for every larger one: it is over all limits.
-fn take_number(asked: Asked, i: usize) -> Asked {
-    let mut word = [0u8; 32];
-    let n = os::arg(i, &mut word);
-    if os::errno() != 0 {
-        return put_wrong(asked, TOO_LONG, i);
-    }
-    match spelled(&word[..n]) {
+// Argument i, which spells this, as the number behind an option. The largest stands for every larger one: it is over all limits.
+fn take_spelled(asked: Asked, i: usize, number: Number) -> Asked {
+    match number {
         Number::Is(value) => take_value(asked, i, value),
         Number::Large => take_value(asked, i, LARGEST),
         Number::Not => put_wrong(asked, NO_NUMBER, i),
+    }
+}
+
+// Argument i as the number behind an option.
+fn take_number(host: &Host, asked: Asked, i: usize) -> Asked {
+    let mut word = [0u8; 32];
+    match argument(host, i, &mut word) {
+        Some(n) => take_spelled(asked, i, spelled(&word[..n])),
+        None => put_wrong(asked, TOO_LONG, i),
     }
 }
 
@@ -276,9 +281,9 @@ fn take_option(asked: Asked, i: usize, option: u8, dashed: bool) -> Asked {
 }
 
 // Argument i where no number is awaited and -- was not there.
-fn take_word(asked: Asked, i: usize) -> Asked {
+fn take_word(host: &Host, asked: Asked, i: usize) -> Asked {
     let mut word = [0u8; 16];
-    let n = os::arg(i, &mut word);
+    let n = argument_length(host, i, &mut word);
     let option = letter(&word[..n]);
     take_option(asked, i, option, is_dashed(word[0], word[1]))
 }
@@ -292,9 +297,9 @@ fn wants_event(asked: Asked) -> bool {
 }
 
 // The byte that the first word of argument i begins with, or 0 where its beginning has none.
-fn first_of_words(i: usize) -> u8 {
+fn first_of_words(host: &Host, i: usize) -> u8 {
     let mut words = [0u8; 32];
-    os::arg(i, &mut words);
+    argument_length(host, i, &mut words);
     let at = word_start(&words, 0);
     if at >= words.len() {
         return 0;
@@ -314,10 +319,10 @@ fn begins_text(first: u8) -> bool {
 }
 
 // Argument i as the first event. If it is rather a text, then the operand, where that looks like an option, was meant as one.
-fn take_first_event(asked: Asked, i: usize) -> Asked {
+fn take_first_event(host: &Host, asked: Asked, i: usize) -> Asked {
     let mut asked = asked;
     if asked.dashed {
-        if begins_text(first_of_words(i)) {
+        if begins_text(first_of_words(host, i)) {
             return put_wrong(asked, UNKNOWN, asked.operand);
         }
     }
@@ -326,33 +331,33 @@ fn take_first_event(asked: Asked, i: usize) -> Asked {
 }
 
 // Argument i as an event. Each one behind the first is one too.
-fn take_event(asked: Asked, i: usize) -> Asked {
+fn take_event(host: &Host, asked: Asked, i: usize) -> Asked {
     if asked.events == 0 {
-        return take_first_event(asked, i);
+        return take_first_event(host, asked, i);
     }
     asked
 }
 
 // Argument i. What is wrong first is what is said.
-fn take(asked: Asked, i: usize) -> Asked {
+fn take(host: &Host, asked: Asked, i: usize) -> Asked {
     if asked.wrong != 0 {
         return asked;
     }
     if asked.awaits != 0 {
-        return take_number(asked, i);
+        return take_number(host, asked, i);
     }
     if wants_event(asked) {
-        return take_event(asked, i);
+        return take_event(host, asked, i);
     }
     if asked.ended {
         return take_operand(asked, i, false);
     }
-    take_word(asked, i)
+    take_word(host, asked, i)
 }
 
 // The arguments from a number on, of a command that takes this.
-pub fn arguments(from: usize, takes: u8) -> Asked {
-    let count = os::arg_count();
+pub fn arguments(host: &Host, from: usize, takes: u8) -> Asked {
+    let count = argument_count(host);
     let mut asked = Asked {
         takes,
         options: USUAL,
@@ -374,36 +379,36 @@ pub fn arguments(from: usize, takes: u8) -> Asked {
     };
     let mut i = from;
     while i < count {
-        asked = take(asked, i);
+        asked = take(host, asked, i);
         i += 1;
     }
     asked
 }
 
 // Says what is wrong with an argument.
-fn say_wrong(what: u8, culprit: usize) -> u8 {
+fn say_wrong(host: &mut Host, what: u8, culprit: usize) -> u8 {
     match what {
-        NO_NUMBER => blame(b"not a number", culprit),
-        UNKNOWN => blame(b"no such option", culprit),
-        TOO_LARGE => blame(b"too large", culprit),
-        TOO_LONG => blame(b"too long", culprit),
-        NO_FORM => blame(b"no such form", culprit),
-        _ => blame(b"one argument too many", culprit),
+        NO_NUMBER => blame(host, b"not a number", culprit),
+        UNKNOWN => blame(host, b"no such option", culprit),
+        TOO_LARGE => blame(host, b"too large", culprit),
+        TOO_LONG => blame(host, b"too long", culprit),
+        NO_FORM => blame(host, b"no such form", culprit),
+        _ => blame(host, b"one argument too many", culprit),
     }
 }
 
 // Says that an option, by its letter, wants a number.
-fn ask_number(option: u8) -> u8 {
+fn ask_number(host: &mut Host, option: u8) -> u8 {
     if option == b'c' {
-        return wrong(b"-c wants a number");
+        return wrong(host, b"-c wants a number");
     }
     if option == COLUMN {
-        return wrong(b"--column wants a number");
+        return wrong(host, b"--column wants a number");
     }
     if option == FORM {
-        return wrong(b"--form wants a number");
+        return wrong(host, b"--form wants a number");
     }
-    wrong(b"-o wants a number")
+    wrong(host, b"-o wants a number")
 }
 
 // Whether -b stands alone: it says something of the item whose size -c gives.
@@ -426,21 +431,24 @@ fn gives_other_options(asked: Asked) -> bool {
 }
 
 // Whether the arguments are good; says what is wrong where they are not.
-pub fn are_good(asked: Asked) -> bool {
+pub fn are_good(host: &mut Host, asked: Asked) -> bool {
     if asked.wrong != 0 {
-        say_wrong(asked.wrong, asked.culprit);
+        say_wrong(host, asked.wrong, asked.culprit);
         return false;
     }
     if asked.awaits != 0 {
-        ask_number(asked.awaits);
+        ask_number(host, asked.awaits);
         return false;
     }
     if lacks_size(asked) {
-        wrong(b"-b wants -c beside it");
+        wrong(host, b"-b wants -c beside it");
         return false;
     }
     if gives_other_options(asked) {
-        wrong(b"-o does not go with --form 2 here: the record has its options in it");
+        wrong(
+            host,
+            b"-o does not go with --form 2 here: the record has its options in it",
+        );
         return false;
     }
     true

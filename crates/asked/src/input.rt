@@ -1,36 +1,66 @@
 // Texts and records, from arguments, files and standard input.
 
+ghost use Rattle.std.specs.Prelude.{◌≤◌, length};
+
 use crate::args::{Asked, SECOND_FORM};
-use libc::STDIN_FILENO;
 use record::form::Handed;
+use std::fs::File;
+use std::io;
+use std::io::Read;
+use std::str::from_utf8;
+use terminal::host::{Host, argument};
 use terminal::say::fail;
 use terminal::words::same;
 
 // How many bytes are at the start of the lent buffer, or that they could not be had, which is then said.
-#[derive(Drop)]
+#[derive(Clone, Copy)]
 pub enum Got {
     Bytes(usize),
     Nothing,
 }
 
-// All that a descriptor has, as far as the buffer goes. The first read shows whether it can be read at all: a directory cannot.
-fn read_all(fd: i32, buffer: &mut [u8], name: &[u8]) -> Got {
-    let first = libc::read(fd, buffer);
-    if first < 0 {
-        fail(name);
-        return Got::Nothing;
+// Reads until a buffer is full, its source has no more, or a read fails; how many bytes it has then.
+fn read_full<R: Read>(from: &mut R, buffer: &mut [u8]) -> usize
+    ensures { result ≤ length buffer.new }
+{
+    let mut done = 0;
+    while done < buffer.len() {
+        match from.read(&mut buffer[done..]) {
+            Ok(n) => {
+                if n == 0 {
+                    return done;
+                }
+                done += n;
+            }
+            Err(_) => {
+                return done;
+            }
+        }
     }
-    let n = io::count(first, buffer);
-    if n == 0 {
-        return Got::Bytes(0);
+    done
+}
+
+// All that a source has, as far as the buffer goes. The first read shows whether it can be read at all: a directory cannot.
+fn read_all<R: Read>(host: &mut Host, from: &mut R, buffer: &mut [u8], name: &[u8]) -> Got {
+    match from.read(buffer) {
+        Ok(n) => {
+            if n == 0 {
+                return Got::Bytes(0);
+            }
+            let more = read_full(from, &mut buffer[n..]);
+            Got::Bytes(n + more)
+        }
+        Err(error) => {
+            fail(host, name, error);
+            Got::Nothing
+        }
     }
-    let more = io::read_full(fd, &mut buffer[n..]);
-    Got::Bytes(n + more)
 }
 
 // All that standard input has, as far as the buffer goes.
-fn read_input(buffer: &mut [u8]) -> Got {
-    read_all(STDIN_FILENO, buffer, b"standard input")
+fn read_input(host: &mut Host, buffer: &mut [u8]) -> Got {
+    let mut input = host.rt.stdin();
+    read_all(host, &mut input, buffer, b"standard input")
 }
 
 // How many of n bytes are left without the line feed at their end.
@@ -48,8 +78,8 @@ fn without_feed(buffer: &[u8], n: usize) -> usize {
 }
 
 // The text on standard input.
-fn text_input(buffer: &mut [u8]) -> Got {
-    match read_input(buffer) {
+fn text_input(host: &mut Host, buffer: &mut [u8]) -> Got {
+    match read_input(host, buffer) {
         Got::Bytes(n) => Got::Bytes(without_feed(buffer, n)),
         Got::Nothing => Got::Nothing,
     }
@@ -60,27 +90,41 @@ fn text_input(buffer: &mut [u8]) -> Got {
 pub const TEXT_ROOM: usize = 16386;
 
 // The text that is asked about. Of an argument that does not fit, the buffer has the beginning.
-pub fn text_asked(asked: Asked, buffer: &mut [u8]) -> Got {
+pub fn text_asked(host: &mut Host, asked: Asked, buffer: &mut [u8]) -> Got {
     if asked.operand == 0 {
-        return text_input(buffer);
+        return text_input(host, buffer);
     }
-    let n = os::arg(asked.operand, buffer);
-    if os::errno() != 0 {
-        return Got::Bytes(buffer.len());
+    match argument(host, asked.operand, buffer) {
+        Some(n) => Got::Bytes(n),
+        None => Got::Bytes(buffer.len()),
     }
-    Got::Bytes(n)
+}
+
+// The system's numbers for the errors that are known before it is asked: no such file, and a name that is too long.
+const NOT_FOUND: i32 = 2;
+
+const NAME_TOO_LONG: i32 = 36;
+
+// A file to read. A name that is not UTF-8 is no file's here, since `std` opens none by such a name.
+fn open_read(host: &Host, path: &[u8]) -> io::Result<File> {
+    match from_utf8(path) {
+        Ok(name) => File::open(&host.rt, name),
+        Err(_) => Err(io::Error::from_raw_os_error(NOT_FOUND)),
+    }
 }
 
 // All that a file has, as far as the buffer goes. Where it cannot be opened, that is said.
-fn read_file(path: &[u8], buffer: &mut [u8]) -> Got {
-    let fd = os::open_read(path);
-    if fd < 0 {
-        fail(path);
-        return Got::Nothing;
+fn read_file(host: &mut Host, path: &[u8], buffer: &mut [u8]) -> Got {
+    match open_read(host, path) {
+        Ok(file) => {
+            let mut file = file;
+            read_all(host, &mut file, buffer, path)
+        }
+        Err(error) => {
+            fail(host, path, error);
+            Got::Nothing
+        }
     }
-    let got = read_all(fd, buffer, path);
-    libc::close(fd);
-    got
 }
 
 // A record has at most 8 + 16,384 + 8 × 2,048 = 32,776 bytes, and in form 2 at most 13 + 16,384 + 12 × 2,048 = 40,973. Of a longer one a buffer of
@@ -102,25 +146,33 @@ pub fn result_memory() -> [u8; RESULT_ROOM] {
 }
 
 // The record in a file, or on standard input where the file's name is a dash.
-fn read_record(path: &[u8], buffer: &mut [u8]) -> Got {
+fn read_record(host: &mut Host, path: &[u8], buffer: &mut [u8]) -> Got {
     if same(path, b"-") {
-        return read_input(buffer);
+        return read_input(host, buffer);
     }
-    read_file(path, buffer)
+    read_file(host, path, buffer)
 }
 
+// No file's name is longer.
+const LONGEST_NAME: usize = 4096;
+
 // The record that is asked about.
-pub fn record_asked(asked: Asked, buffer: &mut [u8]) -> Got {
+pub fn record_asked(host: &mut Host, asked: Asked, buffer: &mut [u8]) -> Got {
     if asked.operand == 0 {
-        return read_input(buffer);
+        return read_input(host, buffer);
     }
-    let mut path = io::buffer();
-    let n = os::arg(asked.operand, &mut path);
-    if os::errno() != 0 {
-        fail(b"the file's name");
-        return Got::Nothing;
+    let mut path = [0u8; LONGEST_NAME];
+    match argument(host, asked.operand, &mut path) {
+        Some(n) => read_record(host, &path[..n], buffer),
+        None => {
+            fail(
+                host,
+                b"the file's name",
+                io::Error::from_raw_os_error(NAME_TOO_LONG),
+            );
+            Got::Nothing
+        }
     }
-    read_record(&path[..n], buffer)
 }
 
 // How the record that is asked about, or that is made, is handed over: in the old form, with the options beside it, or in form 2, with them in it.

@@ -21,7 +21,7 @@ use terminal::words::copy_in;
 const WRITTEN: usize = 8;
 
 // A record's length, at the start of the lent buffer, or its refusal, by the place where an event stands as it is written.
-#[derive(Drop)]
+#[derive(Clone, Copy)]
 pub enum Made {
     Bytes(usize),
     Refused(Refusal),

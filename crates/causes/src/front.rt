@@ -3,24 +3,28 @@
 
 use crate::refuse::because;
 use record::bytes::u32_at;
+use terminal::host::Host;
 
 // The first section is not an option byte: the cause of refusal 2.
-pub fn explain_front(rec: &[u8]) {
+pub fn explain_front(host: &mut Host, rec: &[u8]) {
     if rec.len() < 4 {
         return;
     }
     if u32_at(rec, 0) != 1 {
-        because(b"the first section's count is not 1");
+        because(host, b"the first section's count is not 1");
         return;
     }
-    because(b"the option byte is over 63");
+    because(host, b"the option byte is over 63");
 }
 
 // The first section is not all there: the cause of refusal 3 at the record's start.
-pub fn explain_front_length(rec: &[u8]) {
+pub fn explain_front_length(host: &mut Host, rec: &[u8]) {
     if rec.len() < 4 {
-        because(b"the first section's count is cut off");
+        because(host, b"the first section's count is cut off");
         return;
     }
-    because(b"the first section's count runs past the record's end");
+    because(
+        host,
+        b"the first section's count runs past the record's end",
+    );
 }

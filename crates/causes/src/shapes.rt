@@ -13,6 +13,7 @@ use record::limits::{
     SPACE_OR_TAB,
 };
 use terminal::events::{WIDEST, complain_event, event_of, is_leaf, place_in, stands};
+use terminal::host::Host;
 use terminal::marker::marker;
 use terminal::say::complain;
 
@@ -37,9 +38,9 @@ fn stands_at(document: &[u8], place: usize, byte: u8) -> bool {
 }
 
 // The document's bytes from one place up to another are no run.
-fn explain_bytes(document: &[u8], from: usize, to: usize, options: u32) {
+fn explain_bytes(host: &mut Host, document: &[u8], from: usize, to: usize, options: u32) {
     if from >= to {
-        because(b"the run has no byte");
+        because(host, b"the run has no byte");
         return;
     }
     if to > document.len() {
@@ -47,33 +48,40 @@ fn explain_bytes(document: &[u8], from: usize, to: usize, options: u32) {
     }
     let byte = document[from];
     if marker(byte, OPTION_ATTENTION + OPTION_STRIKETHROUGH) == 0 {
-        because(b"the run's first byte is no marker");
+        because(host, b"the run's first byte is no marker");
         return;
     }
     if !all_are(&document[from..to], byte) {
-        because(b"the run is not one byte all through");
+        because(host, b"the run is not one byte all through");
         return;
     }
     if stands_at(document, to, byte) {
-        because(b"the run is followed by its own byte");
+        because(host, b"the run is followed by its own byte");
         return;
     }
     if marker(byte, options) == 0 {
-        because(b"the run's option is off");
+        because(host, b"the run's option is off");
     }
 }
 
 // The run that the k-th event enters.
-fn explain_run(document: &[u8], section: &[u8], width: usize, k: usize, options: u32)
+fn explain_run(
+    host: &mut Host,
+    document: &[u8],
+    section: &[u8],
+    width: usize,
+    k: usize,
+    options: u32,
+)
     requires { k ≤ 2048 }
 {
     if !stands(section, width, k + 1, EXIT, ATTENTION_SEQUENCE) {
-        because(b"the run is not left at once");
+        because(host, b"the run is not left at once");
         return;
     }
     let enter = event_of(section, width, k);
     let exit = event_of(section, width, k + 1);
-    explain_bytes(document, enter.place, exit.place, options);
+    explain_bytes(host, document, enter.place, exit.place, options);
 }
 
 // Whether a heading may hold this name.
@@ -88,32 +96,32 @@ fn may_hold(name: u8) -> bool {
 }
 
 // Whether the k-th event begins a leaf pair that a heading may hold; says what is wrong where it does not.
-fn is_held(section: &[u8], width: usize, k: usize) -> bool
+fn is_held(host: &mut Host, section: &[u8], width: usize, k: usize) -> bool
     requires { k ≤ 8000 }
 {
     let event = event_of(section, width, k);
     if !may_hold(event.name) {
-        because(b"the heading holds ");
-        complain_event(section, width, k);
-        complain(b", and may hold names 0, 12 and 14 alone");
+        because(host, b"the heading holds ");
+        complain_event(host, section, width, k);
+        complain(host, b", and may hold names 0, 12 and 14 alone");
         return false;
     }
     if is_leaf(section, width, k, event.name) {
         return true;
     }
-    because(b"in the heading ");
-    complain_event(section, width, k);
-    complain(b" is not left at once");
+    because(host, b"in the heading ");
+    complain_event(host, section, width, k);
+    complain(host, b" is not left at once");
     false
 }
 
 // The n events from the k-th on are not all leaf pairs that a heading may hold.
-fn explain_pairs(section: &[u8], width: usize, k: usize, n: usize)
+fn explain_pairs(host: &mut Host, section: &[u8], width: usize, k: usize, n: usize)
     requires { k + n ≤ 2048 }
 {
     let mut i = 0;
     while i < n {
-        if !is_held(section, width, k + i) {
+        if !is_held(host, section, width, k + i) {
             return;
         }
         i += 2;
@@ -121,7 +129,7 @@ fn explain_pairs(section: &[u8], width: usize, k: usize, n: usize)
 }
 
 // The heading that the k-th of so many events enters.
-fn explain_heading(section: &[u8], width: usize, events: usize, k: usize)
+fn explain_heading(host: &mut Host, section: &[u8], width: usize, events: usize, k: usize)
     requires { k ≤ 2048 }
 {
     if width < 8 {
@@ -143,10 +151,10 @@ fn explain_heading(section: &[u8], width: usize, events: usize, k: usize)
     }
     let n = before_first(section, inside, width, left, Sought::HeadingExit);
     if !is_headed(section, inside, width, n) {
-        because(b"the heading does not begin with its # run");
+        because(host, b"the heading does not begin with its # run");
         return;
     }
-    explain_pairs(section, width, k + 1, n);
+    explain_pairs(host, section, width, k + 1, n);
 }
 
 // Whether the event before the k-th is an item's exit.
@@ -169,60 +177,67 @@ fn past_leaf(section: &[u8], width: usize, k: usize, name: u8) -> usize
 }
 
 // An item's prefix is whole, and its marker, the k-th event, is none.
-fn explain_mark(document: &[u8], section: &[u8], width: usize, k: usize)
+fn explain_mark(host: &mut Host, document: &[u8], section: &[u8], width: usize, k: usize)
     requires { k ≤ 8000 }
 {
     let enter = event_of(section, width, k);
     let exit = event_of(section, width, k + 1);
     let place = enter.place;
     if place >= document.len() {
-        because(b"the marker is not one byte");
+        because(host, b"the marker is not one byte");
         return;
     }
     if exit.place != place + 1 {
-        because(b"the marker is not one byte");
+        because(host, b"the marker is not one byte");
         return;
     }
     if known_mark(document[place]) == 0 {
-        because(b"the marker is none of * + - . )");
+        because(host, b"the marker is none of * + - . )");
     }
 }
 
 // An item's prefix, whose enter is the event before the k-th.
-fn explain_prefix(document: &[u8], section: &[u8], width: usize, k: usize)
+fn explain_prefix(host: &mut Host, document: &[u8], section: &[u8], width: usize, k: usize)
     requires { k ≤ 4000 }
 {
     let marker = past_leaf(section, width, k, LIST_ITEM_VALUE);
     if !is_leaf(section, width, marker, LIST_ITEM_MARKER) {
-        because(b"the item's prefix does not begin with a marker, or with a value and a marker");
+        because(
+            host,
+            b"the item's prefix does not begin with a marker, or with a value and a marker",
+        );
         return;
     }
     let end = past_leaf(section, width, marker + 2, SPACE_OR_TAB);
     if !stands(section, width, end, EXIT, LIST_ITEM_PREFIX) {
-        because(b"the item's prefix does not end behind its marker, or behind the spaces there");
+        because(
+            host,
+            b"the item's prefix does not end behind its marker, or behind the spaces there",
+        );
         return;
     }
-    explain_mark(document, section, width, marker);
+    explain_mark(host, document, section, width, marker);
 }
 
 // The item that the k-th event enters.
-fn explain_item(document: &[u8], section: &[u8], width: usize, k: usize)
+fn explain_item(host: &mut Host, document: &[u8], section: &[u8], width: usize, k: usize)
     requires { k ≤ 2048 }
 {
     if is_behind_item(section, width, k) {
-        because(b"the item stands right behind another");
+        because(host, b"the item stands right behind another");
         return;
     }
     let prefix = past_leaf(section, width, k + 1, SPACE_OR_TAB);
     if !stands(section, width, prefix, ENTER, LIST_ITEM_PREFIX) {
-        because(b"the item does not begin with its prefix");
+        because(host, b"the item does not begin with its prefix");
         return;
     }
-    explain_prefix(document, section, width, prefix + 1);
+    explain_prefix(host, document, section, width, prefix + 1);
 }
 
 // What the k-th of so many events enters is refused: by its name it is a run, a heading or an item.
 pub fn explain_shape(
+    host: &mut Host,
     document: &[u8],
     section: &[u8],
     width: usize,
@@ -235,9 +250,9 @@ pub fn explain_shape(
     let event = event_of(section, width, k);
     let name = event.name;
     match name {
-        ATTENTION_SEQUENCE => explain_run(document, section, width, k, options),
-        HEADING => explain_heading(section, width, events, k),
-        LIST_ITEM => explain_item(document, section, width, k),
+        ATTENTION_SEQUENCE => explain_run(host, document, section, width, k, options),
+        HEADING => explain_heading(host, section, width, events, k),
+        LIST_ITEM => explain_item(host, document, section, width, k),
         _ => {}
     }
 }

@@ -6,6 +6,7 @@ use record::limits::{EXIT, LAST_NAME, MAX_DEPTH};
 use terminal::events::{
     carries_partner, complain_event, event_of, innermost_before, open_before, partner_of, place_in,
 };
+use terminal::host::Host;
 use terminal::say::{complain, complain_with};
 
 // Whether one of the k-th event's two bytes that are to be zero is not.
@@ -30,84 +31,84 @@ fn place_before(section: &[u8], width: usize, k: usize) -> usize {
 }
 
 // An exit, the k-th event, and its enter, the one with this number, do not carry each other's number.
-fn explain_partners(section: &[u8], width: usize, k: usize, enter: usize) {
+fn explain_partners(host: &mut Host, section: &[u8], width: usize, k: usize, enter: usize) {
     if !carries_partner(width) {
         return;
     }
     if partner_of(section, width, k) != enter {
-        because(b"its partner number is not that of its enter");
-        complain_which(section, width, enter);
+        because(host, b"its partner number is not that of its enter");
+        complain_which(host, section, width, enter);
         return;
     }
     if partner_of(section, width, enter) != k {
-        because(b"its number is not the partner number of its enter");
-        complain_which(section, width, enter);
+        because(host, b"its number is not the partner number of its enter");
+        complain_which(host, section, width, enter);
     }
 }
 
 // An exit of this name, the k-th event, does not leave the innermost open event, or not as its partner.
-fn explain_exit(section: &[u8], width: usize, k: usize, name: u8) {
+fn explain_exit(host: &mut Host, section: &[u8], width: usize, k: usize, name: u8) {
     let inner = innermost_before(section, width, k);
     if inner == k {
-        because(b"nothing is open that it could leave");
+        because(host, b"nothing is open that it could leave");
         return;
     }
     let event = event_of(section, width, inner);
     if event.name != name {
-        because(b"it does not leave the innermost open event, ");
-        complain_event(section, width, inner);
+        because(host, b"it does not leave the innermost open event, ");
+        complain_event(host, section, width, inner);
         return;
     }
-    explain_partners(section, width, k, inner);
+    explain_partners(host, section, width, k, inner);
 }
 
 // The k-th event is good by itself, and not where it stands.
-fn explain_nesting(section: &[u8], width: usize, k: usize, event: Event) {
+fn explain_nesting(host: &mut Host, section: &[u8], width: usize, k: usize, event: Event) {
     if event.kind == EXIT {
-        explain_exit(section, width, k, event.name);
+        explain_exit(host, section, width, k, event.name);
         return;
     }
     if open_before(section, width, k) == MAX_DEPTH {
-        because(b"it is the 65th open event");
+        because(host, b"it is the 65th open event");
     }
 }
 
 // The k-th event is not sound, in a document of d bytes.
-pub fn explain_event(section: &[u8], width: usize, k: usize, d: usize) {
+pub fn explain_event(host: &mut Host, section: &[u8], width: usize, k: usize, d: usize) {
     if has_spare(section, width, k) {
-        because(b"its third and fourth byte are not both zero");
+        because(host, b"its third and fourth byte are not both zero");
         return;
     }
     let event = event_of(section, width, k);
     if event.kind > EXIT {
-        because(b"its kind is over 1");
+        because(host, b"its kind is over 1");
         return;
     }
     if event.name > LAST_NAME {
-        because(b"its name is over 24");
+        because(host, b"its name is over 24");
         return;
     }
     if event.place > d {
-        because(b"its place is past the document's end");
+        because(host, b"its place is past the document's end");
         return;
     }
     if event.place < place_before(section, width, k) {
-        because(b"its place is before that of the event before");
+        because(host, b"its place is before that of the event before");
         return;
     }
-    explain_nesting(section, width, k, event);
+    explain_nesting(host, section, width, k, event);
 }
 
 // The end of so many events comes too early.
-pub fn explain_end(section: &[u8], width: usize, events: usize) {
+pub fn explain_end(host: &mut Host, section: &[u8], width: usize, events: usize) {
     let open = open_before(section, width, events);
     if open == 0 {
         return;
     }
-    complain_with(b": ", open);
+    complain_with(host, b": ", open);
     if open == 1 {
-        complain(b" event is left open at the end");
+        complain(host, b" event is left open at the end");
     } else {
-        complain(b" events are left open at the end");
+        complain(host, b" events are left open at the end");
     }
 }

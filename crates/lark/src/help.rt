@@ -1,6 +1,6 @@
 // Help and version: the words that ask for them, and what is then said.
 
-use libc::STDOUT_FILENO;
+use terminal::host::{Host, Stream, argument_count, argument_length};
 use terminal::say::write;
 use terminal::words::same;
 
@@ -31,18 +31,18 @@ fn wish_of(word: &[u8]) -> u8 {
 }
 
 // What argument i asks for.
-fn wish_at(i: usize) -> u8 {
+fn wish_at(host: &Host, i: usize) -> u8 {
     let mut word = [0u8; 16];
-    let n = os::arg(i, &mut word);
+    let n = argument_length(host, i, &mut word);
     wish_of(&word[..n])
 }
 
 // What the arguments from a number on ask for: the first that asks for something, wherever it stands before --.
-pub fn wish_from(from: usize) -> u8 {
-    let count = os::arg_count();
+pub fn wish_from(host: &Host, from: usize) -> u8 {
+    let count = argument_count(host);
     let mut i = from;
     while i < count {
-        let wish = wish_at(i);
+        let wish = wish_at(host, i);
         if wish != NOTHING {
             return wish;
         }
@@ -52,14 +52,15 @@ pub fn wish_from(from: usize) -> u8 {
 }
 
 // The version, which the header and the binding have too; whether it was written.
-pub fn say_version() -> bool {
-    write(STDOUT_FILENO, b"lark 0.7.0\n")
+pub fn say_version(host: &mut Host) -> bool {
+    write(host, Stream::Output, b"lark 0.7.0\n")
 }
 
 // All of it, on a descriptor, as it stands on the terminal; whether it was written.
-pub fn say_help(fd: i32) -> bool {
+pub fn say_help(host: &mut Host, stream: Stream) -> bool {
     write(
-        fd,
+        host,
+        stream,
         b"lark: what Ledgerlark makes of a text, a line or a record
 
   lark show [-o N] [--form 2] [TEXT]            the groups that a text's attention runs form, as a tree

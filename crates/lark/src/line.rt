@@ -14,13 +14,14 @@ use record::check::Refusal;
 use record::form::{Handed, form_of, old};
 use record::limits::{HEADING_TEXT, MAX_EVENTS};
 use terminal::events::{event_of, exit_of, first_enter, say_events};
+use terminal::host::Host;
 use terminal::say::{done, end_line, say, say_number, say_range, say_with};
 
 // As many columns as the spaces and tabs of a line can have: 16,384 tabs of four.
 const ALL: usize = 65536;
 
 // What a line is as a heading: its events with the text resolved, none, or a refusal.
-#[derive(Drop)]
+#[derive(Clone, Copy)]
 enum Title {
     Events(usize),
     NotHeading,
@@ -74,157 +75,178 @@ fn find_title(line: &[u8], asked: Asked, section: &mut [u8]) -> Title {
 }
 
 // What is found of the spaces and tabs in front, on a line. All of them are taken, so that none is cut.
-fn say_leading(spaces: Spaces) {
-    say(b"leading spaces and tabs: ");
+fn say_leading(host: &mut Host, spaces: Spaces) {
+    say(host, b"leading spaces and tabs: ");
     match spaces {
         Spaces::Taken { taken, left: _ } => {
-            say_number(taken);
+            say_number(host, taken);
         }
         Spaces::TooFew => {
-            say(b"too few");
+            say(host, b"too few");
         }
         Spaces::Refused(refusal) => {
-            say(b"refused");
+            say(host, b"refused");
         }
     }
-    end_line();
+    end_line(host);
 }
 
 // Where a heading's text stands, and its events.
-fn say_heading(section: &[u8], width: usize, events: usize) {
+fn say_heading(host: &mut Host, section: &[u8], width: usize, events: usize) {
     let k = first_enter(section, width, events, HEADING_TEXT);
     if k < events {
         let event = event_of(section, width, k);
-        say(b"heading: text ");
-        say_range(event.place, exit_of(section, width, events, k));
-        say(b"\nheading: events ");
+        say(host, b"heading: text ");
+        say_range(host, event.place, exit_of(section, width, events, k));
+        say(host, b"\nheading: events ");
     } else {
-        say(b"heading: no text\nheading: events ");
+        say(host, b"heading: no text\nheading: events ");
     }
-    say_events(section, width, events);
+    say_events(host, section, width, events);
 }
 
 // Whether an item is bulleted or ordered, and its mark.
-fn say_kind(kind: Kind) {
+fn say_kind(host: &mut Host, kind: Kind) {
     match kind {
         Kind::Bullet(mark) => {
-            say(b", bullet ");
-            say(&[mark]);
+            say(host, b", bullet ");
+            say(host, &[mark]);
         }
         Kind::Ordered(mark) => {
-            say(b", ordered ");
-            say(&[mark]);
+            say(host, b", ordered ");
+            say(host, &[mark]);
         }
     }
 }
 
 // A container's flag; where it is not set nothing is said.
-fn say_blank(blank: bool) {
+fn say_blank(host: &mut Host, blank: bool) {
     if blank {
-        say(b", blank");
+        say(host, b", blank");
     }
 }
 
 // The bytes taken, and the columns left of a tab; where none is cut nothing is said of that.
-fn say_taken(taken: usize, left: usize) {
-    say_with(b"taken ", taken);
+fn say_taken(host: &mut Host, taken: usize, left: usize) {
+    say_with(host, b"taken ", taken);
     if left != 0 {
-        say_with(b", left ", left);
+        say_with(host, b", left ", left);
     }
 }
 
 // What a list item takes, and its container: the size, the kind and the flag.
-fn say_item(taken: usize, left: usize, container: Container) {
-    say_taken(taken, left);
-    say_with(b", size ", container.size);
+fn say_item(host: &mut Host, taken: usize, left: usize, container: Container) {
+    say_taken(host, taken, left);
+    say_with(host, b", size ", container.size);
     let kind = container.kind;
-    say_kind(kind);
-    say_blank(container.blank);
+    say_kind(host, kind);
+    say_blank(host, container.blank);
 }
 
 // What is found of a list item; whether it was written.
-fn say_start(start: Start) -> bool {
-    say(b"list item: ");
+fn say_start(host: &mut Host, start: Start) -> bool {
+    say(host, b"list item: ");
     match start {
         Start::Item {
             taken,
             left,
             container,
         } => {
-            say_item(taken, left, container);
+            say_item(host, taken, left, container);
         }
         Start::NotItem => {
-            say(b"no");
+            say(host, b"no");
         }
         Start::Refused(refusal) => {
-            say(b"refused");
+            say(host, b"refused");
         }
     }
-    end_line()
+    end_line(host)
 }
 
 // What is found of a further line: what is taken, or no, each with the flag as it then stands; or that it is refused.
-fn say_going(going: Going) {
+fn say_going(host: &mut Host, going: Going) {
     match going {
         Going::Goes {
             taken,
             left,
             container,
         } => {
-            say(b": ");
-            say_taken(taken, left);
-            say_blank(container.blank);
+            say(host, b": ");
+            say_taken(host, taken, left);
+            say_blank(host, container.blank);
         }
         Going::Stops { container } => {
-            say(b": no");
-            say_blank(container.blank);
+            say(host, b": no");
+            say_blank(host, container.blank);
         }
         Going::Refused(refusal) => {
-            say(b": refused");
+            say(host, b": refused");
         }
     }
 }
 
 // What is found of a further line of an item whose size and flag are given; whether it was written. The item's mark does not matter.
-fn read_further(line: &[u8], options: u32, column: usize, size: usize, blank: bool) -> bool {
+fn read_further(
+    host: &mut Host,
+    line: &[u8],
+    options: u32,
+    column: usize,
+    size: usize,
+    blank: bool,
+) -> bool {
     let held = Container {
         kind: Kind::Bullet(b'-'),
         size,
         blank,
     };
-    say_with(b"continuation of size ", size);
-    say_going(continuation(line, options, column, held));
-    end_line()
+    say_with(host, b"continuation of size ", size);
+    say_going(host, continuation(line, options, column, held));
+    end_line(host)
 }
 
 // What the readers find beside a heading. They have nothing to refuse once the heading has answered, since all refuse a line for the same
 // reasons, but for the heading's own.
-fn read_others(line: &[u8], asked: Asked) -> bool {
-    let written = say_start(list_item(line, asked.options, asked.column, asked.interrupting));
+fn read_others(host: &mut Host, line: &[u8], asked: Asked) -> bool {
+    let written = say_start(
+        host,
+        list_item(line, asked.options, asked.column, asked.interrupting),
+    );
     if asked.continuing {
-        return read_further(line, asked.options, asked.column, asked.size, asked.blank);
+        return read_further(
+            host,
+            line,
+            asked.options,
+            asked.column,
+            asked.size,
+            asked.blank,
+        );
     }
     written
 }
 
 // The answer on a line that is not refused.
-fn answer(line: &[u8], asked: Asked, section: &[u8], title: Title) -> u8 {
-    say_leading(space_or_tab(line, asked.options, asked.column, 0, ALL));
+fn answer(host: &mut Host, line: &[u8], asked: Asked, section: &[u8], title: Title) -> u8 {
+    say_leading(
+        host,
+        space_or_tab(line, asked.options, asked.column, 0, ALL),
+    );
     if let Title::Events(events) = title {
         let form = form_of(handed_asked(asked));
-        say_heading(section, form.width, events);
+        say_heading(host, section, form.width, events);
     } else {
-        say(b"heading: no\n");
+        say(host, b"heading: no\n");
     }
-    done(read_others(line, asked))
+    let written = read_others(host, line, asked);
+    done(host, written)
 }
 
 // The answer on any line. The heading comes first: all that can be refused shows there, before a word is written.
-pub fn read_line(line: &[u8], asked: Asked) -> u8 {
+pub fn read_line(host: &mut Host, line: &[u8], asked: Asked) -> u8 {
     let mut section = memory();
     let title = find_title(line, asked, &mut section);
     if let Title::Refused(refusal) = title {
-        return refuse_line(line, refusal);
+        return refuse_line(host, line, refusal);
     }
-    answer(line, asked, &section, title)
+    answer(host, line, asked, &section, title)
 }

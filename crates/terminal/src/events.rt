@@ -3,8 +3,8 @@
 
 ghost use Rattle.std.specs.Prelude.{◌≤◌, length};
 
+use crate::host::{Host, Stream};
 use crate::say::{end_line, say, write, write_number};
-use libc::{STDERR_FILENO, STDOUT_FILENO};
 use record::bytes::u32_at;
 use record::event::{Event, event_at};
 use record::limits::{ENTER, EXIT, MAX_RESULT};
@@ -65,59 +65,59 @@ pub fn partner_of(section: &[u8], width: usize, k: usize) -> usize {
 }
 
 // An event's kind: + for enter, - for exit, and ? for what is neither, which only a record that is refused has.
-fn write_kind(fd: i32, kind: u8) {
+fn write_kind(host: &mut Host, stream: Stream, kind: u8) {
     match kind {
         ENTER => {
-            write(fd, b"+");
+            write(host, stream, b"+");
         }
         EXIT => {
-            write(fd, b"-");
+            write(host, stream, b"-");
         }
         _ => {
-            write(fd, b"?");
+            write(host, stream, b"?");
         }
     }
 }
 
 // The partner's number that the k-th event carries, where it carries one.
-fn write_partner(fd: i32, section: &[u8], width: usize, k: usize) {
+fn write_partner(host: &mut Host, stream: Stream, section: &[u8], width: usize, k: usize) {
     if carries_partner(width) {
-        write(fd, b"/");
-        write_number(fd, partner_of(section, width, k));
+        write(host, stream, b"/");
+        write_number(host, stream, partner_of(section, width, k));
     }
 }
 
-// The k-th event in the notation, on a descriptor.
-fn write_event(fd: i32, section: &[u8], width: usize, k: usize) {
+// The k-th event in the notation, on a stream.
+fn write_event(host: &mut Host, stream: Stream, section: &[u8], width: usize, k: usize) {
     let event = event_of(section, width, k);
-    write_kind(fd, event.kind);
-    write_number(fd, event.name as usize);
-    write(fd, b"@");
-    write_number(fd, event.place);
-    write_partner(fd, section, width, k);
+    write_kind(host, stream, event.kind);
+    write_number(host, stream, event.name as usize);
+    write(host, stream, b"@");
+    write_number(host, stream, event.place);
+    write_partner(host, stream, section, width, k);
 }
 
 // The k-th event, on standard error.
-pub fn complain_event(section: &[u8], width: usize, k: usize) {
-    write_event(STDERR_FILENO, section, width, k);
+pub fn complain_event(host: &mut Host, section: &[u8], width: usize, k: usize) {
+    write_event(host, Stream::Complaints, section, width, k);
 }
 
 // The k-th event, behind a space where it is not the first.
-fn say_event(section: &[u8], width: usize, k: usize) {
+fn say_event(host: &mut Host, section: &[u8], width: usize, k: usize) {
     if k > 0 {
-        say(b" ");
+        say(host, b" ");
     }
-    write_event(STDOUT_FILENO, section, width, k);
+    write_event(host, Stream::Output, section, width, k);
 }
 
 // So many events, on a line; whether it was written.
-pub fn say_events(section: &[u8], width: usize, events: usize) -> bool {
+pub fn say_events(host: &mut Host, section: &[u8], width: usize, events: usize) -> bool {
     let mut k = 0;
     while k < events {
-        say_event(section, width, k);
+        say_event(host, section, width, k);
         k += 1;
     }
-    end_line()
+    end_line(host)
 }
 
 // How many events are open behind an event, where so many were open before it.

@@ -2,7 +2,10 @@
 //
 // It stands below the crates `asked` and `causes`, and below the program, which has the commands.
 
+#![tactic(auto)]
+
 pub mod events; // a section of events, read and said
+pub mod host; // the arguments and the streams
 pub mod marker; // the bytes of runs
 pub mod names; // the words for the names of events
 pub mod notation; // an event in words

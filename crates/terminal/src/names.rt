@@ -2,6 +2,7 @@
 
 ghost use Rattle.std.specs.Prelude.{◌≤◌, length};
 
+use crate::host::Host;
 use crate::number::Number;
 use crate::say::say;
 use crate::words::{copy_in, same_letters, word_end, word_start};
@@ -88,8 +89,8 @@ pub fn named(word: &[u8]) -> Number {
 }
 
 // The word for a name, on standard output.
-pub fn say_word(name: u8) {
+pub fn say_word(host: &mut Host, name: u8) {
     let mut buffer = [0u8; LONGEST];
     let n = put_word(name, &mut buffer);
-    say(&buffer[0..n]);
+    say(host, &buffer[0..n]);
 }

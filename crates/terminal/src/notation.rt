@@ -8,7 +8,7 @@ use record::event::Event;
 use record::limits::{ENTER, EXIT};
 
 // A word that is to be an event: it is one, one with a number that does not fit its field, or none.
-#[derive(Drop)]
+#[derive(Clone, Copy)]
 pub enum Noted {
     Is(Event),
     Large,

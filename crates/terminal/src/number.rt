@@ -4,7 +4,7 @@
 pub const LARGEST: u32 = 4294967295;
 
 // A word that is to be a number: it is one, one that is larger than the largest, or none.
-#[derive(Drop)]
+#[derive(Clone, Copy)]
 pub enum Number {
     Is(u32),
     Large,

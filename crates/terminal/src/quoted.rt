@@ -5,9 +5,9 @@
 
 ghost use Rattle.std.specs.Prelude.{◌+◌, ◌≤◌, ◌<◌, length};
 
+use crate::host::{Host, Stream};
 use crate::say::{say, write, write_byte};
 use crate::style::{begin_styles, end_styles};
-use libc::STDOUT_FILENO;
 
 // Whether a byte of ASCII is said as it stands: no control byte, no quote and no backslash.
 fn is_plain(byte: u8) -> bool {
@@ -120,55 +120,55 @@ fn plain_end(text: &[u8], at: usize) -> usize
     i
 }
 
-// A byte that is not said as it stands, on a descriptor.
-fn put_odd(fd: i32, byte: u8) {
+// A byte that is not said as it stands, on a stream.
+fn put_odd(host: &mut Host, stream: Stream, byte: u8) {
     match byte {
         b'\n' => {
-            write(fd, b"\\n");
+            write(host, stream, b"\\n");
         }
         b'\t' => {
-            write(fd, b"\\t");
+            write(host, stream, b"\\t");
         }
         b'"' => {
-            write(fd, b"\\\"");
+            write(host, stream, b"\\\"");
         }
         b'\\' => {
-            write(fd, b"\\\\");
+            write(host, stream, b"\\\\");
         }
         _ => {
-            write(fd, b"\\x");
-            write_byte(fd, byte);
+            write(host, stream, b"\\x");
+            write_byte(host, stream, byte);
         }
     }
 }
 
 // The bytes from a place on up to one that is not said as it stands, and that one; the place behind.
-fn put_piece(fd: i32, text: &[u8], at: usize) -> usize
+fn put_piece(host: &mut Host, stream: Stream, text: &[u8], at: usize) -> usize
     requires { at < length text.now }
     ensures { (at < result) × (result ≤ length text.now) }
 {
     let end = plain_end(text, at);
-    write(fd, &text[at..end]);
+    write(host, stream, &text[at..end]);
     if end == text.len() {
         return end;
     }
-    put_odd(fd, text[end]);
+    put_odd(host, stream, text[end]);
     end + 1
 }
 
-// A text without quotes round it, on a descriptor.
-pub fn put_escaped(fd: i32, text: &[u8]) {
+// A text without quotes round it, on a stream.
+pub fn put_escaped(host: &mut Host, stream: Stream, text: &[u8]) {
     let mut at = 0;
     while at < text.len() {
-        at = put_piece(fd, text, at);
+        at = put_piece(host, stream, text, at);
     }
 }
 
 // A text between quotes, on standard output, in a sum of styles.
-pub fn say_quoted(text: &[u8], styles: u8) {
-    say(b"\"");
-    begin_styles(styles);
-    put_escaped(STDOUT_FILENO, text);
-    end_styles(styles);
-    say(b"\"");
+pub fn say_quoted(host: &mut Host, text: &[u8], styles: u8) {
+    say(host, b"\"");
+    begin_styles(host, styles);
+    put_escaped(host, Stream::Output, text);
+    end_styles(host, styles);
+    say(host, b"\"");
 }

@@ -1,10 +1,12 @@
 // Words on standard output and on standard error, and the statuses that a command leaves with.
 //
-// `say` answers whether its words were written. A command asks that of its last words alone: where words could not be written their descriptor is
+// `say` answers whether its words were written. A command asks that of its last words alone: where words could not be written their stream is
 // closed, so that those fail too. An output that does not block could take them otherwise, with a gap before them.
 
+use crate::host::{Host, Stream, argument, close_for, is_closed};
 use crate::quoted::put_escaped;
-use libc::{STDERR_FILENO, STDOUT_FILENO};
+use std::fmt::{Display, InlineText};
+use std::io;
 
 pub const ANSWERED: u8 = 0;
 
@@ -13,127 +15,159 @@ pub const REFUSED: u8 = 1;
 // Bad arguments, or an input or output that fails.
 pub const WRONG: u8 = 2;
 
-// Whether words were written on a descriptor; where they were not it is closed.
-fn or_close(fd: i32, written: bool) -> bool {
-    if !written {
-        libc::close(fd);
+// Whether words were written on a stream; where they were not it is closed.
+fn or_close(host: &mut Host, stream: Stream, written: io::Result<()>) -> bool {
+    match written {
+        Ok(()) => true,
+        Err(error) => {
+            close_for(host, stream, error);
+            false
+        }
     }
-    written
 }
 
-// Words on a descriptor; whether they were written.
-pub fn write(fd: i32, text: &[u8]) -> bool {
-    or_close(fd, io::write_all(fd, text))
+// Words on a stream; whether they were written.
+pub fn write(host: &mut Host, stream: Stream, text: &[u8]) -> bool {
+    if is_closed(host, stream) {
+        return false;
+    }
+    let written = match stream {
+        Stream::Output => host.rt.stdout().write_all(text),
+        Stream::Complaints => host.rt.stderr().write_all(text),
+    };
+    or_close(host, stream, written)
 }
 
-// A number in decimal digits, on a descriptor.
-pub fn write_number(fd: i32, n: usize) {
-    or_close(fd, io::print_decimal(fd, n as u64));
+// What a value is printed as, on a stream.
+fn write_value<D: Display + Drop>(host: &mut Host, stream: Stream, value: D) {
+    if is_closed(host, stream) {
+        return;
+    }
+    let written = match stream {
+        Stream::Output => host.rt.stdout().print(value),
+        Stream::Complaints => host.rt.stderr().print(value),
+    };
+    or_close(host, stream, written);
 }
 
-// A byte as two hexadecimal digits, on a descriptor.
-pub fn write_byte(fd: i32, byte: u8) {
-    or_close(fd, io::print_hex(fd, byte as u64, 2));
+// A number in decimal digits, on a stream.
+pub fn write_number(host: &mut Host, stream: Stream, n: usize) {
+    write_value(host, stream, n);
+}
+
+// A byte as two hexadecimal digits, on a stream.
+pub fn write_byte(host: &mut Host, stream: Stream, byte: u8) {
+    write_value(host, stream, format_args!("{byte:02x}"));
 }
 
 // Words on standard output; whether they were written.
-pub fn say(text: &[u8]) -> bool {
-    write(STDOUT_FILENO, text)
+pub fn say(host: &mut Host, text: &[u8]) -> bool {
+    write(host, Stream::Output, text)
 }
 
 // A number in decimal digits.
-pub fn say_number(n: usize) {
-    write_number(STDOUT_FILENO, n);
+pub fn say_number(host: &mut Host, n: usize) {
+    write_number(host, Stream::Output, n);
 }
 
 // A line feed; whether it was written.
-pub fn end_line() -> bool {
-    say(b"\n")
+pub fn end_line(host: &mut Host) -> bool {
+    say(host, b"\n")
 }
 
 // Words and a number.
-pub fn say_with(text: &[u8], n: usize) {
-    say(text);
-    say_number(n);
+pub fn say_with(host: &mut Host, text: &[u8], n: usize) {
+    say(host, text);
+    say_number(host, n);
 }
 
 // Words on standard error.
-pub fn complain(text: &[u8]) {
-    write(STDERR_FILENO, text);
+pub fn complain(host: &mut Host, text: &[u8]) {
+    write(host, Stream::Complaints, text);
 }
 
 // Words and a number, on standard error.
-pub fn complain_with(text: &[u8], n: usize) {
-    complain(text);
-    write_number(STDERR_FILENO, n);
+pub fn complain_with(host: &mut Host, text: &[u8], n: usize) {
+    complain(host, text);
+    write_number(host, Stream::Complaints, n);
 }
 
 // The status of a command whose last words were written, or were not.
-pub fn done(written: bool) -> u8 {
+pub fn done(host: &mut Host, written: bool) -> u8 {
     if written {
         return ANSWERED;
     }
-    complain(b"lark: standard output cannot be written\n");
+    complain(host, b"lark: standard output cannot be written\n");
     WRONG
 }
 
 // What is wrong, in a line.
-pub fn wrong(what: &[u8]) -> u8 {
-    complain(b"lark: ");
-    complain(what);
-    complain(b"; see lark help\n");
+pub fn wrong(host: &mut Host, what: &[u8]) -> u8 {
+    complain(host, b"lark: ");
+    complain(host, what);
+    complain(host, b"; see lark help\n");
     WRONG
 }
 
 // A word of the user's, escaped as a text is, or two quotes for one that is empty.
-fn complain_word(word: &[u8]) {
+fn complain_word(host: &mut Host, word: &[u8]) {
     if word.len() == 0 {
-        complain(b"''");
+        complain(host, b"''");
         return;
     }
-    put_escaped(STDERR_FILENO, word);
+    put_escaped(host, Stream::Complaints, word);
 }
 
 // Such a word; of a long one the beginning.
-fn complain_beginning(word: &[u8]) {
+fn complain_beginning(host: &mut Host, word: &[u8]) {
     if word.len() > 40 {
-        complain_word(&word[0..40]);
-        complain(b"..");
+        complain_word(host, &word[0..40]);
+        complain(host, b"..");
         return;
     }
-    complain_word(word);
+    complain_word(host, word);
 }
 
 // What is wrong with a word, in a line.
-pub fn blame_word(what: &[u8], word: &[u8]) -> u8 {
-    complain(b"lark: ");
-    complain(what);
-    complain(b": ");
-    complain_beginning(word);
-    complain(b"; see lark help\n");
+pub fn blame_word(host: &mut Host, what: &[u8], word: &[u8]) -> u8 {
+    complain(host, b"lark: ");
+    complain(host, what);
+    complain(host, b": ");
+    complain_beginning(host, word);
+    complain(host, b"; see lark help\n");
     WRONG
 }
 
 // What is wrong with argument i, in a line. One that does not fit here is longer than what is said of it.
-pub fn blame(what: &[u8], i: usize) -> u8 {
+pub fn blame(host: &mut Host, what: &[u8], i: usize) -> u8 {
     let mut word = [0u8; 41];
-    let n = os::arg(i, &mut word);
-    if os::errno() == 0 {
-        return blame_word(what, &word[..n]);
+    match argument(host, i, &mut word) {
+        Some(n) => blame_word(host, what, &word[..n]),
+        None => blame_word(host, what, &word),
     }
-    blame_word(what, &word)
+}
+
+// The system's words for an error. The number of the error, which `std` prints behind them, is left out.
+fn complain_reason(host: &mut Host, error: io::Error) {
+    let text = InlineText::<128>::of(error);
+    match text.as_str().split_once(" (os error ") {
+        Some((reason, _)) => complain(host, reason.as_bytes()),
+        None => complain(host, text.as_str().as_bytes()),
+    }
 }
 
 // What failed, as a file's name or other words, in a line that ends with the system's reason.
-pub fn fail(what: &[u8]) -> u8 {
-    complain(b"lark: ");
-    complain_word(what);
-    os::fail(b"");
+pub fn fail(host: &mut Host, what: &[u8], error: io::Error) -> u8 {
+    complain(host, b"lark: ");
+    complain_word(host, what);
+    complain(host, b": ");
+    complain_reason(host, error);
+    complain(host, b"\n");
     WRONG
 }
 
 // From one place up to another.
-pub fn say_range(from: usize, to: usize) {
-    say_number(from);
-    say_with(b"..", to);
+pub fn say_range(host: &mut Host, from: usize, to: usize) {
+    say_number(host, from);
+    say_with(host, b"..", to);
 }

@@ -4,6 +4,7 @@
 ghost use Rattle.std.specs.Prelude.{◌≤◌, ◌<◌};
 
 use crate::events::{event_of, exit_of};
+use crate::host::Host;
 use crate::names::say_word;
 use crate::quoted::say_quoted;
 use crate::say::{end_line, say, say_range};
@@ -12,23 +13,23 @@ use record::event::Event;
 use record::limits::{DATA, EMPHASIS, ENTER, MAX_RESULT, STRIKETHROUGH, STRONG};
 
 // Two spaces for a level, or for sixteen at once, since each call of `say` is a call of the system; how many levels are left.
-fn say_levels(left: usize) -> usize
+fn say_levels(host: &mut Host, left: usize) -> usize
     requires { 0 < left }
     ensures { result < left }
 {
     if left >= 16 {
-        say(b"                                ");
+        say(host, b"                                ");
         return left - 16;
     }
-    say(b"  ");
+    say(host, b"  ");
     left - 1
 }
 
 // The spaces in front of a line: two for each group that is open.
-fn say_indent(depth: usize) {
+fn say_indent(host: &mut Host, depth: usize) {
     let mut left = depth;
     while left > 0 {
-        left = say_levels(left);
+        left = say_levels(host, left);
     }
 }
 
@@ -52,29 +53,29 @@ fn is_shown(name: u8) -> bool {
 }
 
 // What a group or data is called, and a space. Strikethrough goes without the Gfm of its name.
-fn say_name(name: u8) {
+fn say_name(host: &mut Host, name: u8) {
     if name == STRIKETHROUGH {
-        say(b"Strikethrough ");
+        say(host, b"Strikethrough ");
         return;
     }
-    say_word(name);
-    say(b" ");
+    say_word(host, name);
+    say(host, b" ");
 }
 
 // The bytes of the text from a place up to another, in a sum of styles.
-fn say_part(text: &[u8], from: usize, to: usize, styles: u8) {
+fn say_part(host: &mut Host, text: &[u8], from: usize, to: usize, styles: u8) {
     if from > to {
         return;
     }
     if to > text.len() {
         return;
     }
-    say(b" ");
-    say_quoted(&text[from..to], styles);
+    say(host, b" ");
+    say_quoted(host, &text[from..to], styles);
 }
 
 // How many groups are open: of all three kinds, and of each.
-#[derive(Drop)]
+#[derive(Clone, Copy)]
 struct Open {
     all: usize,
     emphasis: usize,
@@ -101,14 +102,14 @@ fn styles_of(open: Open, styled: bool) -> u8 {
 }
 
 // The line of a group or of data.
-fn say_node(text: &[u8], event: Event, to: usize, open: Open, styled: bool) {
-    say_indent(open.all);
-    say_name(event.name);
-    say_range(event.place, to);
+fn say_node(host: &mut Host, text: &[u8], event: Event, to: usize, open: Open, styled: bool) {
+    say_indent(host, open.all);
+    say_name(host, event.name);
+    say_range(host, event.place, to);
     if event.name == DATA {
-        say_part(text, event.place, to, styles_of(open, styled));
+        say_part(host, text, event.place, to, styles_of(open, styled));
     }
-    end_line();
+    end_line(host);
 }
 
 // How many groups are open behind an event of one of them.
@@ -145,6 +146,7 @@ fn open_behind(event: Event, open: Open) -> Open {
 
 // What the k-th event says, with these groups open; those that are open behind it.
 fn step(
+    host: &mut Host,
     text: &[u8],
     section: &[u8],
     width: usize,
@@ -157,6 +159,7 @@ fn step(
     if event.kind == ENTER {
         if is_shown(event.name) {
             say_node(
+                host,
                 text,
                 event,
                 exit_of(section, width, events, k),
@@ -169,7 +172,14 @@ fn step(
 }
 
 // All of a section of so many events, each of `width` bytes, with or without styles.
-pub fn say_tree(text: &[u8], section: &[u8], width: usize, events: usize, styled: bool) {
+pub fn say_tree(
+    host: &mut Host,
+    text: &[u8],
+    section: &[u8],
+    width: usize,
+    events: usize,
+    styled: bool,
+) {
     let mut open = Open {
         all: 0,
         emphasis: 0,
@@ -178,7 +188,7 @@ pub fn say_tree(text: &[u8], section: &[u8], width: usize, events: usize, styled
     };
     let mut k = 0;
     while k < events {
-        open = step(text, section, width, events, k, open, styled);
+        open = step(host, text, section, width, events, k, open, styled);
         k += 1;
     }
 }

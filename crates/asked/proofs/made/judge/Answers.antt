@@ -1,0 +1,8 @@
+-- `asked::made::judge` is safe: what the check finds good is sound, as `put_good` asks.
+use mathlib.Core.Path.{sym, ◌∙◌}
+use borrow.Author.Rules.{rules}
+use Rattle.asked.proofs.Lent.{judged}
+use Rattle.asked.proofs.made.judge.Goals as goal
+
+pub put_good-requires : goal.put_good-requires
+put_good-requires c = let p = c.requires in let h = judged _ _ _ _ _ p.0 p.2 (sym c.in-Good.is ∙ c.check.ensures) in search rules
