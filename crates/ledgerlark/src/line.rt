@@ -12,7 +12,7 @@ use lines::item::Start;
 use lines::spaces::Spaces;
 
 #[repr(C)]
-#[derive(Drop)]
+#[derive(Clone, Copy)]
 pub struct LarkSpaces {
     pub number: usize,
     pub place: usize,
@@ -22,7 +22,7 @@ pub struct LarkSpaces {
 }
 
 #[repr(C)]
-#[derive(Drop)]
+#[derive(Clone, Copy)]
 pub struct LarkItem {
     pub number: usize,
     pub place: usize,
@@ -35,7 +35,7 @@ pub struct LarkItem {
 }
 
 #[repr(C)]
-#[derive(Drop)]
+#[derive(Clone, Copy)]
 pub struct LarkGoing {
     pub number: usize,
     pub place: usize,
@@ -46,7 +46,7 @@ pub struct LarkGoing {
 }
 
 #[repr(C)]
-#[derive(Drop)]
+#[derive(Clone, Copy)]
 pub struct LarkHeaded {
     pub number: usize,
     pub place: usize,

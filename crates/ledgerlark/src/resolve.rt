@@ -8,7 +8,7 @@ use record::check::Reading;
 use record::form::{Handed, options_of};
 
 #[repr(C)]
-#[derive(Drop)]
+#[derive(Clone, Copy)]
 pub struct LarkReading {
     pub number: usize,
     pub place: usize,
@@ -18,7 +18,7 @@ pub struct LarkReading {
 
 // Of a record in form 2: its options too, which it carries.
 #[repr(C)]
-#[derive(Drop)]
+#[derive(Clone, Copy)]
 pub struct LarkReading2 {
     pub number: usize,
     pub place: usize,
@@ -28,7 +28,7 @@ pub struct LarkReading2 {
 }
 
 #[repr(C)]
-#[derive(Drop)]
+#[derive(Clone, Copy)]
 pub struct LarkResolved {
     pub number: usize,
     pub place: usize,
