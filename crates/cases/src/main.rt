@@ -8,7 +8,11 @@
 // What is expected is written from document 01, and for form 2 from request 5: the table's rows, and the rules for the rest. What the Rust crate
 // answers is compared elsewhere, by `replay` and `oracle/run`.
 
+#![tactic(auto)]
+
+use std::io;
+
 // All that is tried stands in the script.
-fn main() {
-    trial::run();
+fn main(rt: HostRuntime) -> io::Result<()> {
+    trial::run(&rt)
 }

@@ -5,198 +5,217 @@
 // output's length and 0; and the line's bytes in the notation of the crate `script`. `-` for a number is the largest there is. A line that begins
 // with a space is passed over. The output is filled with 0xa5 before each call and looked at whole after it.
 
+#![tactic(auto)]
+
 ghost use Rattle.std.specs.Prelude.{◌≤◌, length};
 
 use atx::{Headed, heading};
-use libc::STDOUT_FILENO;
 use lines::container::{Container, Kind};
 use lines::going::{Going, continuation};
 use lines::item::{Start, list_item};
 use lines::spaces::{Spaces, space_or_tab};
 use record::check::Refusal;
 use record::event::event_at;
+use std::io;
+use std::io::Read;
 
 // Words on standard output.
-fn say(text: &[u8]) {
-    io::write_all(STDOUT_FILENO, text);
+fn say(rt: &impl Print, text: &[u8]) -> io::Result<()> {
+    rt.write_all(text)
 }
 
 // A number in decimal digits.
-fn say_number(n: usize) {
-    io::print_decimal(STDOUT_FILENO, n as u64);
+fn say_number(rt: &impl Print, n: usize) -> io::Result<()> {
+    rt.print(n)
 }
 
 // A refusal by its number and place.
-fn say_refusal(refusal: Refusal) {
-    say(b"refused ");
-    say_number(refusal.number);
-    say(b" at ");
-    say_number(refusal.place);
+fn say_refusal(rt: &impl Print, refusal: Refusal) -> io::Result<()> {
+    say(rt, b"refused ")?;
+    say_number(rt, refusal.number)?;
+    say(rt, b" at ")?;
+    say_number(rt, refusal.place)
 }
 
 // A container's flag, as 1 or 0.
-fn say_flag(blank: bool) {
+fn say_flag(rt: &impl Print, blank: bool) -> io::Result<()> {
     if blank {
-        say(b", flag 1");
+        say(rt, b", flag 1")
     } else {
-        say(b", flag 0");
+        say(rt, b", flag 0")
     }
 }
 
 // The bytes taken, and the columns left of a cut tab.
-fn say_taken(taken: usize, left: usize) {
-    say(b"taken ");
-    say_number(taken);
-    say(b", left ");
-    say_number(left);
+fn say_taken(rt: &impl Print, taken: usize, left: usize) -> io::Result<()> {
+    say(rt, b"taken ")?;
+    say_number(rt, taken)?;
+    say(rt, b", left ")?;
+    say_number(rt, left)
 }
 
 // What space-or-tab found: what it took, that there are too few, or a refusal.
-fn say_spaces(found: Spaces) {
+fn say_spaces(rt: &impl Print, found: Spaces) -> io::Result<()> {
     match found {
-        Spaces::Taken { taken, left } => say_taken(taken, left),
-        Spaces::TooFew => say(b"too few"),
-        Spaces::Refused(refusal) => say_refusal(refusal),
+        Spaces::Taken { taken, left } => say_taken(rt, taken, left),
+        Spaces::TooFew => say(rt, b"too few"),
+        Spaces::Refused(refusal) => say_refusal(rt, refusal),
     }
 }
 
 // Whether an item is bulleted or ordered, and its mark as the number of a byte.
-fn say_kind(kind: Kind) {
+fn say_kind(rt: &impl Print, kind: Kind) -> io::Result<()> {
     match kind {
         Kind::Bullet(mark) => {
-            say(b", bullet ");
-            say_number(mark as usize);
+            say(rt, b", bullet ")?;
+            say_number(rt, mark as usize)
         }
         Kind::Ordered(mark) => {
-            say(b", ordered ");
-            say_number(mark as usize);
+            say(rt, b", ordered ")?;
+            say_number(rt, mark as usize)
         }
     }
 }
 
 // What list item start found: what it took and the container that opens, no list item, or a refusal.
-fn say_start(found: Start) {
+fn say_start(rt: &impl Print, found: Start) -> io::Result<()> {
     match found {
         Start::Item {
             taken,
             left,
             container,
         } => {
-            say(b"item, ");
-            say_taken(taken, left);
-            say(b", size ");
-            say_number(container.size);
-            say_flag(container.blank);
+            say(rt, b"item, ")?;
+            say_taken(rt, taken, left)?;
+            say(rt, b", size ")?;
+            say_number(rt, container.size)?;
+            say_flag(rt, container.blank)?;
             let kind = container.kind;
-            say_kind(kind);
+            say_kind(rt, kind)
         }
-        Start::NotItem => say(b"not a list item"),
-        Start::Refused(refusal) => say_refusal(refusal),
+        Start::NotItem => say(rt, b"not a list item"),
+        Start::Refused(refusal) => say_refusal(rt, refusal),
     }
 }
 
 // What continuation found: what it took, or no continuation, each with the flag as it then stands; or a refusal.
-fn say_going(found: Going) {
+fn say_going(rt: &impl Print, found: Going) -> io::Result<()> {
     match found {
         Going::Goes {
             taken,
             left,
             container,
         } => {
-            say(b"goes on, ");
-            say_taken(taken, left);
-            say_flag(container.blank);
+            say(rt, b"goes on, ")?;
+            say_taken(rt, taken, left)?;
+            say_flag(rt, container.blank)
         }
         Going::Stops { container } => {
-            say(b"not a continuation");
-            say_flag(container.blank);
+            say(rt, b"not a continuation")?;
+            say_flag(rt, container.blank)
         }
-        Going::Refused(refusal) => say_refusal(refusal),
+        Going::Refused(refusal) => say_refusal(rt, refusal),
     }
 }
 
 // The events of a section, `+` for enter and `-` for exit.
-fn say_events(out: &[u8], events: usize) {
+fn say_events(rt: &impl Print, out: &[u8], events: usize) -> io::Result<()> {
     let mut at = 4;
     let mut left = events;
     while left > 0 {
         if out.len() < at {
-            return;
+            return Ok(());
         }
         if out.len() - at < 8 {
-            return;
+            return Ok(());
         }
         let event = event_at(out, at);
         if event.kind == 0 {
-            say(b" +");
+            say(rt, b" +")?;
         } else {
-            say(b" -");
+            say(rt, b" -")?;
         }
-        say_number(event.name as usize);
-        say(b"@");
-        say_number(event.place);
+        say_number(rt, event.name as usize)?;
+        say(rt, b"@")?;
+        say_number(rt, event.place)?;
         at += 8;
         left -= 1;
     }
+    Ok(())
 }
 
 // Whether the output is as it was from a place on.
-fn say_kept(out: &[u8], from: usize) {
+fn say_kept(rt: &impl Print, out: &[u8], from: usize) -> io::Result<()> {
     if from > out.len() {
-        return;
+        return Ok(());
     }
     if script::run_of(out, from, 0xa5) < out.len() {
-        say(b", MORE of the output changed");
-        return;
+        return say(rt, b", MORE of the output changed");
     }
-    say(b", the rest kept");
+    say(rt, b", the rest kept")
 }
 
 // At most twelve events are shown one by one.
-fn say_headed(found: Headed, out: &[u8]) {
+fn say_headed(rt: &impl Print, found: Headed, out: &[u8]) -> io::Result<()> {
     match found {
         Headed::Heading { events } => {
-            say(b"heading, events ");
-            say_number(events);
+            say(rt, b"heading, events ")?;
+            say_number(rt, events)?;
             if events <= 8000 {
                 if events <= 12 {
-                    say_events(out, events);
+                    say_events(rt, out, events)?;
                 }
-                say_kept(out, 4 + 8 * events);
+                say_kept(rt, out, 4 + 8 * events)?;
             }
+            Ok(())
         }
         Headed::NotHeading => {
-            say(b"not a heading");
-            say_kept(out, 0);
+            say(rt, b"not a heading")?;
+            say_kept(rt, out, 0)
         }
         Headed::Refused(refusal) => {
-            say_refusal(refusal);
-            say_kept(out, 0);
+            say_refusal(rt, refusal)?;
+            say_kept(rt, out, 0)
         }
     }
 }
 
 // The heading reader, lent so many bytes of the output. A question for more than there are is not asked.
-fn ask_heading(s: &[u8], options: u32, column: usize, out: &mut [u8], lent: usize) {
+fn ask_heading(
+    rt: &impl Print,
+    s: &[u8],
+    options: u32,
+    column: usize,
+    out: &mut [u8],
+    lent: usize,
+) -> io::Result<()> {
     if lent > out.len() {
-        return;
+        return Ok(());
     }
     script::flood(out, 0xa5);
     let found = heading(s, options, column, &mut out[0..lent]);
-    say_headed(found, out);
+    say_headed(rt, found, out)
 }
 
 // The reader that a letter stands for, with what it takes of the two numbers; of any other letter nothing is said.
-fn ask(s: &[u8], reader: u8, options: u32, column: usize, a: usize, b: usize, out: &mut [u8]) {
+fn ask(
+    rt: &impl Print,
+    s: &[u8],
+    reader: u8,
+    options: u32,
+    column: usize,
+    a: usize,
+    b: usize,
+    out: &mut [u8],
+) -> io::Result<()> {
     if reader == b'h' {
-        ask_heading(s, options, column, out, a);
-        return;
+        return ask_heading(rt, s, options, column, out, a);
     }
     if reader == b's' {
-        say_spaces(space_or_tab(s, options, column, a, b));
+        return say_spaces(rt, space_or_tab(s, options, column, a, b));
     }
     if reader == b'i' {
-        say_start(list_item(s, options, column, a == 1));
+        return say_start(rt, list_item(s, options, column, a == 1));
     }
     if reader == b'c' {
         let held = Container {
@@ -204,8 +223,9 @@ fn ask(s: &[u8], reader: u8, options: u32, column: usize, a: usize, b: usize, ou
             size: a,
             blank: b == 1,
         };
-        say_going(continuation(s, options, column, held));
+        return say_going(rt, continuation(s, options, column, held));
     }
+    Ok(())
 }
 
 // A number of the script; `-` is the largest.
@@ -221,16 +241,16 @@ fn number(s: &[u8], at: usize) -> usize
 }
 
 // One line of the script.
-fn line(s: &[u8], bytes: &mut [u8], out: &mut [u8]) {
+fn line(rt: &impl Print, s: &[u8], bytes: &mut [u8], out: &mut [u8]) -> io::Result<()> {
     let first = script::find(s, 0, b' ');
     if first == 0 {
-        return;
+        return Ok(());
     }
-    say(&s[0..first]);
-    say(b": ");
+    say(rt, &s[0..first])?;
+    say(rt, b": ")?;
     let reader = script::skip(s, first);
     if reader == s.len() {
-        return;
+        return Ok(());
     }
     let second = script::find(s, reader, b' ');
     let options = script::skip(s, second);
@@ -243,6 +263,7 @@ fn line(s: &[u8], bytes: &mut [u8], out: &mut [u8]) {
     let sixth = script::find(s, b, b' ');
     let n = script::spell(s, sixth, bytes);
     ask(
+        rt,
         &bytes[0..n],
         s[reader],
         (script::number(s, options) % 4294967296) as u32,
@@ -250,28 +271,29 @@ fn line(s: &[u8], bytes: &mut [u8], out: &mut [u8]) {
         number(s, a),
         number(s, b),
         out,
-    );
-    say(b"\n");
+    )?;
+    say(rt, b"\n")
 }
 
 // All lines of the script, with one buffer for the bytes that they spell and one for the output.
-fn run(text: &[u8]) {
+fn run(rt: &impl Print, text: &[u8]) -> io::Result<()> {
     let mut bytes = [0u8; 32768];
     let mut out = [0u8; 65536];
     let mut i = 0;
     while i < text.len() {
         let end = script::find(text, i, 10);
-        line(&text[i..end], &mut bytes, &mut out);
+        line(rt, &text[i..end], &mut bytes, &mut out)?;
         if end == text.len() {
-            return;
+            return Ok(());
         }
         i = end + 1;
     }
+    Ok(())
 }
 
-// The script on standard input, as much of it as the buffer has room for.
-fn main() {
-    let mut buffer = io::large_buffer();
-    let n = io::read_full(0, &mut buffer);
-    run(&buffer[..n]);
+// The script on standard input, up to 65,536 bytes of it.
+fn main(rt: HostRuntime) -> io::Result<()> {
+    let mut text = Vec::new(rt.alloc());
+    rt.reader().take(65536).read_to_end(&mut text)?;
+    run(&rt, &text)
 }

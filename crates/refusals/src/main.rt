@@ -4,7 +4,11 @@
 //
 // What is expected is written from that table, and from what request 5 adds to it.
 
+#![tactic(auto)]
+
+use std::io;
+
 // All that is tried stands in the script.
-fn main() {
-    trial::run();
+fn main(rt: HostRuntime) -> io::Result<()> {
+    trial::run(&rt)
 }

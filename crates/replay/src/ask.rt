@@ -16,7 +16,7 @@ use record::check::Refusal;
 use record::form::Handed;
 
 // What we answer.
-#[derive(Drop)]
+#[derive(Clone, Copy)]
 pub enum Reply {
     Answer(Numbers),
     Refused(Refusal),

@@ -16,7 +16,7 @@ pub fn filled(byte: u8) -> [u8; ROOM] {
 }
 
 // What the comparison shows.
-#[derive(Drop)]
+#[derive(Clone, Copy)]
 pub enum Verdict {
     Agrees,
     // We refuse; no answer on the list is a refusal.

@@ -12,10 +12,12 @@
 //
 // An entry that no answer can stand in is ill-formed: the file is then not a list of answers, and says nothing of our calls.
 
-ghost use Rattle.std.specs.Prelude.{◌<◌, ◌≤◌, length};
+ghost use Rattle.std.specs.Prelude.{◌<◌, ◌≤◌, length, IfOk};
 
 use record::bytes::u32_at;
 use record::limits::MAX_RESULT;
+use std::io;
+use std::io::Read;
 
 pub const ATTENTION: usize = 0;
 
@@ -35,7 +37,7 @@ pub const HEADING: usize = 6;
 pub const CALLS: usize = 7;
 
 // What is asked.
-#[derive(Drop)]
+#[derive(Clone, Copy)]
 pub struct Question {
     pub call: usize,
     pub options: u32,
@@ -46,7 +48,7 @@ pub struct Question {
 }
 
 // An answer, the crate's or ours: its five numbers, and the length of the section.
-#[derive(Drop)]
+#[derive(Clone, Copy)]
 pub struct Numbers {
     pub first: usize,
     pub second: usize,
@@ -57,7 +59,7 @@ pub struct Numbers {
 }
 
 // What stands where an entry may begin.
-#[derive(Drop)]
+#[derive(Clone, Copy)]
 pub enum Begun {
     Question(Question),
     End,
@@ -65,7 +67,7 @@ pub enum Begun {
 }
 
 // What stands behind a question and its bytes.
-#[derive(Drop)]
+#[derive(Clone, Copy)]
 pub enum Told {
     Answer(Numbers),
     Ill,
@@ -126,10 +128,25 @@ fn is_answer(call: usize, told: Numbers) -> bool {
     told.section == 0
 }
 
+// The next bytes of the file, to the front of a buffer, until that is full or the file ends; how many there were.
+fn read_full(list: &mut impl Read, buffer: &mut [u8]) -> io::Result<usize>
+    ensures { IfOk result (λ got. got ≤ length buffer.new) }
+{
+    let mut got = 0;
+    while got < buffer.len() {
+        let more = list.read(&mut buffer[got..])?;
+        if more == 0 {
+            return Ok(got);
+        }
+        got += more;
+    }
+    Ok(got)
+}
+
 // Whether the file ends here. A read that fails is no end.
-fn is_end(fd: i32) -> bool {
+fn is_end(list: &mut impl Read) -> io::Result<bool> {
     let mut byte = [0u8; 1];
-    libc::read(fd, &mut byte) == 0
+    Ok(list.read(&mut byte)? == 0)
 }
 
 // Six numbers, which are an answer's or a question's.
@@ -161,45 +178,45 @@ fn question_of(six: Numbers) -> Question
 }
 
 // The six numbers with which an entry begins, or the end of the list.
-pub fn read_begin(fd: i32) -> Begun {
+pub fn read_begin(list: &mut impl Read) -> io::Result<Begun> {
     let mut bytes = [0u8; 24];
-    let got = io::read_full(fd, &mut bytes);
+    let got = read_full(list, &mut bytes)?;
     if got == 0 {
-        if is_end(fd) {
-            return Begun::End;
+        if is_end(list)? {
+            return Ok(Begun::End);
         }
-        return Begun::Ill;
+        return Ok(Begun::Ill);
     }
     if got < 24 {
-        return Begun::Ill;
+        return Ok(Begun::Ill);
     }
     let question = question_of(numbers_in(&bytes));
     if !is_question(question) {
-        return Begun::Ill;
+        return Ok(Begun::Ill);
     }
-    Begun::Question(question)
+    Ok(Begun::Question(question))
 }
 
 // The six numbers of the crate's answer.
-pub fn read_told(fd: i32, call: usize) -> Told {
+pub fn read_told(list: &mut impl Read, call: usize) -> io::Result<Told> {
     let mut bytes = [0u8; 24];
-    let got = io::read_full(fd, &mut bytes);
+    let got = read_full(list, &mut bytes)?;
     if got < 24 {
-        return Told::Ill;
+        return Ok(Told::Ill);
     }
     let told = numbers_in(&bytes);
     if !is_answer(call, told) {
-        return Told::Ill;
+        return Ok(Told::Ill);
     }
-    Told::Answer(told)
+    Ok(Told::Answer(told))
 }
 
 // The next n bytes of the file, to the front of a buffer; how many there were, and none where n do not fit.
-pub fn read_bytes(fd: i32, buffer: &mut [u8], n: usize) -> usize
-    ensures { result ≤ length buffer.new }
+pub fn read_bytes(list: &mut impl Read, buffer: &mut [u8], n: usize) -> io::Result<usize>
+    ensures { IfOk result (λ got. got ≤ length buffer.new) }
 {
     if n > buffer.len() {
-        return 0;
+        return Ok(0);
     }
-    io::read_full(fd, &mut buffer[0..n])
+    read_full(list, &mut buffer[0..n])
 }

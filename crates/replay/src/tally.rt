@@ -1,9 +1,8 @@
 // How many entries there were of each call, and how many differ.
 
 use crate::entry::CALLS;
-use std::num::wrapping_add_usize;
 
-#[derive(Drop)]
+#[derive(Clone, Copy)]
 pub struct Tally {
     pub of: [usize; CALLS],
     pub differ: usize,
@@ -22,14 +21,14 @@ impl Tally {
     // One entry more of this call.
     pub fn counted(mut self, call: usize) -> Tally {
         if call < CALLS {
-            self.of[call] = wrapping_add_usize(self.of[call], 1);
+            self.of[call] = self.of[call].wrapping_add(1);
         }
         self
     }
 
     // One more that differs.
     pub fn differing(mut self) -> Tally {
-        self.differ = wrapping_add_usize(self.differ, 1);
+        self.differ = self.differ.wrapping_add(1);
         self
     }
 }

@@ -7,23 +7,24 @@ use crate::calls::call_by;
 use crate::say::say;
 use crate::section::say_output;
 use record::form::Handed;
+use std::io;
 
 // A number of a line, and the place behind it.
-#[derive(Drop)]
+#[derive(Clone, Copy)]
 struct Number {
     value: usize,
     next: usize,
 }
 
 // How the record is handed over, and the place behind what says so.
-#[derive(Drop)]
+#[derive(Clone, Copy)]
 struct Given {
     handed: Handed,
     next: usize,
 }
 
 // What is asked of a record, and the place where the record begins.
-#[derive(Drop)]
+#[derive(Clone, Copy)]
 struct Question {
     letter: u8,
     handed: Handed,
@@ -117,26 +118,40 @@ fn is_big(label: &[u8]) -> bool {
 }
 
 // The call made on a record, and what came of it. A question for more than the buffers have is not asked.
-fn lend(q: Question, s: &[u8], out: &mut [u8], work: &mut [u8], brief: bool) {
+fn lend(
+    rt: &impl Print,
+    q: Question,
+    s: &[u8],
+    out: &mut [u8],
+    work: &mut [u8],
+    brief: bool,
+) -> io::Result<()> {
     let outs = q.outs;
     let lent = q.lent;
     let handed = q.handed;
     if outs > out.len() {
-        return;
+        return Ok(());
     }
     if lent > work.len() {
-        return;
+        return Ok(());
     }
-    let written = call_by(q.letter, handed, s, &mut out[0..outs], &mut work[0..lent]);
-    say_output(out, handed, written, brief);
-    say_work(work, lent);
+    let written = call_by(
+        rt,
+        q.letter,
+        handed,
+        s,
+        &mut out[0..outs],
+        &mut work[0..lent],
+    )?;
+    say_output(rt, out, handed, written, brief)?;
+    say_work(rt, work, lent)
 }
 
 // The same with buffers for it alone. There is room for the longest section, and for work memory that is longer than a call asks for.
-fn ask(q: Question, s: &[u8], brief: bool) {
+fn ask(rt: &impl Print, q: Question, s: &[u8], brief: bool) -> io::Result<()> {
     let mut out = [FILL; 98304];
     let mut work = [FILL; 131072];
-    lend(q, s, &mut out, &mut work, brief);
+    lend(rt, q, s, &mut out, &mut work, brief)
 }
 
 // The record that is spelled from a place on, in the form that it is handed over in; how many bytes.
@@ -151,24 +166,24 @@ fn spell(handed: Handed, s: &[u8], at: usize, bytes: &mut [u8]) -> usize
 }
 
 // What follows the label, which ends at a place.
-fn answer(s: &[u8], at: usize)
+fn answer(rt: &impl Print, s: &[u8], at: usize) -> io::Result<()>
     requires { at ≤ length s.now }
 {
-    let mut bytes = io::large_buffer();
+    let mut bytes = [0u8; 65536];
     let q = read_question(s, at);
     let handed = q.handed;
     let n = spell(handed, s, q.next, &mut bytes);
-    ask(q, &bytes[0..n], is_big(s));
+    ask(rt, q, &bytes[0..n], is_big(s))
 }
 
 // A line: its label, up to the first space, and the trial of its question.
-pub fn line(s: &[u8]) {
+pub fn line(rt: &impl Print, s: &[u8]) -> io::Result<()> {
     let first = script::find(s, 0, b' ');
     if first == 0 {
-        return;
+        return Ok(());
     }
-    say(&s[0..first]);
-    say(b": ");
-    answer(s, first);
-    say(b"\n");
+    say(rt, &s[0..first])?;
+    say(rt, b": ")?;
+    answer(rt, s, first)?;
+    say(rt, b"\n")
 }

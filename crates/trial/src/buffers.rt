@@ -3,33 +3,33 @@
 ghost use Rattle.std.specs.Prelude.{◌≤◌, length};
 
 use crate::say::{say, say_with};
+use std::io;
 
 // No section has it where it was not written, and zeroed memory does not have it.
 pub const FILL: u8 = 0xa5;
 
 // Says so where the output is not as it was, from a place on.
-pub fn say_kept(out: &[u8], from: usize)
+pub fn say_kept(rt: &impl Print, out: &[u8], from: usize) -> io::Result<()>
     requires { from ≤ length out.now }
 {
     let kept = script::run_of(out, from, FILL);
     if kept < out.len() {
-        say_with(b"; output CHANGED at ", kept);
+        say_with(rt, b"; output CHANGED at ", kept)?;
     }
+    Ok(())
 }
 
 // The work memory: zero as far as it was lent, and as it was behind that.
-pub fn say_work(work: &[u8], lent: usize)
+pub fn say_work(rt: &impl Print, work: &[u8], lent: usize) -> io::Result<()>
     requires { lent ≤ length work.now }
 {
     let zeros = script::run_of(work, 0, 0);
     if zeros < lent {
-        say_with(b"; work memory NOT ZERO at ", zeros);
-        return;
+        return say_with(rt, b"; work memory NOT ZERO at ", zeros);
     }
     let kept = script::run_of(work, lent, FILL);
     if kept < work.len() {
-        say_with(b"; MORE than the work memory changed, at ", kept);
-        return;
+        return say_with(rt, b"; MORE than the work memory changed, at ", kept);
     }
-    say(b"; work memory zero");
+    say(rt, b"; work memory zero")
 }

@@ -22,6 +22,8 @@
 // all of it where none is written; the work memory has to be zero as far as it was lent, and as it was behind that. What is not as promised is said
 // in capitals. That all is well is said too, so that a line that is not run for some reason differs from one that went well.
 
+#![tactic(auto)]
+
 mod say; // words and numbers
 mod section; // what a call wrote
 mod buffers; // what a call left as it was, or wiped
@@ -29,23 +31,26 @@ mod calls; // the call made, and its answer said
 mod ask; // a line's question, and its trial
 
 use crate::ask::line;
+use std::io;
+use std::io::Read;
 
 // All lines of a script.
-fn lines(text: &[u8]) {
+fn lines(rt: &impl Print, text: &[u8]) -> io::Result<()> {
     let mut i = 0;
     while i < text.len() {
         let end = script::find(text, i, b'\n');
-        line(&text[i..end]);
+        line(rt, &text[i..end])?;
         if end == text.len() {
-            return;
+            return Ok(());
         }
         i = end + 1;
     }
+    Ok(())
 }
 
 // The script on standard input. Of one longer than 131,072 bytes the rest is not run, and its lines are then missing from what is said.
-pub fn run() {
-    let mut text = [0u8; 131072];
-    let n = io::read_full(0, &mut text);
-    lines(&text[..n]);
+pub fn run(rt: &(impl Input + Print + Alloc)) -> io::Result<()> {
+    let mut text = Vec::new(rt.alloc());
+    rt.reader().take(131072).read_to_end(&mut text)?;
+    lines(rt, &text)
 }

@@ -1,19 +1,19 @@
 // Words and numbers on standard output.
 
-use libc::STDOUT_FILENO;
+use std::io;
 
 // Words as they stand.
-pub fn say(text: &[u8]) {
-    io::write_all(STDOUT_FILENO, text);
+pub fn say(rt: &impl Print, text: &[u8]) -> io::Result<()> {
+    rt.write_all(text)
 }
 
 // A number in decimal digits.
-pub fn say_number(n: usize) {
-    io::print_decimal(STDOUT_FILENO, n as u64);
+pub fn say_number(rt: &impl Print, n: usize) -> io::Result<()> {
+    rt.print(n)
 }
 
 // Words, and a number behind them.
-pub fn say_with(text: &[u8], n: usize) {
-    say(text);
-    say_number(n);
+pub fn say_with(rt: &impl Print, text: &[u8], n: usize) -> io::Result<()> {
+    say(rt, text)?;
+    say_number(rt, n)
 }
