@@ -14,6 +14,12 @@ ghost use Rattle.runs.specs.Rule.{threes as threesOf, tildes as tildesOf};
 
 use classes::{Class, class_of};
 
+// The marker that asks more of its sides than `*` does: `_`.
+const LINE: u8 = 95;
+
+// The most tildes that a side of a strikethrough has.
+const MOST_TILDES: usize = 2;
+
 // The next match from a run on: its opener, its closer and the candidates tried for it; or that there is none, and those tried.
 #[derive(Clone, Copy)]
 pub enum Next {
@@ -78,7 +84,7 @@ fn opens_by(strike: bool, marker: u8, before: Class, left: u32, after: Class, ri
     ensures { result ≡ opens_by strike marker before (Character left) after (Character right) }
 {
     if first_open(strike, marker, before, after, right) {
-        if marker != 95 {
+        if marker != LINE {
             return true;
         }
         if is_other(before) {
@@ -140,7 +146,7 @@ fn tildes(single: bool, marker: u8, opener: usize, closer: usize) -> bool
     if opener != closer {
         return true;
     }
-    if closer > 2 {
+    if closer > MOST_TILDES {
         return true;
     }
     if closer == 1 {

@@ -11,14 +11,14 @@ pub returns-then-opener-closer : goal.returns-then-opener-closer
 unfolding tildes
 returns-then-opener-closer c = simp (eq-eqb _ _ c.if-marker-ne126.false, ne_eqb _ _ c.if-opener-closer.true)
 
-pub returns-then-closer-gt2 : goal.returns-then-closer-gt2
+pub returns-then-closer-gt-MOST_TILDES : goal.returns-then-closer-gt-MOST_TILDES
 unfolding tildes
-returns-then-closer-gt2 c = simp (eq-eqb _ _ c.if-marker-ne126.false, eq-eqb _ _ c.if-opener-closer.false, lt-ltb _ _ c.if-closer-gt2.true)
+returns-then-closer-gt-MOST_TILDES c = simp (eq-eqb _ _ c.if-marker-ne126.false, eq-eqb _ _ c.if-opener-closer.false, lt-ltb _ _ c.if-closer-gt-MOST_TILDES.true)
 
 pub returns-then-closer-eq1 : goal.returns-then-closer-eq1
 unfolding tildes
-returns-then-closer-eq1 c = simp (eq-eqb _ _ c.if-marker-ne126.false, eq-eqb _ _ c.if-opener-closer.false, le-ltb _ _ c.if-closer-gt2.false, eq-eqb _ _ c.if-closer-eq1.true)
+returns-then-closer-eq1 c = simp (eq-eqb _ _ c.if-marker-ne126.false, eq-eqb _ _ c.if-opener-closer.false, le-ltb _ _ c.if-closer-gt-MOST_TILDES.false, eq-eqb _ _ c.if-closer-eq1.true)
 
 pub returns : goal.returns
 unfolding tildes
-returns c = simp (eq-eqb _ _ c.if-marker-ne126.false, eq-eqb _ _ c.if-opener-closer.false, le-ltb _ _ c.if-closer-gt2.false, ne_eqb _ _ c.if-closer-eq1.false)
+returns c = simp (eq-eqb _ _ c.if-marker-ne126.false, eq-eqb _ _ c.if-opener-closer.false, le-ltb _ _ c.if-closer-gt-MOST_TILDES.false, ne_eqb _ _ c.if-closer-eq1.false)
