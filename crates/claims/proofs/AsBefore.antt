@@ -1,8 +1,8 @@
 -- On ASCII documents every call answers as it did when neighbours were bytes: the statement of specs/AsBefore.antt. Each neighbour is the byte's own character,
 -- which has the byte's class, so that each run can do what it could, and all that is made of the runs is the same.
 -- Assumes nothing.
-use Prim.Native.Nat.{ℕ, zero, suc, ◌+◌, ◌<◌, ◌≤◌}
-use mathlib.Core.Path.{◌≡◌, refl, sym, ap, ◌∙◌}
+use Prim.Native.Nat.{ℕ, zero, suc, ◌+◌}
+use mathlib.Core.Path.{◌≡◌, refl, sym, ◌∙◌}
 use mathlib.Core.Bool.{Bool, true, false, not, cond}
 use mathlib.Core.List.{List, [], ◌∷◌, map}
 use mathlib.Core.Option.{Option, none, some}
@@ -14,8 +14,7 @@ use Rattle.record.specs.Choice.{choose}
 use Rattle.record.specs.Options.{option_on}
 use Rattle.record.specs.Check.{admitted}
 use Rattle.record.specs.Handed.{options_of}
-use Rattle.record.specs.Event.{document_in, events_in}
-use Rattle.record.specs.Outcome.{Outcome, accepted, refused, outcome}
+use Rattle.record.specs.Outcome.{Outcome, accepted, refused}
 use Rattle.record.specs.Stack.{after}
 use Rattle.record.specs.declared.event.Event.{Event}
 use Rattle.record.specs.declared.form.Handed.{Handed}
@@ -30,14 +29,13 @@ use Rattle.runs.specs.Paragraph.{marker_byte}
 use Rattle.runs.proofs.AsWritten.{never}
 use Rattle.runs.specs.Runs.{byte_at, first_place, enters_run, run_of, runs_from, runs_of}
 use Rattle.runs.specs.Rule.{Profile}
-use Rattle.runs.specs.Plain.{Outcome as Matching}
 use Rattle.runs.specs.Pieces.{standing, outcome as matching}
 use Rattle.runs.specs.Output.{output}
 use Rattle.attention.specs.Attention.{attention}
 use Rattle.attention.specs.Promise.{outcome_of, answer_of}
 use Rattle.ledgerlark.specs.Answers.{lark_attention}
 use Rattle.claims.specs.Records.{doc_of, all_events}
-use Rattle.claims.specs.AsBefore.{byte_before, class_beside_before, flanks_left_before, flanks_right_before, could_open, could_close, standing_before, standings_before, matching_before, attention_before, comes_before, answer_before, AttentionBefore, Ascii, AnswersAsBefore}
+use Rattle.claims.specs.AsBefore.{byte_before, class_beside_before, flanks_left_before, flanks_right_before, could_open, could_close, standing_before, standings_before, matching_before, attention_before, comes_before, answer_before, Ascii, AnswersAsBefore}
 
 -- a byte as a neighbour: one from 128 up was other, and no marker, as what is malformed is
 abbrev byte_neighbour : Option ℕ → Neighbour

@@ -9,7 +9,6 @@ use lib.ListN.{length}
 use Rattle.record.specs.Handed.{form_of, options_of}
 use Rattle.record.specs.Partners.{section_in}
 use Rattle.record.specs.Written.{by_check, row_7}
-use Rattle.record.proofs.Exactly.{exactly}
 use Rattle.record.specs.Outcome.{gives, onto}
 use Rattle.record.specs.declared.event.Event.{Event}
 use Rattle.record.specs.declared.form.Handed.{Handed}

@@ -30,7 +30,6 @@ use Rattle.record.proofs.Good.{admission}
 use Rattle.record.proofs.Parts.{length_document}
 use Rattle.partners.proofs.Written.{length_section_in}
 use Rattle.record.proofs.Output.{onto_bytes, onto_rest, onto_none}
-use Rattle.runs.specs.Rule.{Profile}
 use Rattle.attention.specs.Attention.{attention}
 use Rattle.attention.specs.Promise as attentionCall
 use Rattle.attention.specs.Shape.{Offends as RunOffends}

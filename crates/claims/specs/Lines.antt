@@ -8,12 +8,11 @@ use Rattle.std.specs.Prelude.{ℕ, suc, ◌≤◌, ◌≡◌, true, false, List,
 use Rattle.record.specs.Event.{section_bytes}
 use Rattle.record.specs.Choice.{choose}
 use Rattle.record.specs.Outcome.{onto}
-use Rattle.scan.specs.Line.{line_of, refusal, flag}
+use Rattle.scan.specs.Line.{line_of, flag}
 use Rattle.scan.specs.Rows.{Row}
 use Rattle.atx.specs.Rows.{WritingRow, heading_found}
 use Rattle.lines.specs.Spaces.{spaces_in}
 use Rattle.lines.specs.Item.{mark_of, start_in}
-use Rattle.scan.specs.Run.{blank}
 use Rattle.lines.specs.Going.{going_in}
 use Rattle.atx.specs.Heading.{is_heading, heading_events, headed_of}
 use Rattle.lines.specs.declared.spaces.Spaces.{Spaces}
