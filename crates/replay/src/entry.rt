@@ -143,7 +143,7 @@ fn read_full(list: &mut impl Read, buffer: &mut [u8]) -> io::Result<usize>
     Ok(got)
 }
 
-// Whether the file ends here. A read that fails is no end.
+// Whether the file ends here. A read that fails is no end, but an error.
 fn is_end(list: &mut impl Read) -> io::Result<bool> {
     let mut byte = [0u8; 1];
     Ok(list.read(&mut byte)? == 0)
