@@ -1,5 +1,5 @@
 -- `replay::entry::read_full` is safe, ends, and answers no more bytes than the buffer has. The measure is what is left of the buffer.
-use Rattle.std.proofs.Common.{length, ◌-◌, ◌≤◌, ◌≡◌}
+use Rattle.std.proofs.Common.{length, ◌-◌, ◌≤◌}
 use Rattle.replay.proofs.entry.read_full.Given as goal
 
 abbrev pub invariant-loop-got : goal.invariant-loop-got
