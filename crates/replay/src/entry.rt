@@ -12,11 +12,10 @@
 //
 // An entry that no answer can stand in is ill-formed: the file is then not a list of answers, and says nothing of our calls.
 
-ghost use Rattle.std.specs.Prelude.{◌<◌, ◌≤◌, length, IfOk};
+ghost use Rattle.std.specs.Prelude.{◌<◌, ◌≤◌, length};
 
 use record::bytes::u32_at;
 use record::limits::MAX_RESULT;
-use std::io;
 use std::io::Read;
 
 pub const ATTENTION: usize = 0;
@@ -128,25 +127,32 @@ fn is_answer(call: usize, told: Numbers) -> bool {
     told.section == 0
 }
 
-// The next bytes of the file, to the front of a buffer, until that is full or the file ends; how many there were.
-fn read_full(list: &mut impl Read, buffer: &mut [u8]) -> io::Result<usize>
-    ensures { IfOk result (λ got. got ≤ length buffer.new) }
+// The next bytes of the file, to the front of a buffer, until that is full, the file ends or a read fails; how many there were.
+fn read_full(list: &mut impl Read, buffer: &mut [u8]) -> usize
+    ensures { result ≤ length buffer.new }
 {
     let mut got = 0;
     while got < buffer.len() {
-        let more = list.read(&mut buffer[got..])?;
-        if more == 0 {
-            return Ok(got);
+        match list.read(&mut buffer[got..]) {
+            Ok(more) => {
+                if more == 0 {
+                    return got;
+                }
+                got += more;
+            }
+            Err(_) => return got,
         }
-        got += more;
     }
-    Ok(got)
+    got
 }
 
-// Whether the file ends here. A read that fails is no end, but an error.
-fn is_end(list: &mut impl Read) -> io::Result<bool> {
+// Whether the file ends here. A read that fails is no end.
+fn is_end(list: &mut impl Read) -> bool {
     let mut byte = [0u8; 1];
-    Ok(list.read(&mut byte)? == 0)
+    match list.read(&mut byte) {
+        Ok(more) => more == 0,
+        Err(_) => false,
+    }
 }
 
 // Six numbers, which are an answer's or a question's.
@@ -178,45 +184,45 @@ fn question_of(six: Numbers) -> Question
 }
 
 // The six numbers with which an entry begins, or the end of the list.
-pub fn read_begin(list: &mut impl Read) -> io::Result<Begun> {
+pub fn read_begin(list: &mut impl Read) -> Begun {
     let mut bytes = [0u8; 24];
-    let got = read_full(list, &mut bytes)?;
+    let got = read_full(list, &mut bytes);
     if got == 0 {
-        if is_end(list)? {
-            return Ok(Begun::End);
+        if is_end(list) {
+            return Begun::End;
         }
-        return Ok(Begun::Ill);
+        return Begun::Ill;
     }
     if got < 24 {
-        return Ok(Begun::Ill);
+        return Begun::Ill;
     }
     let question = question_of(numbers_in(&bytes));
     if !is_question(question) {
-        return Ok(Begun::Ill);
+        return Begun::Ill;
     }
-    Ok(Begun::Question(question))
+    Begun::Question(question)
 }
 
 // The six numbers of the crate's answer.
-pub fn read_told(list: &mut impl Read, call: usize) -> io::Result<Told> {
+pub fn read_told(list: &mut impl Read, call: usize) -> Told {
     let mut bytes = [0u8; 24];
-    let got = read_full(list, &mut bytes)?;
+    let got = read_full(list, &mut bytes);
     if got < 24 {
-        return Ok(Told::Ill);
+        return Told::Ill;
     }
     let told = numbers_in(&bytes);
     if !is_answer(call, told) {
-        return Ok(Told::Ill);
+        return Told::Ill;
     }
-    Ok(Told::Answer(told))
+    Told::Answer(told)
 }
 
 // The next n bytes of the file, to the front of a buffer; how many there were, and none where n do not fit.
-pub fn read_bytes(list: &mut impl Read, buffer: &mut [u8], n: usize) -> io::Result<usize>
-    ensures { IfOk result (λ got. got ≤ length buffer.new) }
+pub fn read_bytes(list: &mut impl Read, buffer: &mut [u8], n: usize) -> usize
+    ensures { result ≤ length buffer.new }
 {
     if n > buffer.len() {
-        return Ok(0);
+        return 0;
     }
     read_full(list, &mut buffer[0..n])
 }

@@ -64,7 +64,7 @@ fn finish_answer(
     quiet: bool,
 ) -> io::Result<Step> {
     let mut section = filled(0);
-    let written = read_bytes(list, &mut section, told.section)?;
+    let written = read_bytes(list, &mut section, told.section);
     if written != told.section {
         return Ok(Step::Ill);
     }
@@ -80,11 +80,11 @@ fn finish_entry(
     quiet: bool,
 ) -> io::Result<Step> {
     let mut input = filled(0);
-    let length = read_bytes(list, &mut input, question.length)?;
+    let length = read_bytes(list, &mut input, question.length);
     if length != question.length {
         return Ok(Step::Ill);
     }
-    match read_told(list, question.call)? {
+    match read_told(list, question.call) {
         Told::Ill => Ok(Step::Ill),
         Told::Answer(told) => {
             finish_answer(rt, list, number, question, &input[0..length], told, quiet)
@@ -99,7 +99,7 @@ fn next_entry(
     number: usize,
     quiet: bool,
 ) -> io::Result<Step> {
-    match read_begin(list)? {
+    match read_begin(list) {
         Begun::End => Ok(Step::End),
         Begun::Ill => Ok(Step::Ill),
         Begun::Question(question) => finish_entry(rt, list, number, question, quiet),
