@@ -7,7 +7,6 @@
 
 use reader::{Found, event_number};
 use std::io;
-use std::io::Read;
 
 // Words on standard output.
 fn say(rt: &impl Print, text: &[u8]) -> io::Result<()> {
@@ -66,7 +65,7 @@ fn run(rt: &impl Print, text: &[u8]) -> io::Result<()> {
 
 // The script on standard input, up to 65,536 bytes of it.
 fn main(rt: HostRuntime) -> io::Result<()> {
-    let mut text = Vec::new(rt.alloc());
-    rt.reader().take(65536).read_to_end(&mut text)?;
-    run(&rt, &text)
+    let mut text = [0u8; 65536];
+    let n = script::read_full(&mut rt.reader(), &mut text);
+    run(&rt, &text[..n])
 }

@@ -16,6 +16,7 @@ ghost use Rattle.std.specs.Prelude.{◌<◌, ◌≤◌, length};
 
 use record::bytes::u32_at;
 use record::limits::MAX_RESULT;
+use script::read_full;
 use std::io::Read;
 
 pub const ATTENTION: usize = 0;
@@ -125,25 +126,6 @@ fn is_answer(call: usize, told: Numbers) -> bool {
         }
     }
     told.section == 0
-}
-
-// The next bytes of the file, to the front of a buffer, until that is full, the file ends or a read fails; how many there were.
-fn read_full(list: &mut impl Read, buffer: &mut [u8]) -> usize
-    ensures { result ≤ length buffer.new }
-{
-    let mut got = 0;
-    while got < buffer.len() {
-        match list.read(&mut buffer[got..]) {
-            Ok(more) => {
-                if more == 0 {
-                    return got;
-                }
-                got += more;
-            }
-            Err(_) => return got,
-        }
-    }
-    got
 }
 
 // Whether the file ends here. A read that fails is no end.

@@ -28,6 +28,7 @@ ghost use Rattle.std.specs.Prelude.{◌+◌, ◌≤◌, ◌<◌, length};
 use crate::second::put;
 use record::bytes::put_u32;
 use record::event::event_at;
+use std::io::Read;
 
 // The place of the next byte that is no space, from a place on.
 pub fn skip(s: &[u8], at: usize) -> usize
@@ -367,4 +368,23 @@ pub fn run_of(s: &[u8], at: usize, byte: u8) -> usize
         i += 1;
     }
     i
+}
+
+// The next bytes of a source, to the front of a buffer, until that is full, the source ends or a read fails; how many there were.
+pub fn read_full(from: &mut impl Read, buffer: &mut [u8]) -> usize
+    ensures { result ≤ length buffer.new }
+{
+    let mut got = 0;
+    while got < buffer.len() {
+        match from.read(&mut buffer[got..]) {
+            Ok(more) => {
+                if more == 0 {
+                    return got;
+                }
+                got += more;
+            }
+            Err(_) => return got,
+        }
+    }
+    got
 }

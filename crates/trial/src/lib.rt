@@ -32,7 +32,6 @@ mod ask; // a line's question, and its trial
 
 use crate::ask::line;
 use std::io;
-use std::io::Read;
 
 // All lines of a script.
 fn lines(rt: &impl Print, text: &[u8]) -> io::Result<()> {
@@ -49,8 +48,8 @@ fn lines(rt: &impl Print, text: &[u8]) -> io::Result<()> {
 }
 
 // The script on standard input. Of one longer than 131,072 bytes the rest is not run, and its lines are then missing from what is said.
-pub fn run(rt: &(impl Input + Print + Alloc)) -> io::Result<()> {
-    let mut text = Vec::new(rt.alloc());
-    rt.reader().take(131072).read_to_end(&mut text)?;
-    lines(rt, &text)
+pub fn run(rt: &(impl Input + Print)) -> io::Result<()> {
+    let mut text = [0u8; 131072];
+    let n = script::read_full(&mut rt.reader(), &mut text);
+    lines(rt, &text[..n])
 }

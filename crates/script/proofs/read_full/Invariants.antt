@@ -1,6 +1,6 @@
--- `replay::entry::read_full` is safe, ends, and answers no more bytes than the buffer has. The measure is what is left of the buffer.
+-- `script::read_full` is safe, ends, and answers no more bytes than the buffer has. The measure is what is left of the buffer.
 use Rattle.std.proofs.Common.{length, ◌-◌, ◌≤◌}
-use Rattle.replay.proofs.entry.read_full.Given as goal
+use Rattle.script.proofs.read_full.Given as goal
 
 abbrev pub invariant-loop-got : goal.invariant-loop-got
 invariant-loop-got g l = l.got ≤ length l.buffer
