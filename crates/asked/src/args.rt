@@ -5,451 +5,311 @@
 // options; where it is a file, any other word that looks like one is wrong. Where there are two texts, one that looks like an option was meant
 // as one.
 
+ghost use Rattle.std.specs.Prelude.{◌≡◌, MatchOption};
+
 use terminal::host::{Host, argument, argument_count, argument_length};
-use terminal::number::{LARGEST, Number, spelled};
-use terminal::say::{blame, wrong};
-use terminal::words::{same, word_start};
+use terminal::number::{Misspelt, spelled};
+use terminal::say::{Status, blame, wrong};
+use terminal::words::is_between;
 
 // What a command takes: a text, a text that is a line, a text and events, a file, a file whose events can be had as text.
-pub const TEXT: u8 = 0;
+#[derive(Clone, Copy, PartialEq, Eq)]
+pub enum Takes {
+    Text,
+    Line,
+    TextAndEvents,
+    File,
+    FileOfEvents,
+}
 
-pub const LINE: u8 = 1;
+// Whether the operand is a file.
+fn is_file(takes: Takes) -> bool {
+    matches!(takes, Takes::File | Takes::FileOfEvents)
+}
 
-pub const TEXT_AND_EVENTS: u8 = 2;
+// What the number behind an option is: the sum of the options of -o, or that of --form, of --column or of -c.
+#[derive(Clone, Copy, PartialEq, Eq)]
+pub enum Awaited {
+    Options,
+    Form,
+    Column,
+    Size,
+}
 
-pub const FILE: u8 = 3;
+// What is wrong with the arguments. Where it is one of them, its number is given.
+#[derive(Clone, Copy, PartialEq, Eq)]
+pub enum Fault {
+    NotNumber(usize),
+    NoOption(usize),
+    OneTooMany(usize),
+    TooLarge(usize),
+    TooLong(usize),
+    NoForm(usize),
+    // The last option's number is missing.
+    NumberMissing(Awaited),
+    // -b stands alone: it says something of the item whose size -c gives.
+    SizeMissing,
+    // -o stands beside a record that is read and has its options in it. One that is made gets them.
+    OtherOptions,
+}
 
-pub const FILE_OF_EVENTS: u8 = 4;
+// The form of a record, the old one or form 2.
+#[derive(Clone, Copy, PartialEq, Eq)]
+pub enum RecordForm {
+    Old,
+    Second,
+}
 
-// What is wrong with the arguments.
-const NO_NUMBER: u8 = 1;
+// The operand, by its number among the arguments; `dashed` says that it looks like an option.
+#[derive(Clone, Copy)]
+pub struct Operand {
+    pub argument: usize,
+    pub dashed: bool,
+}
 
-const UNKNOWN: u8 = 2;
-
-const ONE_TOO_MANY: u8 = 3;
-
-const TOO_LARGE: u8 = 4;
-
-const TOO_LONG: u8 = 5;
-
-const NO_FORM: u8 = 6;
-
-// What stands for --column and for --form where an option is given by its letter. The letter alone is none.
-const COLUMN: u8 = b'C';
-
-const FORM: u8 = b'F';
-
-// The options without -o: all but the single tilde.
-const USUAL: u32 = 59;
-
-// The forms of a record, by their numbers.
-const OLD_FORM: u32 = 1;
-
-pub const SECOND_FORM: u32 = 2;
-
-// What is asked for, by what the command takes. `has_options` says that -o was there, and `form` is the number of the record's form. Of a line,
-// `column` is where it starts, and `continuing` says that an item's size and flag are given. The operand is given by its number among the
-// arguments, or is 0 where there is none, and so is the first of the events; `dashed` says that the operand looks like an option. `awaits` is the
-// letter of the option whose number is the next word, or 0, and `ended` says that -- was there. Where something is wrong, `culprit` is the number
-// of that argument.
+// What is asked for, by what the command takes. `options` is what -o gives. Of a line, `column` is where it starts, and `size` that of the item which
+// it may continue, and whose flag is `blank`. `events` is the number of the first argument that is an event. `awaits` says which option's number the
+// next word is, and `ended` that -- was there.
 #[derive(Clone, Copy)]
 pub struct Asked {
-    pub takes: u8,
-    pub options: u32,
-    pub has_options: bool,
-    pub form: u32,
+    takes: Takes,
+    pub options: Option<u32>,
+    pub form: RecordForm,
     pub as_text: bool,
     pub column: usize,
     pub interrupting: bool,
-    pub continuing: bool,
-    pub size: usize,
+    pub size: Option<usize>,
     pub blank: bool,
-    pub operand: usize,
-    pub dashed: bool,
-    pub events: usize,
-    pub awaits: u8,
-    pub ended: bool,
-    pub wrong: u8,
-    pub culprit: usize,
+    pub operand: Option<Operand>,
+    pub events: Option<usize>,
+    awaits: Option<Awaited>,
+    ended: bool,
 }
 
-// The number behind an option.
-fn put_number(asked: Asked, value: u32) -> Asked {
-    let mut asked = asked;
-    let awaits = asked.awaits;
-    asked.awaits = 0;
-    if awaits == b'c' {
-        asked.continuing = true;
-        asked.size = value as usize;
-        return asked;
-    }
-    if awaits == COLUMN {
-        asked.column = value as usize;
-        return asked;
-    }
-    if awaits == FORM {
-        asked.form = value;
-        return asked;
-    }
-    asked.has_options = true;
-    asked.options = value;
-    asked
+// An option of a command. `End` is --, behind which there are no more.
+#[derive(Clone, Copy)]
+enum Flag {
+    Number(Awaited),
+    AsText,
+    Interrupting,
+    Blank,
+    End,
 }
 
-// Whether a number cannot be taken. Options that large are refused as all over 63 are; a size or a column has six digits at most.
-fn is_too_large(awaits: u8, value: u32) -> bool {
-    if awaits == b'o' {
-        return false;
+// The option that a word is, if a command that takes this has it. All go by way of a record, and have -o and --form.
+fn flag_in(word: &[u8], takes: Takes) -> Option<Flag> {
+    match word {
+        b"-o" => Some(Flag::Number(Awaited::Options)),
+        b"--form" => Some(Flag::Number(Awaited::Form)),
+        b"--" => Some(Flag::End),
+        b"-t" if takes == Takes::FileOfEvents => Some(Flag::AsText),
+        b"-i" if takes == Takes::Line => Some(Flag::Interrupting),
+        b"-b" if takes == Takes::Line => Some(Flag::Blank),
+        b"-c" if takes == Takes::Line => Some(Flag::Number(Awaited::Size)),
+        b"--column" if takes == Takes::Line => Some(Flag::Number(Awaited::Column)),
+        _ => None,
     }
-    value > 999999
-}
-
-// Whether an option is --form and the number behind it that of no form.
-fn is_no_form(awaits: u8, value: u32) -> bool {
-    if awaits != FORM {
-        return false;
-    }
-    if value == OLD_FORM {
-        return false;
-    }
-    value != SECOND_FORM
-}
-
-// Argument i, which has this value, as the number behind an option.
-fn take_value(asked: Asked, i: usize, value: u32) -> Asked {
-    if is_no_form(asked.awaits, value) {
-        return put_wrong(asked, NO_FORM, i);
-    }
-    if is_too_large(asked.awaits, value) {
-        return put_wrong(asked, TOO_LARGE, i);
-    }
-    put_number(asked, value)
-}
-
-// Argument i, which spells this, as the number behind an option. The largest stands for every larger one: it is over all limits.
-fn take_spelled(asked: Asked, i: usize, number: Number) -> Asked {
-    match number {
-        Number::Is(value) => take_value(asked, i, value),
-        Number::Large => take_value(asked, i, LARGEST),
-        Number::Not => put_wrong(asked, NO_NUMBER, i),
-    }
-}
-
-// Argument i as the number behind an option.
-fn take_number(host: &Host, asked: Asked, i: usize) -> Asked {
-    let mut word = [0u8; 32];
-    match argument(host, i, &mut word) {
-        Some(n) => take_spelled(asked, i, spelled(&word[..n])),
-        None => put_wrong(asked, TOO_LONG, i),
-    }
-}
-
-// What is wrong with an argument, by its number.
-fn put_wrong(asked: Asked, wrong: u8, culprit: usize) -> Asked {
-    let mut asked = asked;
-    asked.wrong = wrong;
-    asked.culprit = culprit;
-    asked
-}
-
-// Argument i is a second operand: of the two the first that looks like an option is blamed as one, or else this one as one too many.
-fn blame_operand(asked: Asked, i: usize, dashed: bool) -> Asked {
-    if asked.dashed {
-        return put_wrong(asked, UNKNOWN, asked.operand);
-    }
-    if dashed {
-        return put_wrong(asked, UNKNOWN, i);
-    }
-    put_wrong(asked, ONE_TOO_MANY, i)
-}
-
-// Argument i as the operand; `dashed` says that it looks like an option.
-fn take_operand(asked: Asked, i: usize, dashed: bool) -> Asked {
-    let mut asked = asked;
-    if asked.operand != 0 {
-        return blame_operand(asked, i, dashed);
-    }
-    asked.operand = i;
-    asked.dashed = dashed;
-    asked
-}
-
-// The letter of an option, or 0.
-fn letter(word: &[u8]) -> u8 {
-    if same(word, b"--column") {
-        return COLUMN;
-    }
-    if same(word, b"--form") {
-        return FORM;
-    }
-    if word.len() != 2 {
-        return 0;
-    }
-    if word[0] != b'-' {
-        return 0;
-    }
-    if word[1] == COLUMN {
-        return 0;
-    }
-    if word[1] == FORM {
-        return 0;
-    }
-    word[1]
 }
 
 // Whether a word that begins with these two bytes looks like an option: a dash with more right behind it. A list item has a space there, and a
 // dash alone nothing, which is a zero byte.
 fn is_dashed(first: u8, second: u8) -> bool {
-    if first != b'-' {
-        return false;
-    }
-    second > b' '
+    first == b'-' && second > b' '
 }
 
-// Whether an option is one that only a line has.
-fn is_of_line(option: u8, takes: u8) -> bool {
-    if takes != LINE {
-        return false;
+// The form of a record by its number.
+fn form_by(number: u32) -> Option<RecordForm> {
+    match number {
+        1 => Some(RecordForm::Old),
+        2 => Some(RecordForm::Second),
+        _ => None,
     }
-    if option == b'i' {
-        return true;
-    }
-    if option == b'b' {
-        return true;
-    }
-    if option == COLUMN {
-        return true;
-    }
-    option == b'c'
 }
 
-// An option that only a line has: -i and -b set what they stand for, and -c and --column await their number.
-fn take_of_line(asked: Asked, option: u8) -> Asked {
-    let mut asked = asked;
-    if option == b'i' {
-        asked.interrupting = true;
-        return asked;
-    }
-    if option == b'b' {
-        asked.blank = true;
-        return asked;
-    }
-    asked.awaits = option;
-    asked
+// A size or a column by its number, which has six digits at most.
+fn columns(number: u32) -> Option<usize> {
+    (number <= 999_999).then_some(number as usize)
 }
 
-// Argument i as an operand, where it is none of the command's options. A file's name does not look like one.
-fn take_other(asked: Asked, i: usize, dashed: bool) -> Asked {
-    if asked.takes < FILE {
-        return take_operand(asked, i, dashed);
-    }
-    if dashed {
-        return put_wrong(asked, UNKNOWN, i);
-    }
-    take_operand(asked, i, dashed)
-}
-
-// Whether an option is one that every command has, since all go by way of a record. Each awaits its number.
-fn is_of_all(option: u8) -> bool {
-    if option == FORM {
-        return true;
-    }
-    option == b'o'
-}
-
-// Argument i, by its letter as an option and by whether it looks like one.
-fn take_option(asked: Asked, i: usize, option: u8, dashed: bool) -> Asked {
-    let mut asked = asked;
-    if is_of_all(option) {
-        asked.awaits = option;
-        return asked;
-    }
-    if option == b'-' {
-        asked.ended = true;
-        return asked;
-    }
-    if option == b't' {
-        if asked.takes == FILE_OF_EVENTS {
-            asked.as_text = true;
-            return asked;
-        }
-    }
-    if is_of_line(option, asked.takes) {
-        return take_of_line(asked, option);
-    }
-    take_other(asked, i, dashed)
-}
-
-// Argument i where no number is awaited and -- was not there.
-fn take_word(host: &Host, asked: Asked, i: usize) -> Asked {
-    let mut word = [0u8; 16];
-    let n = argument_length(host, i, &mut word);
-    let option = letter(&word[..n]);
-    take_option(asked, i, option, is_dashed(word[0], word[1]))
-}
-
-// Whether the next argument is an event.
-fn wants_event(asked: Asked) -> bool {
-    if asked.takes != TEXT_AND_EVENTS {
-        return false;
-    }
-    asked.operand != 0
-}
-
-// The byte that the first word of argument i begins with, or 0 where its beginning has none.
-fn first_of_words(host: &Host, i: usize) -> u8 {
+// Whether argument i is rather a text than an event, whose first word begins with its sign. Where there is no word it is neither.
+fn is_text(host: &Host, i: usize) -> bool {
     let mut words = [0u8; 32];
     argument_length(host, i, &mut words);
-    let at = word_start(&words, 0);
-    if at >= words.len() {
-        return 0;
+    match words.iter().find(|byte| !is_between(**byte)) {
+        Some(first) => !matches!(*first, 0 | b'+' | b'-'),
+        None => false,
     }
-    words[at]
 }
 
-// Whether a word that begins with a byte is rather a text than an event, which has its sign there. Where there is no word it is neither.
-fn begins_text(first: u8) -> bool {
-    if first == 0 {
-        return false;
+// The value of argument i, which is to be a number. The largest stands for every larger one: it is over all limits.
+fn number_at(host: &Host, i: usize) -> Result<u32, Fault> {
+    let mut word = [0u8; 32];
+    let Some(n) = argument(host, i, &mut word) else {
+        return Err(Fault::TooLong(i));
+    };
+    match spelled(&word[..n]) {
+        Ok(number) => Ok(number),
+        Err(Misspelt::TooLarge) => Ok(u32::MAX),
+        Err(Misspelt::Other) => Err(Fault::NotNumber(i)),
     }
-    if first == b'+' {
-        return false;
-    }
-    first != b'-'
 }
 
-// Argument i as the first event. If it is rather a text, then the operand, where that looks like an option, was meant as one.
-fn take_first_event(host: &Host, asked: Asked, i: usize) -> Asked {
-    let mut asked = asked;
-    if asked.dashed {
-        if begins_text(first_of_words(host, i)) {
-            return put_wrong(asked, UNKNOWN, asked.operand);
+impl Asked {
+    // What is asked for where a command that takes this has no arguments.
+    fn new(takes: Takes) -> Asked {
+        Asked {
+            takes,
+            options: None,
+            form: RecordForm::Old,
+            as_text: false,
+            column: 0,
+            interrupting: false,
+            size: None,
+            blank: false,
+            operand: None,
+            events: None,
+            awaits: None,
+            ended: false,
         }
     }
-    asked.events = i;
-    asked
+
+    // The options that are on: without -o all but the single tilde.
+    pub fn options(&self) -> u32
+        ensures { MatchOption self.now.options (result ≡ 59) (λ n. result ≡ n) }
+    {
+        self.options.unwrap_or(59)
+    }
+
+    // Argument i as the number behind an option. Options that are too large are refused as all over 63 are.
+    fn take_number(&mut self, host: &Host, awaited: Awaited, i: usize) -> Result<(), Fault> {
+        self.awaits = None;
+        let number = number_at(host, i)?;
+        match awaited {
+            Awaited::Options => self.options = Some(number),
+            Awaited::Form => self.form = form_by(number).ok_or(Fault::NoForm(i))?,
+            Awaited::Column => self.column = columns(number).ok_or(Fault::TooLarge(i))?,
+            Awaited::Size => self.size = Some(columns(number).ok_or(Fault::TooLarge(i))?),
+        }
+        Ok(())
+    }
+
+    // Argument i as the operand; `dashed` says that it looks like an option. Of two operands the first that does is blamed as one, or else this one as
+    // one too many.
+    fn take_operand(&mut self, i: usize, dashed: bool) -> Result<(), Fault> {
+        match self.operand {
+            None => {
+                self.operand = Some(Operand {
+                    argument: i,
+                    dashed,
+                });
+                Ok(())
+            }
+            Some(first) if first.dashed => Err(Fault::NoOption(first.argument)),
+            Some(_) if dashed => Err(Fault::NoOption(i)),
+            Some(_) => Err(Fault::OneTooMany(i)),
+        }
+    }
+
+    // An option.
+    fn take_flag(&mut self, flag: Flag) {
+        match flag {
+            Flag::Number(awaited) => self.awaits = Some(awaited),
+            Flag::AsText => self.as_text = true,
+            Flag::Interrupting => self.interrupting = true,
+            Flag::Blank => self.blank = true,
+            Flag::End => self.ended = true,
+        }
+    }
+
+    // Argument i where no number is awaited and -- was not there. A file's name does not look like an option.
+    fn take_word(&mut self, host: &Host, i: usize) -> Result<(), Fault> {
+        let mut word = [0u8; 16];
+        let n = argument_length(host, i, &mut word);
+        if let Some(flag) = flag_in(&word[..n], self.takes) {
+            self.take_flag(flag);
+            return Ok(());
+        }
+        let dashed = is_dashed(word[0], word[1]);
+        if dashed && is_file(self.takes) {
+            return Err(Fault::NoOption(i));
+        }
+        self.take_operand(i, dashed)
+    }
+
+    // Argument i as an event behind this text. If the first is rather a text, then the one before, where that looks like an option, was meant as one.
+    fn take_event(&mut self, host: &Host, text: Operand, i: usize) -> Result<(), Fault> {
+        if self.events.is_some() {
+            return Ok(());
+        }
+        if text.dashed && is_text(host, i) {
+            return Err(Fault::NoOption(text.argument));
+        }
+        self.events = Some(i);
+        Ok(())
+    }
+
+    // Argument i.
+    fn take(&mut self, host: &Host, i: usize) -> Result<(), Fault> {
+        if let Some(awaited) = self.awaits {
+            return self.take_number(host, awaited, i);
+        }
+        if let Some(text) = self.operand
+            && self.takes == Takes::TextAndEvents
+        {
+            return self.take_event(host, text, i);
+        }
+        if self.ended {
+            return self.take_operand(i, false);
+        }
+        self.take_word(host, i)
+    }
+
+    // What is wrong where no argument alone is.
+    fn fault(&self) -> Option<Fault> {
+        if let Some(awaited) = self.awaits {
+            return Some(Fault::NumberMissing(awaited));
+        }
+        if self.blank && self.size.is_none() {
+            return Some(Fault::SizeMissing);
+        }
+        if self.form == RecordForm::Second && is_file(self.takes) && self.options.is_some() {
+            return Some(Fault::OtherOptions);
+        }
+        None
+    }
 }
 
-// Argument i as an event. Each one behind the first is one too.
-fn take_event(host: &Host, asked: Asked, i: usize) -> Asked {
-    if asked.events == 0 {
-        return take_first_event(host, asked, i);
+// What the arguments from a number on ask of a command that takes this, or what is wrong first.
+pub fn arguments(host: &Host, from: usize, takes: Takes) -> Result<Asked, Fault> {
+    let mut asked = Asked::new(takes);
+    for i in from..argument_count(host) {
+        asked.take(host, i)?;
     }
-    asked
-}
-
-// Argument i. What is wrong first is what is said.
-fn take(host: &Host, asked: Asked, i: usize) -> Asked {
-    if asked.wrong != 0 {
-        return asked;
-    }
-    if asked.awaits != 0 {
-        return take_number(host, asked, i);
-    }
-    if wants_event(asked) {
-        return take_event(host, asked, i);
-    }
-    if asked.ended {
-        return take_operand(asked, i, false);
-    }
-    take_word(host, asked, i)
-}
-
-// The arguments from a number on, of a command that takes this.
-pub fn arguments(host: &Host, from: usize, takes: u8) -> Asked {
-    let count = argument_count(host);
-    let mut asked = Asked {
-        takes,
-        options: USUAL,
-        has_options: false,
-        form: OLD_FORM,
-        as_text: false,
-        column: 0,
-        interrupting: false,
-        continuing: false,
-        size: 0,
-        blank: false,
-        operand: 0,
-        dashed: false,
-        events: 0,
-        awaits: 0,
-        ended: false,
-        wrong: 0,
-        culprit: 0,
-    };
-    let mut i = from;
-    while i < count {
-        asked = take(host, asked, i);
-        i += 1;
-    }
-    asked
-}
-
-// Says what is wrong with an argument.
-fn say_wrong(host: &mut Host, what: u8, culprit: usize) -> u8 {
-    match what {
-        NO_NUMBER => blame(host, b"not a number", culprit),
-        UNKNOWN => blame(host, b"no such option", culprit),
-        TOO_LARGE => blame(host, b"too large", culprit),
-        TOO_LONG => blame(host, b"too long", culprit),
-        NO_FORM => blame(host, b"no such form", culprit),
-        _ => blame(host, b"one argument too many", culprit),
+    match asked.fault() {
+        Some(fault) => Err(fault),
+        None => Ok(asked),
     }
 }
 
-// Says that an option, by its letter, wants a number.
-fn ask_number(host: &mut Host, option: u8) -> u8 {
-    if option == b'c' {
-        return wrong(host, b"-c wants a number");
-    }
-    if option == COLUMN {
-        return wrong(host, b"--column wants a number");
-    }
-    if option == FORM {
-        return wrong(host, b"--form wants a number");
-    }
-    wrong(host, b"-o wants a number")
-}
-
-// Whether -b stands alone: it says something of the item whose size -c gives.
-fn lacks_size(asked: Asked) -> bool {
-    if asked.continuing {
-        return false;
-    }
-    asked.blank
-}
-
-// Whether -o stands beside a record that is read and has its options in it. One that is made gets them.
-fn gives_other_options(asked: Asked) -> bool {
-    if asked.form != SECOND_FORM {
-        return false;
-    }
-    if asked.takes < FILE {
-        return false;
-    }
-    asked.has_options
-}
-
-// Whether the arguments are good; says what is wrong where they are not.
-pub fn are_good(host: &mut Host, asked: Asked) -> bool {
-    if asked.wrong != 0 {
-        say_wrong(host, asked.wrong, asked.culprit);
-        return false;
-    }
-    if asked.awaits != 0 {
-        ask_number(host, asked.awaits);
-        return false;
-    }
-    if lacks_size(asked) {
-        wrong(host, b"-b wants -c beside it");
-        return false;
-    }
-    if gives_other_options(asked) {
-        wrong(
+// Says what is wrong with the arguments.
+pub fn say_fault(host: &mut Host, fault: Fault) -> Status
+    ensures { result ≡ Status.Wrong }
+{
+    match fault {
+        Fault::NotNumber(i) => blame(host, b"not a number", i),
+        Fault::NoOption(i) => blame(host, b"no such option", i),
+        Fault::OneTooMany(i) => blame(host, b"one argument too many", i),
+        Fault::TooLarge(i) => blame(host, b"too large", i),
+        Fault::TooLong(i) => blame(host, b"too long", i),
+        Fault::NoForm(i) => blame(host, b"no such form", i),
+        Fault::NumberMissing(Awaited::Options) => wrong(host, b"-o wants a number"),
+        Fault::NumberMissing(Awaited::Form) => wrong(host, b"--form wants a number"),
+        Fault::NumberMissing(Awaited::Column) => wrong(host, b"--column wants a number"),
+        Fault::NumberMissing(Awaited::Size) => wrong(host, b"-c wants a number"),
+        Fault::SizeMissing => wrong(host, b"-b wants -c beside it"),
+        Fault::OtherOptions => wrong(
             host,
             b"-o does not go with --form 2 here: the record has its options in it",
-        );
-        return false;
+        ),
     }
-    true
 }

@@ -5,108 +5,78 @@
 
 ghost use Rattle.std.specs.Prelude.{◌+◌, ◌≤◌, length};
 
-use crate::input::{RECORD_ROOM, memory};
+use crate::input::RECORD_ROOM;
 use record::bytes::put_u32;
 use record::event::put_event;
 use record::limits::MAX_EVENTS;
 use terminal::host::{Host, argument, argument_count};
-use terminal::notation::{Noted, event_in};
-use terminal::say::{blame, blame_word};
-use terminal::words::{word_end, word_start};
+use terminal::notation::event_in;
+use terminal::number::Misspelt;
+use terminal::say::{Status, blame, blame_word};
+use terminal::words::is_between;
 
-// How many events there are so far, or that a word is none, which is then said.
-#[derive(Clone, Copy)]
-pub enum Taken {
-    Events(usize),
-    Nothing,
-}
-
-// Writes the event that a word spells, at a place of the section; whether it spells one.
-fn put_word(host: &mut Host, word: &[u8], section: &mut [u8], to: usize) -> bool
+// Writes the event that a word spells, at a place of the section. Where it spells none that is said.
+fn put_word(host: &mut Host, word: &[u8], section: &mut [u8], to: usize) -> Result<(), Status>
     requires { to + 8 ≤ length section.old }
 {
     match event_in(word) {
-        Noted::Is(event) => {
+        Ok(event) => {
             put_event(section, to, event.kind, event.name, event.place);
-            return true;
+            Ok(())
         }
-        Noted::Large => {
-            blame_word(host, b"too large", word);
-        }
-        Noted::Not => {
-            blame_word(host, b"not an event", word);
-        }
+        Err(Misspelt::TooLarge) => Err(blame_word(host, b"too large", word)),
+        Err(Misspelt::Other) => Err(blame_word(host, b"not an event", word)),
     }
-    false
 }
 
-// Writes the events that words spell behind so many that are there already.
-fn put_words(host: &mut Host, words: &[u8], section: &mut [u8], events: usize) -> Taken
+// Writes the events that words spell behind so many that are there already; how many there are then.
+fn put_words(
+    host: &mut Host,
+    words: &[u8],
+    section: &mut [u8],
+    events: usize,
+) -> Result<usize, Status>
     requires { 16396 ≤ length section.old }
 {
     let mut events = events;
-    let mut i = word_start(words, 0);
-    while i < words.len() {
+    for word in words.split(|byte| is_between(*byte)) {
+        if word.is_empty() {
+            continue;
+        }
         if events > MAX_EVENTS {
-            return Taken::Events(events);
+            break;
         }
-        let end = word_end(words, i);
-        if !put_word(host, &words[i..end], section, 4 + 8 * events) {
-            return Taken::Nothing;
-        }
+        put_word(host, word, section, 4 + 8 * events)?;
         events += 1;
-        i = word_start(words, end);
     }
-    Taken::Events(events)
+    Ok(events)
 }
 
 // The same for the words of argument i. The longest words for as many events as a record takes fit here.
-fn put_argument(host: &mut Host, i: usize, section: &mut [u8], events: usize) -> Taken
+fn put_argument(
+    host: &mut Host,
+    i: usize,
+    section: &mut [u8],
+    events: usize,
+) -> Result<usize, Status>
     requires { 16396 ≤ length section.old }
 {
-    let mut words = memory();
-    match argument(host, i, &mut words) {
-        Some(n) => put_words(host, &words[..n], section, events),
-        None => {
-            blame(host, b"too long", i);
-            Taken::Nothing
-        }
-    }
+    let mut words = [0u8; RECORD_ROOM];
+    let Some(n) = argument(host, i, &mut words) else {
+        return Err(blame(host, b"too long", i));
+    };
+    put_words(host, &words[..n], section, events)
 }
 
-// The same for all arguments from a number on.
-fn put_arguments(host: &mut Host, first: usize, section: &mut [u8]) -> Taken
-    requires { 16396 ≤ length section.old }
-{
-    let count = argument_count(host);
-    let mut events = 0;
-    let mut i = first;
-    while i < count {
-        match put_argument(host, i, section, events) {
-            Taken::Events(n) => {
-                events = n;
-            }
-            Taken::Nothing => {
-                return Taken::Nothing;
-            }
-        }
-        i += 1;
-    }
-    Taken::Events(events)
-}
-
-// Writes the section of the events that the arguments from a number on spell; how many they are.
-pub fn put_given(host: &mut Host, first: usize, section: &mut [u8]) -> Taken {
+// Writes the section of the events that the arguments from a number on spell; how many they are. Where a word spells none that is said.
+pub fn put_given(host: &mut Host, first: usize, section: &mut [u8]) -> Result<usize, Status> {
     if section.len() < RECORD_ROOM {
-        return Taken::Nothing;
+        return Err(Status::Wrong);
     }
-    match put_arguments(host, first, section) {
-        Taken::Events(events) => {
-            put_u32(section, 0, events);
-            return Taken::Events(events);
-        }
-        Taken::Nothing => {
-            return Taken::Nothing;
-        }
+    let mut events = 0;
+    for i in first..argument_count(host) {
+        events = put_argument(host, i, section, events)?;
     }
+    put_u32(section, 0, events);
+    Ok(events)
 }

@@ -8,24 +8,16 @@ ghost use Rattle.record.specs.Event.{events_by};
 ghost use Rattle.record.specs.Form.{Known};
 ghost use Rattle.record.specs.Sound.{sound};
 
-use crate::input::{RECORD_ROOM, TEXT_ROOM, memory};
-use partners::{begin, copy};
+use crate::input::{RECORD_ROOM, TEXT_ROOM};
+use partners::Pen;
 use record::bytes::put_u32;
-use record::check::{Reading, Refusal, check};
+use record::check::{Counts, Refusal, check};
 use record::form::{Form, Handed, form_of, place_of};
 use record::limits::MAX_OPTIONS;
-use terminal::events::place_in;
-use terminal::words::copy_in;
+use terminal::events::Section;
 
 // The bytes of an event as it is written.
 const WRITTEN: usize = 8;
-
-// A record's length, at the start of the lent buffer, or its refusal, by the place where an event stands as it is written.
-#[derive(Clone, Copy)]
-pub enum Made {
-    Bytes(usize),
-    Refused(Refusal),
-}
 
 // Writes what stands before the document's count, which has so many bytes: nothing, or count 1 and the option byte.
 fn put_front(front: usize, options: u32, rec: &mut [u8])
@@ -40,20 +32,13 @@ fn put_front(front: usize, options: u32, rec: &mut [u8])
 
 // Writes a record whose events stand as they are written; its length. RECORD_ROOM bytes have room for any that is over a limit by as much as it
 // takes to be refused; one that has no room there is cut off behind its front, and so refused for a length too.
-fn put_parts(
-    text: &[u8],
-    section: &[u8],
-    events: usize,
-    form: Form,
-    options: u32,
-    rec: &mut [u8],
-) -> usize
+fn put_parts(text: &[u8], section: Section, form: Form, options: u32, rec: &mut [u8]) -> usize
     requires { Known form × (65536 ≤ length rec.old) × (options ≤ 63) }
     ensures { (form.front ≤ result) × (result ≤ length rec.new) }
 {
     let front = form.front;
     let d = text.len();
-    let size = place_in(section, WRITTEN, events);
+    let size = section.place(section.events);
     put_front(front, options, rec);
     if d > TEXT_ROOM {
         return front;
@@ -63,8 +48,8 @@ fn put_parts(
         return front;
     }
     put_u32(rec, front, d);
-    copy_in(text, rec, 4 + front);
-    copy_in(&section[0..size], rec, behind);
+    rec[4 + front..behind].copy_from_slice(text);
+    rec[behind..behind + size].copy_from_slice(&section.bytes[..size]);
     behind + size
 }
 
@@ -79,47 +64,42 @@ fn put_good(parts: &[u8], form: Form, d: usize, events: usize, rec: &mut [u8]) -
     }
     let behind = 4 + form.front + d;
     let first = behind + 4;
-    copy_in(&parts[0..behind], rec, 0);
+    rec[..behind].copy_from_slice(&parts[..behind]);
     put_u32(rec, behind, events);
-    let pen = begin(form, events);
-    copy(&mut rec[behind..], pen, parts, first, WRITTEN, events);
+    let mut pen = Pen::begin(form, events);
+    pen.copy(&mut rec[behind..], parts, first, WRITTEN, events);
     end
 }
 
-// Judges a record's parts of so many bytes, with its events as they are written, and writes the record.
-fn judge(parts: &[u8], n: usize, form: Form, rec: &mut [u8]) -> Made
-    requires { Known form × (form.front ≤ n) × (n ≤ length parts.now) }
+// Judges a record's parts, with its events as they are written, and writes the record.
+fn judge<'a>(parts: &[u8], form: Form, rec: &'a mut [u8]) -> Result<&'a [u8], Refusal>
+    requires { Known form × (form.front ≤ length parts.now) }
 {
-    match check(&parts[0..n], form.front, WRITTEN) {
-        Reading::Good { document, events } => {
-            return Made::Bytes(put_good(parts, form, document, events, rec));
-        }
-        Reading::Refused(refusal) => {
-            return Made::Refused(refusal);
-        }
-    }
+    let Counts { document, events } = check(parts, form.front, WRITTEN)?;
+    let n = put_good(parts, form, document, events, rec);
+    Ok(&rec[..n])
 }
 
-// Writes the record of a text and of a section's events, so many, where it is good, into RECORD_ROOM bytes.
-pub fn put_record(
+// Writes the record of a text and of a section's events, as they are written, where it is good, into RECORD_ROOM bytes. A refusal is by the place where an event
+// stands as it is written.
+pub fn put_record<'a>(
     text: &[u8],
-    section: &[u8],
-    events: usize,
+    section: Section,
     handed: Handed,
     options: u32,
-    rec: &mut [u8],
-) -> Made {
+    rec: &'a mut [u8],
+) -> Result<&'a [u8], Refusal> {
     if options > MAX_OPTIONS {
-        return Made::Refused(Refusal {
+        return Err(Refusal {
             number: 2,
             place: 0,
         });
     }
     if rec.len() < RECORD_ROOM {
-        return Made::Bytes(0);
+        return Ok(&[]);
     }
     let form = form_of(handed);
-    let mut parts = memory();
-    let n = put_parts(text, section, events, form, options, &mut parts);
-    judge(&parts, n, form, rec)
+    let mut parts = [0u8; RECORD_ROOM];
+    let n = put_parts(text, section, form, options, &mut parts);
+    judge(&parts[..n], form, rec)
 }

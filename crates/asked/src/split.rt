@@ -7,28 +7,12 @@ use record::event::put_event;
 use record::limits::{ATTENTION_SEQUENCE, DATA, ENTER, EXIT, MAX_EVENTS};
 use terminal::marker::marker;
 
-// The name of a piece that begins with a byte.
-fn name_of(byte: u8, options: u32) -> u8 {
-    if marker(byte, options) == 0 {
-        return DATA;
+// The name of a piece, by its first byte.
+fn name_of(piece: &[u8], options: u32) -> u8 {
+    match piece.first() {
+        Some(byte) if marker(*byte, options).is_some() => ATTENTION_SEQUENCE,
+        _ => DATA,
     }
-    ATTENTION_SEQUENCE
-}
-
-// The place behind the piece that begins at a place.
-fn piece_end(text: &[u8], at: usize, options: u32) -> usize
-    requires { at < length text.now }
-    ensures { (at < result) × (result ≤ length text.now) }
-{
-    let first = marker(text[at], options);
-    let mut end = at + 1;
-    while end < text.len() {
-        if marker(text[end], options) != first {
-            return end;
-        }
-        end += 1;
-    }
-    end
 }
 
 // Writes the enter and exit of a piece, at a place of the section.
@@ -40,27 +24,18 @@ fn put_piece(section: &mut [u8], to: usize, name: u8, from: usize, end: usize)
 }
 
 // Writes the enter and exit of each piece behind the section's count; how many events. A pair past the limit is enough for their record to be
-// refused for it.
+// refused for it. The places stay within the text, so no sum of lengths is cut off.
 fn put_pieces(text: &[u8], options: u32, section: &mut [u8]) -> usize {
-    let mut i = 0;
-    let mut to = 4;
+    let mut at: usize = 0;
     let mut events = 0;
-    while i < text.len() {
-        if events > MAX_EVENTS {
-            return events;
+    for piece in text.chunk_by(|a, b| marker(*a, options) == marker(*b, options)) {
+        if events > MAX_EVENTS || section.len() < 20 + 8 * events {
+            break;
         }
-        if to > section.len() {
-            return events;
-        }
-        if section.len() - to < 16 {
-            return events;
-        }
-        let end = piece_end(text, i, options);
-        let name = name_of(text[i], options);
-        put_piece(section, to, name, i, end);
-        to += 16;
+        let end = at.saturating_add(piece.len());
+        put_piece(section, 4 + 8 * events, name_of(piece, options), at, end);
         events += 2;
-        i = end;
+        at = end;
     }
     events
 }

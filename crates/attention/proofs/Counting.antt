@@ -32,11 +32,6 @@ pub record Counting (w : List ℕ) (n q count : ℕ) : Type 0 where
   pub low : count ≤ q
   pub rest : count + emptied_from (n - q) w q ≡ emptied_from n w 0
 
-pub start : (w : List ℕ) (n : ℕ) → Counting w n 0 0
-start w n =
-    let z : n - 0 ≡ n = omega arith in
-    record { within = omega arith; low = omega arith; rest = rw z (omega arith) }
-
 module _ {w : List ℕ} {n q count : ℕ} (i : Counting w n q count) (more : q < n) where
   pub counted : left_of w q ≡ 0 → Counting w n (q + 1) (count + 1)
   counted e =

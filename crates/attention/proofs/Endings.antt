@@ -6,6 +6,7 @@ use mathlib.Core.List.{List}
 use Prim.Native.Nat.{ℕ, ◌+◌, ◌*◌, ◌-◌, ◌≤◌, ◌<◌}
 use native.Mathlib.Omega.{arith}
 use lib.ListN.{length}
+use Rattle.std.specs.Prelude.{Result, Ok, Err}
 use borrow.Author.Tests.{lt-ltb, le-ltb}
 use Rattle.record.specs.Choice.{choose}
 use Rattle.record.specs.Bytes.{Wrote, u32_bytes}
@@ -13,6 +14,7 @@ use Rattle.record.specs.Event.{document_in, events_in}
 use Rattle.record.specs.Outcome.{Outcome, accepted, refusing, sized, onto, bytes_written}
 use Rattle.record.specs.Partners.{balanced}
 use Rattle.record.specs.Sound.{sound}
+use Rattle.record.specs.declared.check.Refusal.{Refusal}
 use Rattle.record.specs.declared.event.Event.{Event}
 use Rattle.record.specs.declared.form.Form.{Form}
 use Rattle.record.proofs.Parts.{length_document}
@@ -25,8 +27,7 @@ use Rattle.runs.specs.Runs.{runs_of}
 use Rattle.runs.specs.Output.{output, replaced}
 use Rattle.output.proofs.SoundOutput.{output_sound}
 use Rattle.writing.specs.Kept.{Kept, Slotted, runs_in, written_of}
-use Rattle.attention.specs.Result.{emptied_from, Matched, result_of, Ended}
-use Rattle.attention.specs.declared.result.Written.TheVariants.{Events, Long, Short}
+use Rattle.attention.specs.Result.{emptied_from, Matched, result_of, count_written, Ended}
 use Rattle.attention.proofs.Bridging.{kept, slotted, kept_groups}
 use Rattle.attention.proofs.Sizes.{accepted_record, size_same}
 
@@ -76,30 +77,21 @@ module _ {profile : Profile} {f : Form} {s : List ℕ} {d e options n groups tri
     pub size_is : size ≡ length (output profile options (document_in f s d) (events_in f s d e))
     size_is = sum ∙ ap (λ (x : ℕ). e - 2 * x + 8 * groups) counted ∙ size_same m
 
-    pub ended_long : (out : List ℕ) → 8000 < size → Ended profile f s d e options out Long out
-    ended_long out h =
+    pub ended_long : (out : List ℕ) {r : Result ℕ Refusal} → 8000 < size → r ≡ Err (record { number = 7; place = 0 }) → Ended profile f s d e options out r out
+    ended_long out h er =
         let k = size_is in
         let q : result_of profile f s d e options (length out) ≡ refusing 7 0 = sized_long f _ _ (omega arith) in
-        record {
-          events = λ x z. let y : ◌≡◌ {A = ℕ} 0 1 = cc in absurd (omega arith);
-          long = λ z. q;
-          short = λ z. let y : ◌≡◌ {A = ℕ} 0 1 = cc in absurd (omega arith);
-          output = unwritten f _ 7 0 out q;
-        }
+        record { answer = er ∙ ap count_written (sym q); output = unwritten f _ 7 0 out q }
 
     same_room : 4 + f.width * size ≡ 4 + f.width * length (output profile options (document_in f s d) (events_in f s d e))
     same_room = ap (λ (x : ℕ). 4 + f.width * x) size_is
 
-    pub ended_short : (out : List ℕ) → size ≤ 8000 → length out < 4 + f.width * size → Ended profile f s d e options out Short out
-    ended_short out h l =
+    pub ended_short : (out : List ℕ) {r : Result ℕ Refusal} → size ≤ 8000 → length out < 4 + f.width * size → r ≡ Err (record { number = 8; place = 0 }) →
+        Ended profile f s d e options out r out
+    ended_short out h l er =
         let k = size_is in
         let q : result_of profile f s d e options (length out) ≡ refusing 8 0 = sized_short f _ _ (omega arith) (omega (arith, same_room)) in
-        record {
-          events = λ x z. let y : ◌≡◌ {A = ℕ} 0 1 = cc in absurd (omega arith);
-          long = λ z. let y : ◌≡◌ {A = ℕ} 0 1 = cc in absurd (omega arith);
-          short = λ z. q;
-          output = unwritten f _ 8 0 out q;
-        }
+        record { answer = er ∙ ap count_written (sym q); output = unwritten f _ 8 0 out q }
 
     -- what the writer asks
     few_events : size ≤ 8000 → length (output profile options (document_in f s d) (events_in f s d e)) ≤ 8000
@@ -114,16 +106,14 @@ module _ {profile : Profile} {f : Form} {s : List ℕ} {d e options n groups tri
         ∙ sound_balanced 8000 d (output profile options (document_in f s d) (events_in f s d e)) (output_is_sound (few_events h))
 
     pub ended_written : (out out₁ out₂ : List ℕ) → size ≤ 8000 → 4 + f.width * size ≤ length out → Wrote out 0 (u32_bytes size) out₁ →
-        Filled f.width out₁ (written_of f s d e w groups) out₂ → Ended profile f s d e options out (Events size) out₂
+        Filled f.width out₁ (written_of f s d e w groups) out₂ → Ended profile f s d e options out (Ok size) out₂
     ended_written out out₁ out₂ h l a b =
         let result : List Event = output profile options (document_in f s d) (events_in f s d e) in
         let q : result_of profile f s d e options (length out) ≡ accepted result = sized_fits f _ _ (few_events h) (omega (arith, same_room)) in
         let a' : Wrote out 0 (u32_bytes (length result)) out₁ = rw size_is at a in
         let b' : Filled f.width out₁ result out₂ = rw written_same at b in
         record {
-          events = λ x z. let y : size ≡ x = cc in (q, sym y ∙ size_is);
-          long = λ z. let y : ◌≡◌ {A = ℕ} 0 1 = cc in absurd (omega arith);
-          short = λ z. let y : ◌≡◌ {A = ℕ} 0 1 = cc in absurd (omega arith);
+          answer = ap Ok size_is ∙ ap count_written (sym q);
           output =
               filled_section f result out out₁ out₂ m.good.known.wide (omega (arith, same_room)) a' b'
               ∙ ap (λ (o : Outcome). onto (bytes_written f o) out) (sym q);

@@ -12,9 +12,6 @@ use Rattle.slots.specs.Layout.{Room, head_of, with_head}
 use Rattle.slots.proofs.Laws.{length_put, get_put_same, get_put_other, byte_put_other}
 use Rattle.attention.specs.Start.{Cleared}
 
-pub cleared_none : (w : List ℕ) → Cleared w 0 w
-cleared_none w = record { same_length = refl; heads = λ k h. absurd (omega arith); slots = λ b h. refl }
-
 -- below a bound that is not reached
 strictly : (a b : ℕ) → a ≤ b → (a ≡ b → ⊥) → a < b
 strictly a b h ne = go (leb (a + 1) b) refl
@@ -45,6 +42,3 @@ cleared_more {w} {w₁} {w₂} {k} {j} room c h e ej =
         let ne : q ≡ k → ⊥ = eqb-false q k t in
         get_put_other w₁ (16384 + k * 2) 0 (16384 + q * 2) (λ x. ne (omega arith)) (λ x. omega arith) (λ x. omega arith)
         ∙ c.heads q (strictly q k (omega (arith, ej)) ne)
-
-pub cleared_all : {w w' : List ℕ} {k : ℕ} → Cleared w k w' → 6147 ≤ k → Cleared w 6147 w'
-cleared_all c h = record { same_length = c.same_length; heads = λ q l. c.heads q (omega arith); slots = c.slots }

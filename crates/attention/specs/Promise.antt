@@ -1,11 +1,12 @@
 -- What the public call promises, in any profile; its contract says in which.
 -- Assumes nothing.
-use Rattle.std.specs.Prelude.{ℕ, List, length}
+use Rattle.std.specs.Prelude.{ℕ, List, length, Result, Ok, Err}
 use Rattle.record.specs.Handed.{form_of, options_of}
 use Rattle.record.specs.Event.{document_in, events_in}
 use Rattle.record.specs.Check.{admitted}
 use Rattle.record.specs.Rows.{document_count_in, event_count_in}
 use Rattle.record.specs.Outcome.{Outcome, accepted, refused, settled, outcome}
+use Rattle.record.specs.declared.check.Refusal.{Refusal}
 use Rattle.record.specs.declared.event.Event.{Event}
 use Rattle.record.specs.declared.form.Handed.{Handed}
 use Rattle.record.specs.declared.form.Form.{Form}
@@ -13,8 +14,14 @@ use Rattle.record.specs.Promise.{Answered, Writes}
 use Rattle.runs.specs.Rule.{Profile}
 use Rattle.runs.specs.Pieces.{outcome as matching}
 use Rattle.attention.specs.Attention.{attention}
-use Rattle.attention.specs.declared.call.Answer.{Answer}
-use Rattle.attention.specs.declared.call.Answer.TheVariants.{Resolved, Refused}
+use Rattle.attention.specs.declared.call.Resolved.{Resolved}
+
+-- what a call answers: what it tells of a record that it resolves, or a refusal
+abbrev pub Answer : Type 0
+Answer = Result Resolved Refusal
+
+abbrev pub resolved : ℕ → ℕ → ℕ → Answer
+resolved events groups tried = Ok (record { events = events; groups = groups; tried = tried })
 
 -- what a call comes to, of the record as it is handed over and the lengths of the output and of the work memory
 unfoldable pub outcome_of : Profile → Handed → List ℕ → ℕ → ℕ → Outcome
@@ -24,8 +31,8 @@ outcome_of profile h s outs works =
 -- what it then answers, of the document and the events: the events written, the groups of the plain rule, and "exactly the candidates that
 -- rule counts as tried"
 abbrev pub answer_at : Profile → ℕ → List ℕ → List Event → Outcome → Answer
-answer_at profile options doc es (accepted rs) = Resolved (length rs) (length (matching profile options doc es).groups) (matching profile options doc es).tried
-answer_at profile options doc es (refused r) = Refused r
+answer_at profile options doc es (accepted rs) = resolved (length rs) (length (matching profile options doc es).groups) (matching profile options doc es).tried
+answer_at profile options doc es (refused r) = Err r
 
 -- the same of the record
 abbrev pub answer_of : Profile → Handed → List ℕ → Outcome → Answer
@@ -52,5 +59,5 @@ pub record Numbers : Type 0 where
   pub tried : ℕ
 
 abbrev pub numbers_of : Answer → Numbers
-numbers_of (Resolved n g t) = record { number = 0; place = 0; events = n; groups = g; tried = t }
-numbers_of (Refused r) = record { number = r.number; place = r.place; events = 0; groups = 0; tried = 0 }
+numbers_of (Ok a) = record { number = 0; place = 0; events = a.events; groups = a.groups; tried = a.tried }
+numbers_of (Err r) = record { number = r.number; place = r.place; events = 0; groups = 0; tried = 0 }

@@ -1,20 +1,20 @@
 -- What stands between the matcher and the answer: a good record whose groups are in the memory, and what is written of it.
 -- Assumes nothing.
-use Rattle.std.specs.Prelude.{ℕ, zero, suc, ◌+◌, ◌≤◌, ◌≡◌, List, eqb, length}
+use Rattle.std.specs.Prelude.{ℕ, zero, suc, ◌+◌, ◌≤◌, ◌≡◌, List, eqb, length, Result, Ok, Err}
 use Rattle.std.proofs.Math.Option.{none}
 use Rattle.record.specs.Choice.{choose}
 use Rattle.record.specs.Event.{document_in, events_in}
 use Rattle.record.specs.declared.form.Form.{Form}
 use Rattle.record.specs.Good.{GoodIn}
-use Rattle.record.specs.Outcome.{Outcome, accepted, refusing, sized, onto, bytes_written}
+use Rattle.record.specs.Outcome.{Outcome, accepted, refused, sized}
+use Rattle.record.specs.Promise.{Answered}
+use Rattle.record.specs.declared.check.Refusal.{Refusal}
 use Rattle.runs.specs.Runs.{offender, runs_of}
 use Rattle.runs.specs.Rule.{Profile}
 use Rattle.runs.specs.Pieces.{outcome}
 use Rattle.runs.specs.Output.{output}
 use Rattle.slots.specs.Layout.{Room, left_of}
 use Rattle.matcher.specs.Promise.{GroupsOf}
-use Rattle.attention.specs.declared.result.Written.{Written}
-use Rattle.attention.specs.declared.result.Written.TheVariants.{Events, Long, Short}
 
 -- of m runs from the run q on, those that have no marker left
 unfoldable pub emptied_from : ℕ → List ℕ → ℕ → ℕ
@@ -36,11 +36,11 @@ pub record Matched (profile : Profile) (f : Form) (s : List ℕ) (d e options n 
 abbrev pub result_of : Profile → Form → List ℕ → ℕ → ℕ → ℕ → ℕ → Outcome
 result_of profile f s d e options outs = sized f (output profile options (document_in f s d) (events_in f s d e)) outs
 
+-- what is answered of it: how many events are written, or the refusal
+abbrev pub count_written : Outcome → Result ℕ Refusal
+count_written (accepted es) = Ok (length es)
+count_written (refused x) = Err x
+
 -- the answer, and the output afterwards
-pub record Ended (profile : Profile) (f : Form) (s : List ℕ) (d e options : ℕ) (out : List ℕ) (r : Written) (out' : List ℕ) : Type 0 where
-  pub events : (n : ℕ) → r ≡ Events n →
-      (result_of profile f s d e options (length out) ≡ accepted (output profile options (document_in f s d) (events_in f s d e)))
-      × (n ≡ length (output profile options (document_in f s d) (events_in f s d e)))
-  pub long : r ≡ Long → result_of profile f s d e options (length out) ≡ refusing 7 0
-  pub short : r ≡ Short → result_of profile f s d e options (length out) ≡ refusing 8 0
-  pub output : out' ≡ onto (bytes_written f (result_of profile f s d e options (length out))) out
+abbrev pub Ended : Profile → Form → List ℕ → ℕ → ℕ → ℕ → List ℕ → Result ℕ Refusal → List ℕ → Type 0
+Ended profile f s d e options out r out' = Answered f (result_of profile f s d e options (length out)) count_written out r out'

@@ -6,36 +6,27 @@ ghost use Rattle.slots.specs.Layout.{Room};
 ghost use Rattle.attention.specs.Result.{emptied_from, Matched, Ended};
 
 use record::bytes::put_u32;
+use record::check::{Refusal, refused};
 use record::form::Form;
 use record::limits::MAX_RESULT;
-use slots::layout::left;
-use writing::write_events;
-
-// What comes of the groups: the section written with so many events, or number 7 or 8.
-#[derive(Clone, Copy)]
-pub enum Written {
-    Events(usize),
-    Long,
-    Short,
-}
+use slots::layout::{Left, get};
+use writing::KeptGroups;
 
 // How many of n runs have no marker left.
 pub fn count_emptied(w: &[u8], n: usize) -> usize
     requires { (n ≤ 1024) × Room w.now }
     ensures { (result ≡ emptied_from n w.now 0) × (result ≤ n) }
 {
-    let mut q = 0;
     let mut count = 0;
-    while q < n {
-        if left(w, q) == 0 {
+    for q in 0..n {
+        if get::<Left>(w, q) == 0 {
             count += 1;
         }
-        q += 1;
     }
     count
 }
 
-// Numbers 7 and 8, or the section.
+// Numbers 7 and 8, or the section, and how many events it has.
 pub fn write_result(
     s: &[u8],
     form: Form,
@@ -47,20 +38,23 @@ pub fn write_result(
     groups: usize,
     tried: usize,
     out: &mut [u8],
-) -> Written
+) -> Result<usize, Refusal>
     requires { Matched crate form s.now d e options n groups tried w.now }
     ensures { Ended crate form s.now d e options out.old result out.new }
 {
-    let emptied = count_emptied(w, n);
-    let size = e - 2 * emptied + 8 * groups;
+    let size = e - 2 * count_emptied(w, n) + 8 * groups;
     if size > MAX_RESULT {
-        return Written::Long;
+        return refused(7, 0);
     }
-    let width = form.width;
-    if out.len() < 4 + width * size {
-        return Written::Short;
+    if out.len() < 4 + form.width * size {
+        return refused(8, 0);
     }
     put_u32(out, 0, size);
-    write_events(out, s, form, d, e, w, groups, n, size);
-    Written::Events(size)
+    let kept = KeptGroups {
+        memory: w,
+        groups,
+        runs: n,
+    };
+    kept.write_events(out, s, form, d, e, size);
+    Ok(size)
 }

@@ -3,16 +3,14 @@
 ghost use Rattle.slots.specs.Layout.{Room};
 ghost use Rattle.attention.specs.Start.{Cleared};
 
-use slots::layout::put_head;
+use slots::layout::{Head, put};
 
 // Empties every chain.
 pub fn clear_heads(w: &mut [u8])
     requires { Room w.old }
     ensures { Cleared w.old 6147 w.new }
 {
-    let mut k = 0;
-    while k < 6147 {
-        put_head(w, k, 0);
-        k += 1;
+    for k in 0..6147 {
+        put::<Head>(w, k, 0);
     }
 }

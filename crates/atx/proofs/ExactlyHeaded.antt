@@ -10,25 +10,23 @@ use native.Mathlib.Omega.{arith}
 use lib.ListN.{length}
 use lib.Dec.{ltb}
 use borrow.Author.Tests.{ltb-true, ltb-false}
+use Rattle.std.specs.Prelude.{Ok, Err, None, Some}
 use Rattle.record.specs.Choice.{choose}
 use Rattle.record.specs.Order.{rank, Least}
 use Rattle.record.specs.Form.{old}
 use Rattle.record.specs.Outcome.{sized, accepted, refusing}
 use Rattle.record.specs.declared.check.Refusal.{Refusal}
 use Rattle.record.proofs.Order.{lower_first}
-use Rattle.scan.specs.Line.{line_of, reading}
+use Rattle.scan.specs.Line.{line_of, reading, Checked}
 use Rattle.scan.specs.Rows.{Row, row_2, row_2_column, row_3, row_4, Exactly}
-use Rattle.scan.specs.declared.line.Checked.{Checked}
-use Rattle.scan.specs.declared.line.Checked.TheVariants.{Ends, Bad}
 use Rattle.scan.proofs.ExactlyChecked.{Came, least_row, no_row, exactly, came, neither}
 use Rattle.atx.specs.Rows.{WritingRow, row_7, row_8, heading_found}
 use Rattle.atx.specs.Rows.{reading as by-reading}
 use Rattle.atx.specs.Heading.{is_heading, heading_events, nothing, headed, headed_in, headed_of}
-use Rattle.atx.specs.declared.Headed.TheVariants.{Heading, NotHeading, Refused as HeadedRefused}
 
-heading_apart : (l : List ℕ) (options column : ℕ) (a : Refusal) → heading_found l options column ≡ HeadedRefused a → ⊥
+heading_apart : (l : List ℕ) (options column : ℕ) (a : Refusal) → heading_found l options column ≡ Err a → ⊥
 heading_apart l options column a q =
-    neither _ _ _ (HeadedRefused a) (λ e. let z : ◌≡◌ {A = ℕ} 0 1 = cc in omega arith) (λ e. let z : ◌≡◌ {A = ℕ} 0 1 = cc in omega arith) q
+    neither _ _ _ (Err a) (λ e. let z : ◌≡◌ {A = ℕ} 0 1 = cc in omega arith) (λ e. let z : ◌≡◌ {A = ℕ} 0 1 = cc in omega arith) q
 
 module _ (s : List ℕ) (options column outs : ℕ) where
   low : (n p : ℕ) → Row s options column n p → (0 < n) × (n < 7)
@@ -75,48 +73,48 @@ module _ (s : List ℕ) (options column outs : ℕ) where
         room h n p (row_7 i w a b) = omega arith
         room h n p (row_8 i w a b) = omega arith
 
-      came_sized : Came (WritingRow s options column outs) HeadedRefused (Heading (length (heading_events (line_of s))))
+      came_sized : Came (WritingRow s options column outs) Err (Ok (Some (length (heading_events (line_of s)))))
           (headed (sized old (heading_events (line_of s)) outs)).answer
       unfolding sized choose
       came_sized = go (ltb 8000 (length (heading_events (line_of s)))) refl (ltb outs (4 + 8 * length (heading_events (line_of s)))) refl
         where
           go : (y : Bool) → ltb 8000 (length (heading_events (line_of s))) ≡ y → (z : Bool) → ltb outs (4 + 8 * length (heading_events (line_of s))) ≡ z →
-              Came (WritingRow s options column outs) HeadedRefused (Heading (length (heading_events (line_of s))))
+              Came (WritingRow s options column outs) Err (Ok (Some (length (heading_events (line_of s)))))
               (headed (choose y (refusing 7 0) (choose z (refusing 8 0) (accepted (heading_events (line_of s)))))).answer
           go true e z f = least_row 7 0 refl (at_7 (ltb-true _ _ e))
           go false e true f = least_row 8 0 refl (at_8 (ltb-false _ _ e) (ltb-true _ _ f))
           go false e false f = no_row refl (room (ltb-false _ _ e) (ltb-false _ _ f))
 
-    came_in : Came (WritingRow s options column outs) HeadedRefused (heading_found (line_of s) options column) (headed_in (line_of s) options column outs).answer
+    came_in : Came (WritingRow s options column outs) Err (heading_found (line_of s) options column) (headed_in (line_of s) options column outs).answer
     unfolding headed_in choose
     came_in = go (is_heading (line_of s) options column) refl
       where
         go : (z : Bool) → is_heading (line_of s) options column ≡ z →
-            Came (WritingRow s options column outs) HeadedRefused (choose z (Heading (length (heading_events (line_of s)))) NotHeading)
-            (choose z (headed (sized old (heading_events (line_of s)) outs)) (nothing NotHeading)).answer
+            Came (WritingRow s options column outs) Err (choose z (Ok (Some (length (heading_events (line_of s))))) (Ok None))
+            (choose z (headed (sized old (heading_events (line_of s)) outs)) (nothing (Ok None))).answer
         go true e = came_sized e
         go false e = no_row refl (no_heading e)
 
-  written_came : {n : ℕ} {c : Checked} → Came (Row s options column) Bad (Ends n) c →
-      Came (WritingRow s options column outs) HeadedRefused (heading_found (line_of s) options column)
-      (reading c (λ r. nothing (HeadedRefused r)) (headed_in (line_of s) options column outs)).answer
+  written_came : {n : ℕ} {c : Checked} → Came (Row s options column) Err (Ok n) c →
+      Came (WritingRow s options column outs) Err (heading_found (line_of s) options column)
+      (reading c (λ r. nothing (Err r)) (headed_in (line_of s) options column outs)).answer
   unfolding reading
   written_came (least_row n p e l) =
-      least_row n p (ap (λ (x : Checked). (reading x (λ r. nothing (HeadedRefused r)) (headed_in (line_of s) options column outs)).answer) e) (lifted l)
+      least_row n p (ap (λ (x : Checked). (reading x (λ r. nothing (Err r)) (headed_in (line_of s) options column outs)).answer) e) (lifted l)
   written_came {n} {c} (no_row e f) = go (came_in f)
     where
-      here : (reading c (λ r. nothing (HeadedRefused r)) (headed_in (line_of s) options column outs)).answer ≡ (headed_in (line_of s) options column outs).answer
-      here = ap (λ (x : Checked). (reading x (λ r. nothing (HeadedRefused r)) (headed_in (line_of s) options column outs)).answer) e
+      here : (reading c (λ r. nothing (Err r)) (headed_in (line_of s) options column outs)).answer ≡ (headed_in (line_of s) options column outs).answer
+      here = ap (λ (x : Checked). (reading x (λ r. nothing (Err r)) (headed_in (line_of s) options column outs)).answer) e
 
-      go : Came (WritingRow s options column outs) HeadedRefused (heading_found (line_of s) options column) (headed_in (line_of s) options column outs).answer →
-          Came (WritingRow s options column outs) HeadedRefused (heading_found (line_of s) options column)
-          (reading c (λ r. nothing (HeadedRefused r)) (headed_in (line_of s) options column outs)).answer
+      go : Came (WritingRow s options column outs) Err (heading_found (line_of s) options column) (headed_in (line_of s) options column outs).answer →
+          Came (WritingRow s options column outs) Err (heading_found (line_of s) options column)
+          (reading c (λ r. nothing (Err r)) (headed_in (line_of s) options column outs)).answer
       go (least_row m q d l) = least_row m q (here ∙ d) l
       go (no_row d g) = no_row (here ∙ d) g
 
 -- of the heading reader
 pub heading_exactly : (s : List ℕ) (options column outs : ℕ) →
-    Exactly (WritingRow s options column outs) HeadedRefused (heading_found (line_of s) options column) (headed_of s options column outs).answer
+    Exactly (WritingRow s options column outs) Err (heading_found (line_of s) options column) (headed_of s options column outs).answer
 unfolding headed_of
 heading_exactly s options column outs =
     exactly (λ a b q. cc) (heading_apart (line_of s) options column) (written_came s options column outs (came s options column))

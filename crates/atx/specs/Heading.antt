@@ -1,6 +1,7 @@
 -- The heading reader. CommonMark 0.31 §4.2: the opening sequence; what the `#` runs behind it become is the heading resolver's.
 -- Assumes nothing.
-use Rattle.std.specs.Prelude.{ℕ, zero, suc, ◌+◌, ◌≡◌, refl, Bool, true, List, [], ◌∷◌, ◌++◌, length, drop, leb}
+use Rattle.std.specs.Prelude.{ℕ, zero, suc, ◌+◌, ◌≡◌, refl, Bool, true, List, [], ◌∷◌, ◌++◌, length, drop, leb, Err, None, Some, Option, Result, Ok}
+use Rattle.record.specs.declared.check.Refusal.{Refusal}
 use Rattle.record.specs.Choice.{choose, and}
 use Rattle.record.specs.Options.{option_on}
 use Rattle.record.specs.Event.{enter, exit, section_bytes}
@@ -11,8 +12,6 @@ use Rattle.scan.specs.Run.{or, space_or_tab, filled, hash, leading, first, blank
 use Rattle.scan.specs.Columns.{indentation}
 use Rattle.scan.specs.Line.{line_of, checked_line, reading}
 use Rattle.atx.specs.declared.Piece.{Piece}
-use Rattle.atx.specs.declared.Headed.{Headed}
-use Rattle.atx.specs.declared.Headed.TheVariants.{Heading, NotHeading, Refused}
 
 -- "must be followed by spaces or tabs, or by the end of line"
 unfoldable pub broken_off : List ℕ → Bool
@@ -74,26 +73,30 @@ heading_case : heading_events (32 ∷ 35 ∷ 32 ∷ 97 ∷ 35 ∷ []) ≡
 unfolding heading_events events_from split pieces piece_of blanks leading space_or_tab filled hash or choose
 heading_case = refl
 
+-- what is answered: how many events are written, the finding "not a heading", or a refusal
+abbrev pub Headed : Type 0
+Headed = Result (Option ℕ) Refusal
+
 -- what is answered and what is written
-pub record Result : Type 0 where
+pub record Reply : Type 0 where
   pub answer : Headed
   pub bytes : List ℕ
 
-abbrev pub nothing : Headed → Result
+abbrev pub nothing : Headed → Reply
 nothing answer = record { answer = answer; bytes = [] }
 
 -- a section written, or a refusal and nothing written
-abbrev pub headed : Outcome → Result
-headed (accepted es) = record { answer = Heading (length es); bytes = section_bytes es }
-headed (refused r) = nothing (Refused r)
+abbrev pub headed : Outcome → Reply
+headed (accepted es) = record { answer = Ok (Some (length es)); bytes = section_bytes es }
+headed (refused r) = nothing (Err r)
 
 -- on a line, with an output of `outs` bytes: numbers 7 and 8 as for every call that writes a section
-unfoldable pub headed_in : List ℕ → ℕ → ℕ → ℕ → Result
-headed_in l options column outs = choose (is_heading l options column) (headed (sized old (heading_events l) outs)) (nothing NotHeading)
+unfoldable pub headed_in : List ℕ → ℕ → ℕ → ℕ → Reply
+headed_in l options column outs = choose (is_heading l options column) (headed (sized old (heading_events l) outs)) (nothing (Ok None))
 
 -- of the line, the options, the column and the output's length alone
-unfoldable pub headed_of : List ℕ → ℕ → ℕ → ℕ → Result
-headed_of s options column outs = reading (checked_line s options column) (λ r. nothing (Refused r)) (headed_in (line_of s) options column outs)
+unfoldable pub headed_of : List ℕ → ℕ → ℕ → ℕ → Reply
+headed_of s options column outs = reading (checked_line s options column) (λ r. nothing (Err r)) (headed_in (line_of s) options column outs)
 
 -- number, place and values of each answer
 pub record Numbers : Type 0 where
@@ -103,6 +106,6 @@ pub record Numbers : Type 0 where
   pub events : ℕ
 
 abbrev pub numbers_of : Headed → Numbers
-numbers_of (Heading events) = record { number = 0; place = 0; found = 1; events = events }
-numbers_of NotHeading = record { number = 0; place = 0; found = 0; events = 0 }
-numbers_of (Refused r) = record { number = r.number; place = r.place; found = 0; events = 0 }
+numbers_of (Ok (Some events)) = record { number = 0; place = 0; found = 1; events = events }
+numbers_of (Ok None) = record { number = 0; place = 0; found = 0; events = 0 }
+numbers_of (Err r) = record { number = r.number; place = r.place; found = 0; events = 0 }

@@ -2,8 +2,7 @@
 -- Assumes nothing.
 use Rattle.std.specs.Prelude.{ℕ, ◌≡◌, List, length}
 use Rattle.record.specs.Outcome.{onto}
-use Rattle.atx.specs.Heading.{headed_in, headed_of}
-use Rattle.atx.specs.declared.Headed.{Headed}
+use Rattle.atx.specs.Heading.{headed_in, headed_of, Headed}
 
 -- on a line: r is answered, and out' is what the output then holds
 pub record HeadedIn (l : List ℕ) (options column : ℕ) (out : List ℕ) (r : Headed) (out' : List ℕ) : Type 0 where

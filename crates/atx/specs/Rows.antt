@@ -1,12 +1,10 @@
 -- Document 01's table of the numbers given back, as the heading reader uses it: rows 2, 3 and 4 as every line reader does, and 7 and 8.
 -- Assumes nothing.
-use Rattle.std.specs.Prelude.{ℕ, ◌+◌, ◌*◌, ◌<◌, ◌≡◌, true, List, length}
+use Rattle.std.specs.Prelude.{ℕ, ◌+◌, ◌*◌, ◌<◌, ◌≡◌, true, List, length, None, Some, Ok}
 use Rattle.record.specs.Choice.{choose}
 use Rattle.scan.specs.Line.{line_of}
 use Rattle.scan.specs.Rows.{Row}
-use Rattle.atx.specs.Heading.{is_heading, heading_events}
-use Rattle.atx.specs.declared.Headed.{Headed}
-use Rattle.atx.specs.declared.Headed.TheVariants.{Heading, NotHeading}
+use Rattle.atx.specs.Heading.{is_heading, heading_events, Headed}
 
 -- with an output of `outs` bytes: "result over 8,000 events" (amendment D18: the standard sets no limit), "output shorter than 4 + 8 × result"
 pub data WritingRow (s : List ℕ) (options column outs n p : ℕ) : Type 0 where
@@ -16,4 +14,4 @@ pub data WritingRow (s : List ℕ) (options column outs n p : ℕ) : Type 0 wher
 
 -- what the heading reader finds where no row holds
 abbrev pub heading_found : List ℕ → ℕ → ℕ → Headed
-heading_found l options column = choose (is_heading l options column) (Heading (length (heading_events l))) NotHeading
+heading_found l options column = choose (is_heading l options column) (Ok (Some (length (heading_events l)))) (Ok None)

@@ -9,11 +9,11 @@ ghost use Rattle.atx.specs.Heading.{opening, is_heading, piece_of, split, events
 ghost use Rattle.atx.specs.Promise.{HeadedIn, HeadedBy};
 
 use record::bytes::put_u32;
-use record::check::Refusal;
+use record::check::{Refusal, refused};
 use record::event::put_event;
 use record::limits::{DATA, ENTER, EXIT, HEADING, HEADING_SEQUENCE, MAX_RESULT, SPACE_OR_TAB};
 use scan::columns::indented;
-use scan::line::{Checked, check_line};
+use scan::line::check_line;
 use scan::run::{gap, hashes, is_blank, word};
 
 // A piece of a heading line: its name (0, 12 or 14) and how many bytes it has.
@@ -21,14 +21,6 @@ use scan::run::{gap, hashes, is_blank, word};
 pub struct Piece {
     pub name: u8,
     pub size: usize,
-}
-
-// The number of events written, the finding "not a heading", or a refusal.
-#[derive(Clone, Copy)]
-pub enum Headed {
-    Heading { events: usize },
-    NotHeading,
-    Refused(Refusal),
 }
 
 // Whether an opening sequence stands in front.
@@ -42,10 +34,7 @@ pub fn opens(rest: &[u8]) -> bool
     if n > 6 {
         return false;
     }
-    if n >= rest.len() {
-        return true;
-    }
-    is_blank(rest[n])
+    n >= rest.len() || is_blank(rest[n])
 }
 
 // Whether a line that starts at a column is a heading.
@@ -71,7 +60,7 @@ pub fn next_piece(rest: &[u8]) -> Piece
             size: gap(rest),
         };
     }
-    if rest[0] == 35 {
+    if rest[0] == b'#' {
         return Piece {
             name: HEADING_SEQUENCE,
             size: hashes(rest),
@@ -90,10 +79,9 @@ pub fn count_pieces(line: &[u8]) -> usize
 {
     let mut at = 0;
     let mut n = 0;
+    // Kept: a piece says by its length where the next one begins, and nothing is counted.
     while at < line.len() {
-        let next = next_piece(&line[at..]);
-        let size = next.size;
-        at += size;
+        at += next_piece(&line[at..]).size;
         n += 1;
     }
     n
@@ -106,10 +94,9 @@ pub fn put_pieces(out: &mut [u8], from: usize, line: &[u8])
 {
     let mut at = 0;
     let mut to = from;
+    // Kept: the places of the pieces are what is written.
     while at < line.len() {
-        let next = next_piece(&line[at..]);
-        let name = next.name;
-        let size = next.size;
+        let Piece { name, size } = next_piece(&line[at..]);
         let end = at + size;
         put_event(out, to, ENTER, name, at);
         put_event(out, to + 8, EXIT, name, end);
@@ -118,45 +105,43 @@ pub fn put_pieces(out: &mut [u8], from: usize, line: &[u8])
     }
 }
 
-// A heading's events, from enter to exit of 11.
-pub fn headed_in(line: &[u8], options: u32, column: usize, out: &mut [u8]) -> Headed
+// Whether a line is a heading; its events, from enter to exit of 11, are written, and it is said how many. Or a refusal, where these are too many or do not fit.
+pub fn headed_in(
+    line: &[u8],
+    options: u32,
+    column: usize,
+    out: &mut [u8],
+) -> Result<Option<usize>, Refusal>
     requires { (length line.now ≤ 16384) × (column ≤ 16384) }
     ensures { HeadedIn line.now options column out.old result out.new }
 {
     if !is_heading(line, options, column) {
-        return Headed::NotHeading;
+        return Ok(None);
     }
     let pieces = count_pieces(line);
     let events = 2 + 2 * pieces;
     if events > MAX_RESULT {
-        return Headed::Refused(Refusal {
-            number: 7,
-            place: 0,
-        });
+        return refused(7, 0);
     }
     if out.len() < 4 + 8 * events {
-        return Headed::Refused(Refusal {
-            number: 8,
-            place: 0,
-        });
+        return refused(8, 0);
     }
     put_u32(out, 0, events);
     put_event(out, 4, ENTER, HEADING, 0);
     put_pieces(out, 12, line);
     put_event(out, 12 + 16 * pieces, EXIT, HEADING, line.len());
-    Headed::Heading { events }
+    Ok(Some(events))
 }
 
 // The same of a line as it is lent.
-pub fn heading(line: &[u8], options: u32, column: usize, out: &mut [u8]) -> Headed
+pub fn heading(
+    line: &[u8],
+    options: u32,
+    column: usize,
+    out: &mut [u8],
+) -> Result<Option<usize>, Refusal>
     ensures { HeadedBy line.now options column out.old result out.new }
 {
-    match check_line(line, options, column) {
-        Checked::Bad(refusal) => {
-            return Headed::Refused(refusal);
-        }
-        Checked::Ends(end) => {
-            return headed_in(&line[0..end], options, column, out);
-        }
-    }
+    let end = check_line(line, options, column)?;
+    headed_in(&line[..end], options, column, out)
 }

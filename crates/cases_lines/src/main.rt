@@ -7,292 +7,217 @@
 
 #![tactic(auto)]
 
-ghost use Rattle.std.specs.Prelude.{◌≤◌, length};
-
-use atx::{Headed, heading};
+use atx::heading;
 use lines::container::{Container, Kind};
 use lines::going::{Going, continuation};
-use lines::item::{Start, list_item};
-use lines::spaces::{Spaces, space_or_tab};
+use lines::item::{Item, list_item};
+use lines::spaces::{Taken, space_or_tab};
 use record::check::Refusal;
 use record::event::event_at;
+use script::{next_word, spell};
 use std::io;
 
-// Words on standard output.
-fn say(rt: &impl Print, text: &[u8]) -> io::Result<()> {
-    rt.write_all(text)
-}
+// What the output holds before each call.
+const FILL: u8 = 0xa5;
 
-// A number in decimal digits.
-fn say_number(rt: &impl Print, n: usize) -> io::Result<()> {
-    rt.print(n)
+// What is asked of a reader, beside the line's bytes.
+#[derive(Clone, Copy)]
+struct Question {
+    options: u32,
+    column: usize,
+    a: usize,
+    b: usize,
 }
 
 // A refusal by its number and place.
 fn say_refusal(rt: &impl Print, refusal: Refusal) -> io::Result<()> {
-    say(rt, b"refused ")?;
-    say_number(rt, refusal.number)?;
-    say(rt, b" at ")?;
-    say_number(rt, refusal.place)
+    print!(rt; "refused {} at {}", refusal.number, refusal.place)
 }
 
 // A container's flag, as 1 or 0.
 fn say_flag(rt: &impl Print, blank: bool) -> io::Result<()> {
-    if blank {
-        say(rt, b", flag 1")
-    } else {
-        say(rt, b", flag 0")
-    }
+    print!(rt; ", flag {}", u8::from(blank))
 }
 
-// The bytes taken, and the columns left of a cut tab.
-fn say_taken(rt: &impl Print, taken: usize, left: usize) -> io::Result<()> {
-    say(rt, b"taken ")?;
-    say_number(rt, taken)?;
-    say(rt, b", left ")?;
-    say_number(rt, left)
-}
-
-// What space-or-tab found: what it took, that there are too few, or a refusal.
-fn say_spaces(rt: &impl Print, found: Spaces) -> io::Result<()> {
+// What space-or-tab found: the bytes taken and the columns left of a cut tab, that there are too few, or a refusal.
+fn say_spaces(rt: &impl Print, found: Result<Option<Taken>, Refusal>) -> io::Result<()> {
     match found {
-        Spaces::Taken { taken, left } => say_taken(rt, taken, left),
-        Spaces::TooFew => say(rt, b"too few"),
-        Spaces::Refused(refusal) => say_refusal(rt, refusal),
+        Ok(Some(Taken { bytes, left })) => print!(rt; "taken {bytes}, left {left}"),
+        Ok(None) => print!(rt; "too few"),
+        Err(refusal) => say_refusal(rt, refusal),
     }
 }
 
 // Whether an item is bulleted or ordered, and its mark as the number of a byte.
 fn say_kind(rt: &impl Print, kind: Kind) -> io::Result<()> {
     match kind {
-        Kind::Bullet(mark) => {
-            say(rt, b", bullet ")?;
-            say_number(rt, mark as usize)
-        }
-        Kind::Ordered(mark) => {
-            say(rt, b", ordered ")?;
-            say_number(rt, mark as usize)
-        }
+        Kind::Bullet(mark) => print!(rt; ", bullet {mark}"),
+        Kind::Ordered(mark) => print!(rt; ", ordered {mark}"),
     }
 }
 
 // What list item start found: what it took and the container that opens, no list item, or a refusal.
-fn say_start(rt: &impl Print, found: Start) -> io::Result<()> {
+fn say_start(rt: &impl Print, found: Result<Option<Item>, Refusal>) -> io::Result<()> {
     match found {
-        Start::Item {
-            taken,
-            left,
-            container,
-        } => {
-            say(rt, b"item, ")?;
-            say_taken(rt, taken, left)?;
-            say(rt, b", size ")?;
-            say_number(rt, container.size)?;
+        Ok(
+            Some(
+                Item {
+                    taken,
+                    left,
+                    container,
+                },
+            ),
+        ) => {
+            print!(rt; "item, taken {taken}, left {left}, size {}", container.size)?;
             say_flag(rt, container.blank)?;
-            let kind = container.kind;
-            say_kind(rt, kind)
+            say_kind(rt, container.kind)
         }
-        Start::NotItem => say(rt, b"not a list item"),
-        Start::Refused(refusal) => say_refusal(rt, refusal),
+        Ok(None) => print!(rt; "not a list item"),
+        Err(refusal) => say_refusal(rt, refusal),
     }
 }
 
 // What continuation found: what it took, or no continuation, each with the flag as it then stands; or a refusal.
-fn say_going(rt: &impl Print, found: Going) -> io::Result<()> {
+fn say_going(rt: &impl Print, found: Result<Going, Refusal>) -> io::Result<()> {
     match found {
-        Going::Goes {
-            taken,
-            left,
-            container,
-        } => {
-            say(rt, b"goes on, ")?;
-            say_taken(rt, taken, left)?;
+        Ok(
+            Going::Goes {
+                taken,
+                left,
+                container,
+            },
+        ) => {
+            print!(rt; "goes on, taken {taken}, left {left}")?;
             say_flag(rt, container.blank)
         }
-        Going::Stops { container } => {
-            say(rt, b"not a continuation")?;
+        Ok(Going::Stops { container }) => {
+            print!(rt; "not a continuation")?;
             say_flag(rt, container.blank)
         }
-        Going::Refused(refusal) => say_refusal(rt, refusal),
+        Err(refusal) => say_refusal(rt, refusal),
     }
 }
 
 // The events of a section, `+` for enter and `-` for exit.
 fn say_events(rt: &impl Print, out: &[u8], events: usize) -> io::Result<()> {
-    let mut at = 4;
-    let mut left = events;
-    while left > 0 {
-        if out.len() < at {
-            return Ok(());
-        }
-        if out.len() - at < 8 {
-            return Ok(());
-        }
-        let event = event_at(out, at);
-        if event.kind == 0 {
-            say(rt, b" +")?;
-        } else {
-            say(rt, b" -")?;
-        }
-        say_number(rt, event.name as usize)?;
-        say(rt, b"@")?;
-        say_number(rt, event.place)?;
-        at += 8;
-        left -= 1;
+    for bytes in out.chunks_exact(8).take(events) {
+        let e = event_at(bytes, 0);
+        let sign = if e.kind == 0 { '+' } else { '-' };
+        print!(rt; " {sign}{}@{}", e.name, e.place)?;
     }
     Ok(())
 }
 
-// Whether the output is as it was from a place on.
-fn say_kept(rt: &impl Print, out: &[u8], from: usize) -> io::Result<()> {
-    if from > out.len() {
-        return Ok(());
+// Whether the rest of the output is as it was.
+fn say_kept(rt: &impl Print, rest: &[u8]) -> io::Result<()> {
+    if rest.iter().all(|b| *b == FILL) {
+        print!(rt; ", the rest kept")
+    } else {
+        print!(rt; ", MORE of the output changed")
     }
-    if script::run_of(out, from, 0xa5) < out.len() {
-        return say(rt, b", MORE of the output changed");
-    }
-    say(rt, b", the rest kept")
 }
 
 // At most twelve events are shown one by one.
-fn say_headed(rt: &impl Print, found: Headed, out: &[u8]) -> io::Result<()> {
+fn say_headed(
+    rt: &impl Print,
+    found: Result<Option<usize>, Refusal>,
+    out: &[u8],
+) -> io::Result<()> {
     match found {
-        Headed::Heading { events } => {
-            say(rt, b"heading, events ")?;
-            say_number(rt, events)?;
-            if events <= 8000 {
-                if events <= 12 {
-                    say_events(rt, out, events)?;
-                }
-                say_kept(rt, out, 4 + 8 * events)?;
+        Ok(Some(events)) => {
+            print!(rt; "heading, events {events}")?;
+            if events > 8000 || 4 + 8 * events > out.len() {
+                return Ok(());
             }
-            Ok(())
+            if events <= 12 {
+                say_events(rt, &out[4..], events)?;
+            }
+            say_kept(rt, &out[4 + 8 * events..])
         }
-        Headed::NotHeading => {
-            say(rt, b"not a heading")?;
-            say_kept(rt, out, 0)
+        Ok(None) => {
+            print!(rt; "not a heading")?;
+            say_kept(rt, out)
         }
-        Headed::Refused(refusal) => {
+        Err(refusal) => {
             say_refusal(rt, refusal)?;
-            say_kept(rt, out, 0)
+            say_kept(rt, out)
         }
     }
 }
 
 // The heading reader, lent so many bytes of the output. A question for more than there are is not asked.
-fn ask_heading(
-    rt: &impl Print,
-    s: &[u8],
-    options: u32,
-    column: usize,
-    out: &mut [u8],
-    lent: usize,
-) -> io::Result<()> {
-    if lent > out.len() {
+fn ask_heading(rt: &impl Print, s: &[u8], q: Question, out: &mut [u8]) -> io::Result<()> {
+    if q.a > out.len() {
         return Ok(());
     }
-    script::flood(out, 0xa5);
-    let found = heading(s, options, column, &mut out[0..lent]);
+    out.fill(FILL);
+    let found = heading(s, q.options, q.column, &mut out[..q.a]);
     say_headed(rt, found, out)
 }
 
-// The reader that a letter stands for, with what it takes of the two numbers; of any other letter nothing is said.
-fn ask(
-    rt: &impl Print,
-    s: &[u8],
-    reader: u8,
-    options: u32,
-    column: usize,
-    a: usize,
-    b: usize,
-    out: &mut [u8],
-) -> io::Result<()> {
-    if reader == b'h' {
-        return ask_heading(rt, s, options, column, out, a);
+// The reader that a word names by its letter, with what it takes of the two numbers; of any other word nothing is said.
+fn ask(rt: &impl Print, reader: &[u8], s: &[u8], q: Question, out: &mut [u8]) -> io::Result<()> {
+    match reader {
+        [b'h', ..] => ask_heading(rt, s, q, out),
+        [b's', ..] => say_spaces(rt, space_or_tab(s, q.options, q.column, q.a, q.b)),
+        [b'i', ..] => say_start(rt, list_item(s, q.options, q.column, q.a == 1)),
+        [b'c', ..] => {
+            let held = Container {
+                kind: Kind::Bullet(b'-'),
+                size: q.a,
+                blank: q.b == 1,
+            };
+            say_going(rt, continuation(s, q.options, q.column, held))
+        }
+        _ => Ok(()),
     }
-    if reader == b's' {
-        return say_spaces(rt, space_or_tab(s, options, column, a, b));
-    }
-    if reader == b'i' {
-        return say_start(rt, list_item(s, options, column, a == 1));
-    }
-    if reader == b'c' {
-        let held = Container {
-            kind: Kind::Bullet(b'-'),
-            size: a,
-            blank: b == 1,
-        };
-        return say_going(rt, continuation(s, options, column, held));
-    }
-    Ok(())
 }
 
 // A number of the script; `-` is the largest.
-fn number(s: &[u8], at: usize) -> usize
-    requires { at ≤ length s.now }
-{
-    if at < s.len() {
-        if s[at] == b'-' {
-            return 18446744073709551615;
-        }
+fn number(word: &[u8]) -> usize {
+    match word {
+        [b'-', ..] => usize::MAX,
+        _ => script::number(word, 0),
     }
-    script::number(s, at)
+}
+
+// The numbers behind the reader, which are cut off the line's front.
+fn read_question(line: &mut &[u8]) -> Question {
+    Question {
+        options: (script::number(next_word(line), 0) % 4294967296) as u32,
+        column: number(next_word(line)),
+        a: number(next_word(line)),
+        b: number(next_word(line)),
+    }
 }
 
 // One line of the script.
 fn line(rt: &impl Print, s: &[u8], bytes: &mut [u8], out: &mut [u8]) -> io::Result<()> {
-    let first = script::find(s, 0, b' ');
-    if first == 0 {
+    if matches!(s, [] | [b' ', ..]) {
         return Ok(());
     }
-    say(rt, &s[0..first])?;
-    say(rt, b": ")?;
-    let reader = script::skip(s, first);
-    if reader == s.len() {
+    let mut rest = s;
+    let label = next_word(&mut rest);
+    rt.write_all(label)?;
+    print!(rt; ": ")?;
+    let reader = next_word(&mut rest);
+    if reader.is_empty() {
         return Ok(());
     }
-    let second = script::find(s, reader, b' ');
-    let options = script::skip(s, second);
-    let third = script::find(s, options, b' ');
-    let column = script::skip(s, third);
-    let fourth = script::find(s, column, b' ');
-    let a = script::skip(s, fourth);
-    let fifth = script::find(s, a, b' ');
-    let b = script::skip(s, fifth);
-    let sixth = script::find(s, b, b' ');
-    let n = script::spell(s, sixth, bytes);
-    ask(
-        rt,
-        &bytes[0..n],
-        s[reader],
-        (script::number(s, options) % 4294967296) as u32,
-        number(s, column),
-        number(s, a),
-        number(s, b),
-        out,
-    )?;
-    say(rt, b"\n")
+    let q = read_question(&mut rest);
+    let n = spell(rest, 0, bytes);
+    ask(rt, reader, &bytes[..n], q, out)?;
+    print!(rt; "\n")
 }
 
-// All lines of the script, with one buffer for the bytes that they spell and one for the output.
-fn run(rt: &impl Print, text: &[u8]) -> io::Result<()> {
-    let mut bytes = [0u8; 32768];
-    let mut out = [0u8; 65536];
-    let mut i = 0;
-    while i < text.len() {
-        let end = script::find(text, i, 10);
-        line(rt, &text[i..end], &mut bytes, &mut out)?;
-        if end == text.len() {
-            return Ok(());
-        }
-        i = end + 1;
-    }
-    Ok(())
-}
-
-// The script on standard input, up to 65,536 bytes of it.
+// The script on standard input, up to 65,536 bytes of it, with one buffer for the bytes that a line spells and one for the output.
 fn main(rt: HostRuntime) -> io::Result<()> {
     let mut text = [0u8; 65536];
+    let mut bytes = [0u8; 32768];
+    let mut out = [0u8; 65536];
     let n = script::read_full(&mut rt.reader(), &mut text);
-    run(&rt, &text[..n])
+    for s in text[..n].split(|b| *b == b'\n') {
+        line(&rt, s, &mut bytes, &mut out)?;
+    }
+    Ok(())
 }

@@ -5,32 +5,15 @@
 
 #![tactic(auto)]
 
-use reader::{Found, event_number};
+use reader::event_number;
+use record::event::Event;
 use std::io;
 
-// Words on standard output.
-fn say(rt: &impl Print, text: &[u8]) -> io::Result<()> {
-    rt.write_all(text)
-}
-
-// A number in decimal digits.
-fn say_number(rt: &impl Print, n: usize) -> io::Result<()> {
-    rt.print(n)
-}
-
 // The event that was found, or that the record ends before it; and the end of the line.
-fn say_found(rt: &impl Print, found: Found) -> io::Result<()> {
+fn say_found(rt: &impl Print, found: Option<Event>) -> io::Result<()> {
     match found {
-        Found::Event { kind, name, place } => {
-            say(rt, b"event ")?;
-            say_number(rt, kind as usize)?;
-            say(rt, b" ")?;
-            say_number(rt, name as usize)?;
-            say(rt, b" ")?;
-            say_number(rt, place)?;
-            say(rt, b"\n")
-        }
-        Found::End => say(rt, b"end\n"),
+        Some(event) => println!(rt; "event {} {} {}", event.kind, event.name, event.place),
+        None => println!(rt; "end"),
     }
 }
 
@@ -40,25 +23,19 @@ fn line(rt: &impl Print, s: &[u8], bytes: &mut [u8]) -> io::Result<()> {
     if first == 0 {
         return Ok(());
     }
-    say(rt, &s[0..first])?;
-    say(rt, b": ")?;
+    rt.write_all(&s[..first])?;
+    rt.write_all(b": ")?;
     let number = script::skip(s, first);
     let second = script::find(s, number, b' ');
     let n = script::spell(s, second, bytes);
-    say_found(rt, event_number(&bytes[0..n], script::number(s, number)))
+    say_found(rt, event_number(&bytes[..n], script::number(s, number)))
 }
 
 // All lines of the script, with one buffer for the records that they spell.
 fn run(rt: &impl Print, text: &[u8]) -> io::Result<()> {
     let mut bytes = [0u8; 65536];
-    let mut i = 0;
-    while i < text.len() {
-        let end = script::find(text, i, 10);
-        line(rt, &text[i..end], &mut bytes)?;
-        if end == text.len() {
-            return Ok(());
-        }
-        i = end + 1;
+    for s in text.split(|b| *b == b'\n') {
+        line(rt, s, &mut bytes)?;
     }
     Ok(())
 }

@@ -10,21 +10,24 @@ pub fn explain_front(host: &mut Host, rec: &[u8]) {
     if rec.len() < 4 {
         return;
     }
-    if u32_at(rec, 0) != 1 {
-        because(host, b"the first section's count is not 1");
-        return;
-    }
-    because(host, b"the option byte is over 63");
+    because(
+        host,
+        if u32_at(rec, 0) == 1 {
+            b"the option byte is over 63"
+        } else {
+            b"the first section's count is not 1"
+        },
+    );
 }
 
 // The first section is not all there: the cause of refusal 3 at the record's start.
 pub fn explain_front_length(host: &mut Host, rec: &[u8]) {
-    if rec.len() < 4 {
-        because(host, b"the first section's count is cut off");
-        return;
-    }
     because(
         host,
-        b"the first section's count runs past the record's end",
+        if rec.len() < 4 {
+            b"the first section's count is cut off"
+        } else {
+            b"the first section's count runs past the record's end"
+        },
     );
 }

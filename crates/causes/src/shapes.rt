@@ -4,7 +4,7 @@
 ghost use Rattle.std.specs.Prelude.{◌+◌, ◌≤◌};
 
 use crate::refuse::because;
-use heading::seek::{Sought, before_first};
+use heading::seek::inner_of;
 use heading::shape::is_headed;
 use list::item::known_mark;
 use record::limits::{
@@ -12,30 +12,14 @@ use record::limits::{
     LIST_ITEM_PREFIX, LIST_ITEM_VALUE, MAX_EVENTS, OPTION_ATTENTION, OPTION_STRIKETHROUGH,
     SPACE_OR_TAB,
 };
-use terminal::events::{WIDEST, complain_event, event_of, is_leaf, place_in, stands};
+use record::listed::Events;
+use terminal::events::{Section, complain_event};
 use terminal::host::Host;
 use terminal::marker::marker;
 use terminal::say::complain;
 
-// Whether all bytes are this one.
-fn all_are(bytes: &[u8], byte: u8) -> bool {
-    let mut i = 0;
-    while i < bytes.len() {
-        if bytes[i] != byte {
-            return false;
-        }
-        i += 1;
-    }
-    true
-}
-
-// Whether the document's byte at a place is this one; past its end none is.
-fn stands_at(document: &[u8], place: usize, byte: u8) -> bool {
-    if place >= document.len() {
-        return false;
-    }
-    document[place] == byte
-}
+// No form has wider events.
+const WIDEST: usize = 256;
 
 // The document's bytes from one place up to another are no run.
 fn explain_bytes(host: &mut Host, document: &[u8], from: usize, to: usize, options: u32) {
@@ -43,216 +27,178 @@ fn explain_bytes(host: &mut Host, document: &[u8], from: usize, to: usize, optio
         because(host, b"the run has no byte");
         return;
     }
-    if to > document.len() {
+    let Some(run) = document.get(from..to) else {
         return;
-    }
-    let byte = document[from];
-    if marker(byte, OPTION_ATTENTION + OPTION_STRIKETHROUGH) == 0 {
+    };
+    let byte = run[0];
+    if marker(byte, OPTION_ATTENTION + OPTION_STRIKETHROUGH).is_none() {
         because(host, b"the run's first byte is no marker");
-        return;
-    }
-    if !all_are(&document[from..to], byte) {
+    } else if run.iter().any(|b| *b != byte) {
         because(host, b"the run is not one byte all through");
-        return;
-    }
-    if stands_at(document, to, byte) {
+    } else if document.get(to) == Some(&byte) {
         because(host, b"the run is followed by its own byte");
-        return;
-    }
-    if marker(byte, options) == 0 {
+    } else if marker(byte, options).is_none() {
         because(host, b"the run's option is off");
     }
 }
 
 // The run that the k-th event enters.
-fn explain_run(
-    host: &mut Host,
-    document: &[u8],
-    section: &[u8],
-    width: usize,
-    k: usize,
-    options: u32,
-)
+fn explain_run(host: &mut Host, document: &[u8], section: Section, k: usize, options: u32)
     requires { k ≤ 2048 }
 {
-    if !stands(section, width, k + 1, EXIT, ATTENTION_SEQUENCE) {
+    if !section.stands(k + 1, EXIT, ATTENTION_SEQUENCE) {
         because(host, b"the run is not left at once");
         return;
     }
-    let enter = event_of(section, width, k);
-    let exit = event_of(section, width, k + 1);
+    let (Some(enter), Some(exit)) = (section.event(k), section.event(k + 1)) else {
+        return;
+    };
     explain_bytes(host, document, enter.place, exit.place, options);
 }
 
 // Whether a heading may hold this name.
 fn may_hold(name: u8) -> bool {
-    if name == DATA {
-        return true;
-    }
-    if name == HEADING_SEQUENCE {
-        return true;
-    }
-    name == SPACE_OR_TAB
+    matches!(name, DATA | HEADING_SEQUENCE | SPACE_OR_TAB)
 }
 
 // Whether the k-th event begins a leaf pair that a heading may hold; says what is wrong where it does not.
-fn is_held(host: &mut Host, section: &[u8], width: usize, k: usize) -> bool
+fn is_held(host: &mut Host, section: Section, k: usize) -> bool
     requires { k ≤ 8000 }
 {
-    let event = event_of(section, width, k);
+    let Some(event) = section.event(k) else {
+        return false;
+    };
     if !may_hold(event.name) {
         because(host, b"the heading holds ");
-        complain_event(host, section, width, k);
+        complain_event(host, section, k);
         complain(host, b", and may hold names 0, 12 and 14 alone");
         return false;
     }
-    if is_leaf(section, width, k, event.name) {
+    if section.is_leaf(k, event.name) {
         return true;
     }
     because(host, b"in the heading ");
-    complain_event(host, section, width, k);
+    complain_event(host, section, k);
     complain(host, b" is not left at once");
     false
 }
 
 // The n events from the k-th on are not all leaf pairs that a heading may hold.
-fn explain_pairs(host: &mut Host, section: &[u8], width: usize, k: usize, n: usize)
+fn explain_pairs(host: &mut Host, section: Section, k: usize, n: usize)
     requires { k + n ≤ 2048 }
 {
-    let mut i = 0;
-    while i < n {
-        if !is_held(host, section, width, k + i) {
+    for i in (k..k + n).step_by(2) {
+        if !is_held(host, section, i) {
             return;
         }
-        i += 2;
     }
 }
 
-// The heading that the k-th of so many events enters.
-fn explain_heading(host: &mut Host, section: &[u8], width: usize, events: usize, k: usize)
+// The heading that the k-th event enters.
+fn explain_heading(host: &mut Host, section: Section, k: usize)
     requires { k ≤ 2048 }
 {
-    if width < 8 {
+    let Section {
+        bytes,
+        width,
+        events,
+    } = section;
+    if width < 8 || width > WIDEST || events > MAX_EVENTS || k >= events {
         return;
     }
-    if width > WIDEST {
+    let from = section.place(k + 1);
+    let count = events - k - 1;
+    if bytes.len() - from < width * count {
         return;
     }
-    if events > MAX_EVENTS {
-        return;
-    }
-    if k >= events {
-        return;
-    }
-    let inside = place_in(section, width, k + 1);
-    let left = events - k - 1;
-    if section.len() - inside < width * left {
-        return;
-    }
-    let n = before_first(section, inside, width, left, Sought::HeadingExit);
-    if !is_headed(section, inside, width, n) {
+    let inner = inner_of(Events {
+        bytes,
+        from,
+        width,
+        count,
+    });
+    if is_headed(inner) {
+        explain_pairs(host, section, k + 1, inner.count);
+    } else {
         because(host, b"the heading does not begin with its # run");
-        return;
     }
-    explain_pairs(host, section, width, k + 1, n);
 }
 
 // Whether the event before the k-th is an item's exit.
-fn is_behind_item(section: &[u8], width: usize, k: usize) -> bool {
-    if k == 0 {
-        return false;
-    }
-    stands(section, width, k - 1, EXIT, LIST_ITEM)
+fn is_behind_item(section: Section, k: usize) -> bool {
+    k > 0 && section.stands(k - 1, EXIT, LIST_ITEM)
 }
 
 // The event behind a leaf pair of this name that stands at the k-th, or k.
-fn past_leaf(section: &[u8], width: usize, k: usize, name: u8) -> usize
+fn past_leaf(section: Section, k: usize, name: u8) -> usize
     requires { k ≤ 8000 }
     ensures { result ≤ k + 2 }
 {
-    if is_leaf(section, width, k, name) {
-        return k + 2;
-    }
-    k
+    if section.is_leaf(k, name) { k + 2 } else { k }
 }
 
 // An item's prefix is whole, and its marker, the k-th event, is none.
-fn explain_mark(host: &mut Host, document: &[u8], section: &[u8], width: usize, k: usize)
+fn explain_mark(host: &mut Host, document: &[u8], section: Section, k: usize)
     requires { k ≤ 8000 }
 {
-    let enter = event_of(section, width, k);
-    let exit = event_of(section, width, k + 1);
+    let (Some(enter), Some(exit)) = (section.event(k), section.event(k + 1)) else {
+        return;
+    };
     let place = enter.place;
-    if place >= document.len() {
+    if place >= document.len() || exit.place != place + 1 {
         because(host, b"the marker is not one byte");
-        return;
-    }
-    if exit.place != place + 1 {
-        because(host, b"the marker is not one byte");
-        return;
-    }
-    if known_mark(document[place]) == 0 {
+    } else if known_mark(document[place]).is_none() {
         because(host, b"the marker is none of * + - . )");
     }
 }
 
 // An item's prefix, whose enter is the event before the k-th.
-fn explain_prefix(host: &mut Host, document: &[u8], section: &[u8], width: usize, k: usize)
+fn explain_prefix(host: &mut Host, document: &[u8], section: Section, k: usize)
     requires { k ≤ 4000 }
 {
-    let marker = past_leaf(section, width, k, LIST_ITEM_VALUE);
-    if !is_leaf(section, width, marker, LIST_ITEM_MARKER) {
+    let marker = past_leaf(section, k, LIST_ITEM_VALUE);
+    if !section.is_leaf(marker, LIST_ITEM_MARKER) {
         because(
             host,
             b"the item's prefix does not begin with a marker, or with a value and a marker",
         );
         return;
     }
-    let end = past_leaf(section, width, marker + 2, SPACE_OR_TAB);
-    if !stands(section, width, end, EXIT, LIST_ITEM_PREFIX) {
+    let end = past_leaf(section, marker + 2, SPACE_OR_TAB);
+    if !section.stands(end, EXIT, LIST_ITEM_PREFIX) {
         because(
             host,
             b"the item's prefix does not end behind its marker, or behind the spaces there",
         );
         return;
     }
-    explain_mark(host, document, section, width, marker);
+    explain_mark(host, document, section, marker);
 }
 
 // The item that the k-th event enters.
-fn explain_item(host: &mut Host, document: &[u8], section: &[u8], width: usize, k: usize)
+fn explain_item(host: &mut Host, document: &[u8], section: Section, k: usize)
     requires { k ≤ 2048 }
 {
-    if is_behind_item(section, width, k) {
+    if is_behind_item(section, k) {
         because(host, b"the item stands right behind another");
         return;
     }
-    let prefix = past_leaf(section, width, k + 1, SPACE_OR_TAB);
-    if !stands(section, width, prefix, ENTER, LIST_ITEM_PREFIX) {
+    let prefix = past_leaf(section, k + 1, SPACE_OR_TAB);
+    if !section.stands(prefix, ENTER, LIST_ITEM_PREFIX) {
         because(host, b"the item does not begin with its prefix");
         return;
     }
-    explain_prefix(host, document, section, width, prefix + 1);
+    explain_prefix(host, document, section, prefix + 1);
 }
 
-// What the k-th of so many events enters is refused: by its name it is a run, a heading or an item.
-pub fn explain_shape(
-    host: &mut Host,
-    document: &[u8],
-    section: &[u8],
-    width: usize,
-    events: usize,
-    k: usize,
-    options: u32,
-)
+// What the k-th event enters is refused: by its name it is a run, a heading or an item.
+pub fn explain_shape(host: &mut Host, document: &[u8], section: Section, k: usize, options: u32)
     requires { k ≤ 2048 }
 {
-    let event = event_of(section, width, k);
-    let name = event.name;
-    match name {
-        ATTENTION_SEQUENCE => explain_run(host, document, section, width, k, options),
-        HEADING => explain_heading(host, section, width, events, k),
-        LIST_ITEM => explain_item(host, document, section, width, k),
+    match section.event(k).map(|event| event.name) {
+        Some(ATTENTION_SEQUENCE) => explain_run(host, document, section, k, options),
+        Some(HEADING) => explain_heading(host, section, k),
+        Some(LIST_ITEM) => explain_item(host, document, section, k),
         _ => {}
     }
 }

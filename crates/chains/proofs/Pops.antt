@@ -16,9 +16,9 @@ use borrow.Author.Tests.{eq-eqb, ne_eqb, lt-ltb, le-ltb, le-leb, lt-leb, leb-tru
 use Rattle.record.specs.Choice.{choose, and}
 use Rattle.runs.specs.Plain.{amount}
 use Rattle.slots.specs.Words.{get16}
-use Rattle.slots.specs.Layout.{left_of, opens_of, chain_of, link_of, head_of, open_at, first_group_of, latest_group_of, with_left, with_head, with_opens, with_first_group, with_latest_group, with_group}
+use Rattle.slots.specs.Layout.{opens_of, chain_of, link_of, head_of, open_at, first_group_of, latest_group_of, with_first_group, with_latest_group, with_group}
 use Rattle.slots.proofs.Laws.{Apart, Beside, length_put, get_put_same, word_after_word, byte_after_word, word_after_byte}
-use Rattle.chains.specs.Step.{unchained, popped, cleared, leaves, lowered, joined, matched_at, Ranged}
+use Rattle.chains.specs.Step.{unchained, popped, cleared, leaves, lowered, joined, Ranged}
 
 -- how many are taken
 module _ (a b : ℕ) where
@@ -68,15 +68,6 @@ cleared_stop' (suc h) w o p l = let e : suc h - 1 ≡ h = omega arith in cleared
 pub cleared_pop' : (h : ℕ) (w : List ℕ) (o : ℕ) → 0 < h → o < open_at w (h - 1) → cleared h w o ≡ cleared (h - 1) (popped w (open_at w (h - 1))) o
 cleared_pop' zero w o p l = absurd (omega arith)
 cleared_pop' (suc h) w o p l = let e : suc h - 1 ≡ h = omega arith in rw e (cleared_pop h w o (rw e at l))
-
--- a run leaves its chain, and opens no more, write by write as the code makes them
-pub unchained_by : (w w₁ : List ℕ) (q k older : ℕ) → k ≡ chain_of w q → older ≡ link_of w q → w₁ ≡ with_head w k older → w₁ ≡ unchained w q
-unfolding unchained
-unchained_by w w₁ q k older a b e = cc
-
-pub popped_by : (w w₁ w₂ : List ℕ) (q : ℕ) → w₁ ≡ unchained w q → w₂ ≡ with_opens w₁ q 0 → w₂ ≡ popped w q
-unfolding popped
-popped_by w w₁ w₂ q e f = cc
 
 -- a run leaves its chain: the head changes, and nothing else
 module _ (w : List ℕ) (q : ℕ) where
@@ -150,20 +141,20 @@ popped_ranged w h p r =
 pub record Downward (w₀ : List ℕ) (height o : ℕ) (w : List ℕ) (h : ℕ) : Type 0 where
   pub same : cleared height w₀ o ≡ cleared h w o
   pub ranged : Ranged w h
-  pub len : length w ≡ length w₀
 
-pub downward_again : {w₀ : List ℕ} {height o : ℕ} {w : List ℕ} {h : ℕ} {v : List ℕ} (q : ℕ) → Downward w₀ height o w h → 0 < h → q ≡ open_at w (h - 1) → o < q → v ≡ popped w q → length v ≡ length w
-    → Downward w₀ height o v (h - 1)
-downward_again {w₀} {height} {o} {w} {h} {v} q d p e l f n =
+pub downward_again : {w₀ : List ℕ} {height o : ℕ} {w : List ℕ} {h : ℕ} {v : List ℕ} (q : ℕ) → Downward w₀ height o w h → 0 < h → q ≡ open_at w (h - 1) → o < q → v ≡ popped w q →
+    Downward w₀ height o v (h - 1)
+downward_again {w₀} {height} {o} {w} {h} {v} q d p e l f =
     let f' : v ≡ popped w (open_at w (h - 1)) = f ∙ ap (λ x. popped w x) e in
     rw f' (record {
       same = d.same ∙ cleared_pop' h w o p (omega arith);
       ranged = popped_ranged w h p d.ranged;
-      len = sym (ap length f') ∙ n ∙ d.len;
     })
 
-pub downward_stop : {w₀ : List ℕ} {height o : ℕ} {w : List ℕ} {h : ℕ} (q : ℕ) → Downward w₀ height o w h → 0 < h → q ≡ open_at w (h - 1) → q ≤ o → (w, h) ≡ cleared height w₀ o
-downward_stop {w₀} {height} {o} {w} {h} q d p e l = sym (d.same ∙ cleared_stop' h w o p (omega arith))
+pub downward_stop : {w₀ : List ℕ} {height o : ℕ} {w : List ℕ} {h : ℕ} (q : ℕ) → Downward w₀ height o w h → 0 < h → q ≡ open_at w (h - 1) → q ≤ o → (w, h - 1 + 1) ≡ cleared height w₀ o
+downward_stop {w₀} {height} {o} {w} {h} q d p e l =
+    let n : h - 1 + 1 ≡ h = omega arith in
+    rw n (sym (d.same ∙ cleared_stop' h w o p (omega arith)))
 
 pub downward_end : {w₀ : List ℕ} {height o : ℕ} {w : List ℕ} {h : ℕ} → Downward w₀ height o w h → h ≡ 0 → (w, 0) ≡ cleared height w₀ o
 downward_end {w₀} {height} {o} {w} {h} d e = sym (d.same ∙ rw (e, cleared_end w o))
@@ -226,22 +217,3 @@ module _ (w : List ℕ) (g o c k : ℕ) where
   pub joined_later : eqb (first_group_of w c) 0 ≡ false → joined w g o c k ≡ with_latest_group (with_group w g o c k (latest_group_of w o)) o (g + 1)
   unfolding joined choose
   joined_later e = rw e
-
--- the group, write by write as the code makes them
-module _ (w w₁ w₂ : List ℕ) (g o c k earlier first : ℕ) (a : earlier ≡ latest_group_of w o) (b : first ≡ first_group_of w c)
-    (e : w₁ ≡ with_group w g o c k earlier) (f : w₂ ≡ with_latest_group w₁ o (g + 1)) where
-  pub joined_first_by : (w₃ : List ℕ) → eqb first 0 ≡ true → w₃ ≡ with_first_group w₂ c (g + 1) → w₃ ≡ joined w g o c k
-  joined_first_by w₃ n h = (cc) ∙ sym (joined_first w g o c k (cc))
-
-  pub joined_later_by : eqb first 0 ≡ false → w₂ ≡ joined w g o c k
-  joined_later_by n = (cc) ∙ sym (joined_later w g o c k (cc))
-
--- all of a match, from its pieces
-pub match_case : (w : List ℕ) (height o c g a b k : ℕ) (w₁ w₂ w₃ w₄ w₅ : List ℕ) (h₁ h₂ : ℕ) → a ≡ left_of w o → b ≡ left_of w c → k ≡ amount a b
-    → (w₁, h₁) ≡ cleared height w o → h₂ ≡ lowered h₁ a k → w₂ ≡ leaves w₁ o a k → w₃ ≡ with_left w₂ o (a - k) → w₄ ≡ with_left w₃ c (b - k) → w₅ ≡ joined w₄ g o c k
-    → (w₅, h₂) ≡ matched_at w height o c g
-unfolding matched_at
-match_case w height o c g a b k w₁ w₂ w₃ w₄ w₅ h₁ h₂ ea eb ek e f e₂ e₃ e₄ e₅ =
-    let x : w₁ ≡ (cleared height w o).0 = ap (λ y. y.0) e in
-    let y : h₁ ≡ (cleared height w o).1 = ap (λ y. y.1) e in
-    cc

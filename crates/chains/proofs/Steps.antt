@@ -230,33 +230,31 @@ pub record Inner (rule : Rule) (w : List ℕ) (i t₀ p₀ t p : ℕ) : Type 0 w
   pub low : p ≤ i
   pub count : t + p ≤ t₀ + i
 
--- the loop down a chain: its start, its turn, and its two ends
-pub inner_start : {rule : Rule} {w : List ℕ} {i t p : ℕ} → p ≡ first w i → first w i ≤ i → Inner rule w i t p t p
-inner_start {rule} {w} {i} {t} {p} e h = record { same = refl; low = omega arith; count = omega arith }
-
+-- the loop down a chain: its turn, and its two ends
 module _ {rule : Rule} {w : List ℕ} {i n : ℕ} where
-  pub inner_again : {t₀ p₀ t p q : ℕ} → Inner rule w i t₀ p₀ t p → Falls w n → i < n → (p ≡ 0 → ⊥) → takes_at rule w (p - 1) i ≡ false → q ≡ link_of w (p - 1) → Inner rule w i t₀ p₀ (t + 1) q
-  inner_again {t₀} {p₀} {t} {p} {q} v falls l ne e f =
+  pub inner_again : {t₀ p₀ t p o q : ℕ} → Inner rule w i t₀ p₀ t p → Falls w n → i < n → (1 ≤ p) × (o ≡ p - 1) → takes_at rule w o i ≡ false → q ≡ link_of w o →
+      Inner rule w i t₀ p₀ (t + 1) q
+  inner_again {t₀} {p₀} {t} {p} {o} {q} v falls l (ne, r) e f =
       let h : link_of w (p - 1) ≤ p - 1 = falls (p - 1) (omega (arith, v.low)) in
+      let f' : q ≡ link_of w (p - 1) = rw (← r) f in
       record {
-        same = v.same ∙ down_on rule w i n falls p t ne (omega (arith, v.low)) e ∙ ap (λ y. down y rule w i y (t + 1)) (sym f);
+        same = v.same ∙ down_on rule w i n falls p t (λ z. omega arith) (omega (arith, v.low)) (rw (← r) e) ∙ ap (λ y. down y rule w i y (t + 1)) (sym f');
         low = omega (arith, v.low);
         count = omega (arith, v.count);
       }
 
-  pub inner_found : {t₀ p₀ t p : ℕ} → Inner rule w i t₀ p₀ t p → Falls w n → (p ≡ 0 → ⊥) → takes_at rule w (p - 1) i ≡ true → closing w i ≡ true → p₀ ≡ first w i → seek rule w i t₀ ≡ hit (p - 1) (t + 1)
-  inner_found {t₀} {p₀} {t} {p} v falls ne e c f =
-      seek_closing rule w i t₀ c ∙ ap (λ y. down y rule w i y t₀) (sym f) ∙ v.same ∙ down_hit rule w i n falls p t ne e
+  pub inner_found : {t₀ p₀ t p o : ℕ} → Inner rule w i t₀ p₀ t p → Falls w n → (1 ≤ p) × (o ≡ p - 1) → takes_at rule w o i ≡ true → closing w i ≡ true → p₀ ≡ first w i →
+      seek rule w i t₀ ≡ hit o (t + 1)
+  inner_found {t₀} {p₀} {t} {p} {o} v falls (ne, r) e c f =
+      rw r
+      (seek_closing rule w i t₀ c ∙ ap (λ y. down y rule w i y t₀) (sym f) ∙ v.same ∙ down_hit rule w i n falls p t (λ z. omega arith) (rw (← r) e))
 
-  pub inner_none : {t₀ p₀ t p : ℕ} → Inner rule w i t₀ p₀ t p → Falls w n → p ≡ 0 → closing w i ≡ true → p₀ ≡ first w i → seek rule w i t₀ ≡ miss t
+  pub inner_none : {t₀ p₀ t p : ℕ} → Inner rule w i t₀ p₀ t p → Falls w n → (1 ≤ p → ⊥) → closing w i ≡ true → p₀ ≡ first w i → seek rule w i t₀ ≡ miss t
   inner_none {t₀} {p₀} {t} {p} v falls z c f =
-      seek_closing rule w i t₀ c ∙ ap (λ y. down y rule w i y t₀) (sym f) ∙ v.same ∙ down_end rule w i n falls p t z
+      seek_closing rule w i t₀ c ∙ ap (λ y. down y rule w i y t₀) (sym f) ∙ v.same ∙ down_end rule w i n falls p t (omega (arith, z))
 
--- the loop over the runs: its start, its turn, and its two ends
+-- the loop over the runs: its turn, and its two ends
 module _ {rule : Rule} {w₀ : List ℕ} {height from n : ℕ} where
-  pub outer_start : Sound w₀ height n from → Outer rule w₀ height from n w₀ from height 0
-  outer_start s = record { same = refl; sound = s; count = omega arith; len = refl }
-
   module _ {w : List ℕ} {i held t : ℕ} (o : Outer rule w₀ height from n w i held t) where
     pub outer_again : {u : ℕ} {v : List ℕ} {h : ℕ} → i < n → seek rule w i t ≡ miss u → u ≤ t + i → v ≡ passed w held i → h ≡ raised w held i → length v ≡ length w → Outer rule w₀ height from n v (i + 1) h u
     outer_again {u} {v} {h} l e b f g k =

@@ -1,11 +1,13 @@
 // The next match: onward over the runs, and at each closer down its chain, until one takes an opener.
 
-ghost use Rattle.std.specs.Prelude.{◌≡◌, ◌||◌, ◌+◌, ◌-◌, ◌<◌};
+ghost use Rattle.std.specs.Prelude.{◌≡◌, ◌+◌, ◌-◌, ◌<◌, ltb};
+ghost use Rattle.record.specs.Choice.{and};
 ghost use Rattle.runs.specs.Rule.{rule_for};
-ghost use Rattle.slots.specs.Layout.{Room, chain_of};
-ghost use Rattle.chains.specs.Walk.{closing as closingAt, opening as openingAt, both_at, takes_at, first as first_of, passed, raised, onward, Sound};
+ghost use Rattle.slots.specs.Layout.{Room, left_of, chain_of};
+ghost use Rattle.chains.specs.Walk.{both_at, takes_at, first as first_of, passed, raised, onward, Sound};
 
 use runs::{Next, eligible};
+use slots::layout::{Chain, Closes, Flag, Head, Left, Link, OpenRun, Opens, get, has, marker, put};
 
 // What a walk finds, and how many runs are open then.
 #[derive(Clone, Copy)]
@@ -14,61 +16,36 @@ pub struct Walked {
     pub height: usize,
 }
 
-// Whether a run has markers left and can close.
-fn closing(w: &[u8], i: usize) -> bool
+// Whether a run has markers left, and a flag.
+#[tactic(auto, unfolding(record::specs::Choice::and))]
+fn able<G: Flag>(w: &[u8], i: usize) -> bool
     requires { (i < 1024) × Room w.now }
-    ensures { result ≡ closingAt w.now i }
+    ensures { result ≡ and (ltb 0 (left_of w.now i)) (G.of w.now i) }
 {
-    if slots::layout::left(w, i) == 0 {
-        return false;
-    }
-    slots::layout::closes(w, i)
-}
-
-// Whether a run has markers left and can open.
-fn opening(w: &[u8], i: usize) -> bool
-    requires { (i < 1024) × Room w.now }
-    ensures { result ≡ openingAt w.now i }
-{
-    if slots::layout::left(w, i) == 0 {
-        return false;
-    }
-    slots::layout::opens(w, i)
+    get::<Left>(w, i) > 0 && has::<G>(w, i)
 }
 
 // Whether a run can both open and close.
+#[tactic(auto, unfolding(crate::specs::Walk::both_at, record::specs::Choice::and))]
 fn both(w: &[u8], i: usize) -> bool
     requires { (i < 1024) × Room w.now }
     ensures { result ≡ both_at w.now i }
 {
-    if slots::layout::opens(w, i) {
-        return slots::layout::closes(w, i);
-    }
-    false
-}
-
-// Whether one of two runs can both open and close.
-fn either_both(w: &[u8], o: usize, i: usize) -> bool
-    requires { ((o < 1024) × (i < 1024)) × Room w.now }
-    ensures { result ≡ (both_at w.now o || both_at w.now i) }
-{
-    if both(w, o) {
-        return true;
-    }
-    both(w, i)
+    has::<Opens>(w, i) && has::<Closes>(w, i)
 }
 
 // Whether the closer `i` takes the run `o`.
+#[tactic(auto, unfolding(crate::specs::Walk::takes_at, runs::specs::Rule::rule_over))]
 fn takes(w: &[u8], single: bool, o: usize, i: usize) -> bool
     requires { ((o < 1024) × (i < 1024)) × Room w.now }
     ensures { result ≡ takes_at (rule_for single) w.now o i }
 {
     eligible(
         single,
-        either_both(w, o, i),
-        slots::layout::marker(w, i),
-        slots::layout::left(w, o),
-        slots::layout::left(w, i),
+        both(w, o) || both(w, i),
+        marker(w, i),
+        get::<Left>(w, o),
+        get::<Left>(w, i),
     )
 }
 
@@ -77,23 +54,24 @@ fn first(w: &[u8], i: usize) -> usize
     requires { (i < 1024) × ((chain_of w.now i < 6147) × Room w.now) }
     ensures { result ≡ first_of w.now i }
 {
-    slots::layout::head(w, slots::layout::chain(w, i))
+    get::<Head>(w, get::<Chain>(w, i))
 }
 
 // Puts a passed run on its chain and on the open runs, if it has markers left and can open; gives how many are open then.
+#[tactic(auto, unfolding(crate::specs::Walk::opening, crate::specs::Walk::passed, crate::specs::Walk::raised, record::specs::Choice::choose))]
 fn pass(w: &mut [u8], height: usize, i: usize) -> usize
     requires { ((i < 1024) × (height < 1024)) × ((chain_of w.old i < 6147) × Room w.old) }
     ensures { (result ≡ raised w.old height i) × (w.new ≡ passed w.old height i) }
 {
-    if opening(w, i) {
-        let k = slots::layout::chain(w, i);
-        let latest = slots::layout::head(w, k);
-        slots::layout::put_link(w, i, latest);
-        slots::layout::put_head(w, k, i + 1);
-        slots::layout::put_open_run(w, height, i);
-        return height + 1;
+    if !able::<Opens>(w, i) {
+        return height;
     }
-    height
+    let k = get::<Chain>(w, i);
+    let latest = get::<Head>(w, k);
+    put::<Link>(w, i, latest);
+    put::<Head>(w, k, i + 1);
+    put::<OpenRun>(w, height, i);
+    height + 1
 }
 
 // The next match from the run `from` of `n`, where `height` runs are open.
@@ -101,43 +79,30 @@ pub fn next_match(w: &mut [u8], height: usize, from: usize, n: usize, single: bo
     requires { Sound w.old height n from }
     ensures { (result.next, (w.new, result.height)) ≡ onward (n - from) (rule_for single) w.old height from 0 }
 {
-    let mut i = from;
     let mut held = height;
     let mut tried: usize = 0;
-    let mut answer = Walked {
-        next: Next::Done { tried: 0 },
-        height: 0,
-    };
-    'closers: loop {
-        if i >= n {
-            answer = Walked {
-                next: Next::Done { tried },
-                height: held,
-            };
-            break 'closers;
-        }
-        if closing(w, i) {
+    let mut found = None;
+    'closers: for i in from..n {
+        if able::<Closes>(w, i) {
+            // The number of a run plus 1, or 0 at the chain's end.
             let mut p = first(w, i);
-            while p != 0 {
-                let o = p - 1;
+            while let Some(o) = p.checked_sub(1) {
                 tried += 1;
                 if takes(w, single, o, i) {
-                    answer = Walked {
-                        next: Next::Match {
-                            opener: o,
-                            closer: i,
-                            tried,
-                        },
-                        height: held,
-                    };
+                    found = Some(Next::Match {
+                        opener: o,
+                        closer: i,
+                        tried,
+                    });
                     break 'closers;
                 }
-                let older = slots::layout::link(w, o);
-                p = older;
+                p = get::<Link>(w, o);
             }
         }
         held = pass(w, held, i);
-        i += 1;
     }
-    answer
+    Walked {
+        next: found.unwrap_or(Next::Done { tried }),
+        height: held,
+    }
 }

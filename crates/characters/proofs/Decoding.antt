@@ -4,7 +4,7 @@ use Prim.Native.Nat.{ℕ, ◌+◌, ◌-◌, ◌*◌, ◌/◌, ◌%◌, ◌≤◌
 use mathlib.Core.Path.{◌≡◌, refl, ap, ◌∙◌}
 use mathlib.Core.Bool.{Bool, true, false}
 use mathlib.Core.List.{List, [], ◌∷◌}
-use mathlib.Core.Option.{some}
+use Rattle.std.specs.Prelude.{Some}
 use native.Mathlib.Omega.{arith}
 use native.Mathlib.Decide.{dec_lt}
 use lib.Dec.{leb}
@@ -102,10 +102,10 @@ form_decodes c e = go (character_bounds c e) (dec_lt c 128) (dec_lt c 2048) (dec
 pub form_is_decoded : FormIsDecoded
 form_is_decoded bs c f =
     let h : Shape (utf8 c) × (value_of (utf8 c) ≡ c) = form_decodes c f.character in
-    rw f.bytes at (form (utf8 c) h.0 ∙ ap some h.1)
+    rw f.bytes at (form (utf8 c) h.0 ∙ ap Some h.1)
 
 pub one_character : OneCharacter
 one_character bs c d f g =
-    let p : character_of bs ≡ some c = form_is_decoded bs c f in
-    let q : character_of bs ≡ some d = form_is_decoded bs d g in
+    let p : character_of bs ≡ Some c = form_is_decoded bs c f in
+    let q : character_of bs ≡ Some d = form_is_decoded bs d g in
     cc

@@ -1,19 +1,21 @@
 -- What the table of well-formed bytes comes to, by how many bytes there are: bounds of each byte, and of what the bits make. The code tests these.
 -- Assumes nothing.
 use Prim.Native.Nat.{ℕ, zero, suc, ◌+◌, ◌-◌, ◌*◌, ◌≤◌, ◌<◌}
-use mathlib.Core.Path.{◌≡◌, refl, sym, ap}
+use mathlib.Core.Path.{◌≡◌, refl, sym, ap, ◌∙◌}
 use mathlib.Core.Bool.{Bool, true, false, cond, ◌&&◌, ◌||◌, true≢false}
 use mathlib.Core.List.{List, [], ◌∷◌}
-use mathlib.Core.Option.{Option, none, some}
+use mathlib.Core.Logic.{⊎_elim}
+use Rattle.std.specs.Prelude.{Option, None, Some, SomeIff, MatchOption}
+use Rattle.std.specs.Char.{IsScalar, InScalarRange, OutOfScalarRange}
 use native.Mathlib.Omega.{arith}
 use native.Mathlib.Decide.{dec_le}
 use native.Mathlib.Nat.{lt_of_not-le}
-use lib.Dec.{leb}
+use lib.Dec.{leb, ltb, eqb}
 use lib.ListN.{length, get_or}
 use borrow.Author.Tests.{leb-true, le-leb}
-use Rattle.characters.specs.Utf8.{well_formed_rows, fits, fits_one, well_formed, value_of, character_of}
-use Rattle.characters.specs.Beside.{found}
-use Rattle.characters.specs.Beside.{Character, Malformed}
+use Rattle.characters.specs.Utf8.{well_formed_rows, fits, fits_one, well_formed, value_of, character_of, is_character}
+use Rattle.std.proofs.lemmas.Bool.Decides.{nat_tests}
+use Rattle.characters.specs.Ranges.{within}
 
 pub both : (p q : Bool) → p && q ≡ true → (p ≡ true) × (q ≡ true)
 both true true e = (refl, refl)
@@ -180,23 +182,23 @@ shape_well (a ∷ b ∷ d ∷ []) w = three_rows a b d w (dec_le a 224) (dec_le 
 shape_well (a ∷ b ∷ d ∷ e ∷ []) w = four_rows a b d e w (dec_le a 240) (dec_le a 243)
 shape_well (a ∷ b ∷ d ∷ e ∷ f ∷ bs) w = absurd w
 
-pub never : (c : ℕ) → ◌≡◌ {A = Option ℕ} (some c) none → ⊥
+pub never : (c : ℕ) → ◌≡◌ {A = Option ℕ} (Some c) None → ⊥
 never c e = let z : ◌≡◌ {A = ℕ} 0 1 = cc in omega arith
 
 -- what is found in some bytes, by their shape
-pub no_form : (bs : List ℕ) → (Shape bs → ⊥) → character_of bs ≡ none
+pub no_form : (bs : List ℕ) → (Shape bs → ⊥) → character_of bs ≡ None
 unfolding character_of
 no_form bs none_has = go (well_formed bs) refl
   where
-    go : (z : Bool) → well_formed bs ≡ z → character_of bs ≡ none
+    go : (z : Bool) → well_formed bs ≡ z → character_of bs ≡ None
     go true e = absurd (none_has (well_shape bs e))
     go false e = rw e
 
-pub form : (bs : List ℕ) → Shape bs → character_of bs ≡ some (value_of bs)
+pub form : (bs : List ℕ) → Shape bs → character_of bs ≡ Some (value_of bs)
 unfolding character_of
 form bs w = rw (shape_well bs w)
 
-pub form_shape : (bs : List ℕ) (c : ℕ) → character_of bs ≡ some c → Shape bs
+pub form_shape : (bs : List ℕ) (c : ℕ) → character_of bs ≡ Some c → Shape bs
 unfolding character_of
 form_shape bs c h = go (well_formed bs) refl
   where
@@ -204,12 +206,58 @@ form_shape bs c h = go (well_formed bs) refl
     go true e = well_shape bs e
     go false e = absurd (never c (sym (rw e at h)))
 
-pub form_value : (bs : List ℕ) (c : ℕ) → character_of bs ≡ some c → value_of bs ≡ c
-form_value bs c h = let e : character_of bs ≡ some (value_of bs) = form bs (form_shape bs c h) in cc
+pub form_value : (bs : List ℕ) (c : ℕ) → character_of bs ≡ Some c → value_of bs ≡ c
+form_value bs c h = let e : character_of bs ≡ Some (value_of bs) = form bs (form_shape bs c h) in cc
 
--- the same for the code's answers
-pub malformed : (bs : List ℕ) → (Shape bs → ⊥) → Malformed ≡ found (character_of bs)
-malformed bs n = sym (ap found (no_form bs n))
+-- the same as tests of how many bytes there are and what each is
+abbrev follows : ℕ → Bool
+follows b = within 128 191 b
 
-pub formed : (bs : List ℕ) → Shape bs → Character (value_of bs) ≡ found (character_of bs)
-formed bs w = sym (ap found (form bs w))
+abbrev two_bits : ℕ → ℕ → ℕ
+two_bits a b = (a - 192) * 64 + (b - 128)
+
+abbrev leads : List ℕ → ℕ → ℕ → ℕ → Bool
+leads bs n least most = eqb (length bs) n && within least most (get_or bs 0 0)
+
+abbrev tested : List ℕ → Option ℕ
+tested bs =
+    let a = get_or bs 0 0 in
+    let b = get_or bs 1 0 in
+    let d = get_or bs 2 0 in
+    let e = get_or bs 3 0 in
+    let three = three_bits a b d in
+    let four = four_bits a b d e in
+    cond (leads bs 1 0 127) (Some a)
+    (cond (leads bs 2 194 223 && follows b) (Some (two_bits a b))
+    (cond (leads bs 3 224 239 && (follows b && (follows d && (leb 2048 three && (ltb three 55296 || leb 57344 three))))) (Some three)
+    (cond (leads bs 4 240 244 && (follows b && (follows d && (follows e && (leb 65536 four && leb four 1114111))))) (Some four) None)))
+
+shape_tested : (bs : List ℕ) → Shape bs → Some (value_of bs) ≡ tested bs
+unfolding value_of
+shape_tested [] w = absurd w
+shape_tested (a ∷ []) w = grind (arith, nat_tests)
+shape_tested (a ∷ b ∷ []) w = grind (arith, nat_tests, w)
+shape_tested (a ∷ b ∷ d ∷ []) w = grind (arith, nat_tests, w)
+shape_tested (a ∷ b ∷ d ∷ e ∷ []) w = grind (arith, nat_tests, w)
+shape_tested (a ∷ b ∷ d ∷ e ∷ f ∷ bs) w = absurd w
+
+tested_shape : (bs : List ℕ) (c : ℕ) → tested bs ≡ Some c → Shape bs
+tested_shape [] c q = grind (arith, nat_tests)
+tested_shape (a ∷ []) c q = grind (arith, nat_tests)
+tested_shape (a ∷ b ∷ []) c q = record { lead = grind (arith, nat_tests); second = grind (arith, nat_tests) }
+tested_shape (a ∷ b ∷ d ∷ []) c q = record { lead = grind (arith, nat_tests); second = grind (arith, nat_tests); third = grind (arith, nat_tests); long = grind (arith, nat_tests); beyond = λ h. grind (arith, nat_tests) }
+tested_shape (a ∷ b ∷ d ∷ e ∷ []) c q = record { lead = grind (arith, nat_tests); second = grind (arith, nat_tests); third = grind (arith, nat_tests); fourth = grind (arith, nat_tests); long = grind (arith, nat_tests); short = grind (arith, nat_tests) }
+tested_shape (a ∷ b ∷ d ∷ e ∷ f ∷ bs) c q = grind (arith, nat_tests)
+
+pub by_bytes : (bs : List ℕ) → character_of bs ≡ tested bs
+by_bytes bs = go (tested bs) refl
+  where
+    go : (o : Option ℕ) → tested bs ≡ o → character_of bs ≡ o
+    go (Some c) q = let w = tested_shape bs c q in form bs w ∙ shape_tested bs w ∙ q
+    go None q = no_form bs (λ w. never (value_of bs) (shape_tested bs w ∙ q))
+
+-- a number is made a character where it is one
+pub made : (o : Option ℕ) (v : ℕ) → SomeIff o (IsScalar v) v → MatchOption o (OutOfScalarRange v) (λ _. InScalarRange v) → o ≡ cond (is_character v) (Some v) None
+unfolding is_character
+made None v h k = ⊎_elim (λ l. grind (arith, nat_tests)) (λ l. grind (arith, nat_tests)) k
+made (Some x) v h k = ap Some h.1 ∙ ⊎_elim (λ l. grind (arith, nat_tests)) (λ l. grind (arith, nat_tests)) k

@@ -1,6 +1,6 @@
 pub mod Table
 pub mod Order
-pub mod Halving
+pub mod Between
 pub mod Packed
 pub mod Window
 pub mod Forms

@@ -3,7 +3,7 @@
 use Prim.Native.Nat.{ℕ, suc, ◌+◌, ◌-◌, ◌≤◌}
 use mathlib.Core.Path.{◌≡◌, refl, sym, ap, subst, ◌∙◌}
 use mathlib.Core.Bool.{true}
-use mathlib.Core.Option.{Option, none, some}
+use Rattle.std.specs.Prelude.{Option, None, Some}
 use native.Mathlib.Omega.{arith}
 use lib.ListN.{length, get_or, take, drop, take-append-drop, length-append}
 use lib.Seq.{take-append_seam, drop_at, length-take-le}
@@ -21,7 +21,7 @@ use Rattle.characters.proofs.Neighbours.{after_found, before_found}
 pub found_begins : FoundBegins
 unfolding character_from
 found_begins doc at c e =
-    let m : (k : ℕ) × (character_of (first_bytes doc at k) ≡ some c) = found_part (first_bytes doc at) c e in
+    let m : (k : ℕ) × (character_of (first_bytes doc at k) ≡ Some c) = found_part (first_bytes doc at) c e in
     let f : Form (first_bytes doc at m.0) c = decoded_is_form (first_bytes doc at m.0) c m.1 in
     record {
       character = f.character;
@@ -32,7 +32,7 @@ found_begins doc at c e =
 pub found_ends : FoundEnds
 unfolding character_up_to
 found_ends doc at c e =
-    let m : (k : ℕ) × (character_of (last_bytes doc at k) ≡ some c) = found_part (last_bytes doc at) c e in
+    let m : (k : ℕ) × (character_of (last_bytes doc at k) ≡ Some c) = found_part (last_bytes doc at) c e in
     let f : Form (last_bytes doc at m.0) c = decoded_is_form (last_bytes doc at m.0) c m.1 in
     record {
       character = f.character;
@@ -42,7 +42,7 @@ found_ends doc at c e =
 
 -- a character's form decodes to it, has the shape of a form, and one to four bytes
 module _ (c : ℕ) (is : is_character c ≡ true) where
-  decodes : character_of (utf8 c) ≡ some c
+  decodes : character_of (utf8 c) ≡ Some c
   decodes = form_is_decoded (utf8 c) c (record { character = is; bytes = refl })
 
   shaped : Shape (utf8 c)
@@ -80,10 +80,10 @@ is_some Edge = ⊥
 is_some (Character c) = Unit {0}
 is_some Malformed = ⊥
 
-found_some : (o : Option ℕ) (c : ℕ) → found o ≡ Character c → o ≡ some c
+found_some : (o : Option ℕ) (c : ℕ) → found o ≡ Character c → o ≡ Some c
 unfolding is_some character_or
-found_some none c e = absurd (subst is_some (sym e) tt)
-found_some (some d) c e = ap some (ap character_or e)
+found_some None c e = absurd (subst is_some (sym e) tt)
+found_some (Some d) c e = ap Some (ap character_or e)
 
 pub character_after : CharacterAfter
 character_after doc at c h = (
@@ -98,9 +98,9 @@ character_before doc at c h = (
 )
 
 -- where no character is found
-none_found : (o : Option ℕ) → ((c : ℕ) → o ≡ some c → ⊥) → found o ≡ Malformed
-none_found none n = refl
-none_found (some c) n = absurd (n c refl)
+none_found : (o : Option ℕ) → ((c : ℕ) → o ≡ Some c → ⊥) → found o ≡ Malformed
+none_found None n = refl
+none_found (Some c) n = absurd (n c refl)
 
 pub malformed_after : MalformedAfter
 malformed_after doc at h n = after_found doc at h ∙ none_found (character_from doc at) (λ c e. n c (found_begins doc at c e))

@@ -3,7 +3,7 @@
 use Prim.Native.Nat.{ℕ, zero, suc, ◌+◌, ◌-◌, ◌≤◌, ◌<◌}
 use mathlib.Core.Path.{◌≡◌, refl, ap, ◌∙◌}
 use mathlib.Core.List.{List, [], ◌∷◌}
-use mathlib.Core.Option.{none}
+use Rattle.std.specs.Prelude.{None}
 use native.Mathlib.Omega.{arith}
 use native.Mathlib.Decide.{dec_lt}
 use lib.ListN.{length, get_or, take, drop, length-take, length-drop}
@@ -58,7 +58,7 @@ module _ (doc : List ℕ) (at : ℕ) where
       settled (first_bytes doc at) n p q (λ m w. front_again m (drop at doc) ∙ ap (first_bytes doc at) (one (length (first_bytes doc at m)) (from_lead m w)))
 
   -- and where it leads more than there are, there is no character
-  pub from_cut : ((k : ℕ) → Lead k (get_or doc at 0) → length doc - at < k) → character_from doc at ≡ none
+  pub from_cut : ((k : ℕ) → Lead k (get_or doc at 0) → length doc - at < k) → character_from doc at ≡ None
   unfolding character_from
   from_cut more = unsettled (first_bytes doc at) cut
     where
@@ -116,7 +116,7 @@ module _ (doc : List ℕ) (at : ℕ) (h : at ≤ length doc) where
   unfolding character_up_to
   up_to_place n p q one = settled (last_bytes doc at) n p q (λ m w. last_again m ∙ ap (last_bytes doc at) (one _ (up_to_trailing m w)))
 
-  pub up_to_cut : ((k : ℕ) → Trailing doc at k → ⊥) → character_up_to doc at ≡ none
+  pub up_to_cut : ((k : ℕ) → Trailing doc at k → ⊥) → character_up_to doc at ≡ None
   unfolding character_up_to
   up_to_cut none_has = unsettled (last_bytes doc at) (λ m w. none_has _ (up_to_trailing m w))
 

@@ -1,7 +1,6 @@
 -- The characters beside a place of a document.
 -- Assumes nothing.
-use Rattle.std.specs.Prelude.{ℕ, zero, suc, ◌-◌, cond, List, ltb, length, take, drop}
-use Rattle.std.proofs.Math.Option.{Option, none, some}
+use Rattle.std.specs.Prelude.{ℕ, zero, suc, ◌-◌, cond, List, ltb, length, take, drop, Option, None, Some}
 use Rattle.characters.specs.Utf8.{character_of}
 
 -- what stands beside a place: nothing, since the document begins or ends there; a character; or bytes that are no well-formed UTF-8
@@ -11,8 +10,8 @@ pub data Neighbour : Type 0 where
   Malformed : Neighbour
 
 abbrev pub or_else : Option ℕ → Option ℕ → Option ℕ
-or_else (some c) other = some c
-or_else none other = other
+or_else (Some c) other = Some c
+or_else None other = other
 
 -- the character that begins at a place: some of the bytes from there on are its form, whatever stands behind them. A form has one to four bytes, and none
 -- is the beginning of another.
@@ -30,8 +29,8 @@ character_up_to doc at =
 
 -- "A malformed or cut UTF-8 sequence" is a neighbour too, and no character
 abbrev pub found : Option ℕ → Neighbour
-found (some c) = Character c
-found none = Malformed
+found (Some c) = Character c
+found None = Malformed
 
 -- what stands before a place and after it: nothing at the document's edges
 unfoldable pub neighbour_before : List ℕ → ℕ → Neighbour

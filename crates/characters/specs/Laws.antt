@@ -1,8 +1,7 @@
 -- What holds of UTF-8 and of the characters beside a place, said by the encoder alone, and what stands beside a place by one byte. proofs/Decoding.antt,
 -- proofs/Places.antt and proofs/Neighbours.antt prove these, each under its name in small letters.
 -- Assumes nothing.
-use Rattle.std.specs.Prelude.{ℕ, suc, ◌<◌, ◌≤◌, ◌≡◌, true, List, ◌++◌, length, get_or, take, drop}
-use Rattle.std.proofs.Math.Option.{some}
+use Rattle.std.specs.Prelude.{ℕ, suc, ◌<◌, ◌≤◌, ◌≡◌, true, List, ◌++◌, length, get_or, take, drop, Some}
 use Rattle.characters.specs.Utf8.{character_of, is_character, utf8}
 use Rattle.characters.specs.Beside.{character_from, character_up_to, neighbour_before, neighbour_after}
 use Rattle.characters.specs.Beside.{Neighbour, Edge, Character, Malformed}
@@ -14,11 +13,11 @@ pub record Form (bs : List ℕ) (c : ℕ) : Type 0 where
 
 -- what is found in some bytes is a character whose form they are: encoding it gives the bytes back
 abbrev pub DecodedIsForm : Type 0
-DecodedIsForm = (bs : List ℕ) (c : ℕ) → character_of bs ≡ some c → Form bs c
+DecodedIsForm = (bs : List ℕ) (c : ℕ) → character_of bs ≡ Some c → Form bs c
 
 -- and a character is found in its form
 abbrev pub FormIsDecoded : Type 0
-FormIsDecoded = (bs : List ℕ) (c : ℕ) → Form bs c → character_of bs ≡ some c
+FormIsDecoded = (bs : List ℕ) (c : ℕ) → Form bs c → character_of bs ≡ Some c
 
 -- so bytes are the form of one character at most
 abbrev pub OneCharacter : Type 0
@@ -31,10 +30,10 @@ pub record Begins (doc : List ℕ) (at c : ℕ) : Type 0 where
   pub stands : drop at doc ≡ utf8 c ++ behind
 
 abbrev pub FoundBegins : Type 0
-FoundBegins = (doc : List ℕ) (at c : ℕ) → character_from doc at ≡ some c → Begins doc at c
+FoundBegins = (doc : List ℕ) (at c : ℕ) → character_from doc at ≡ Some c → Begins doc at c
 
 abbrev pub BeginsFound : Type 0
-BeginsFound = (doc : List ℕ) (at c : ℕ) → Begins doc at c → character_from doc at ≡ some c
+BeginsFound = (doc : List ℕ) (at c : ℕ) → Begins doc at c → character_from doc at ≡ Some c
 
 -- the character that ends exactly at a place: its form stands up to there, whatever stands before it
 pub record Ends (doc : List ℕ) (at c : ℕ) : Type 0 where
@@ -43,11 +42,11 @@ pub record Ends (doc : List ℕ) (at c : ℕ) : Type 0 where
   pub stands : take at doc ≡ before ++ utf8 c
 
 abbrev pub FoundEnds : Type 0
-FoundEnds = (doc : List ℕ) (at c : ℕ) → character_up_to doc at ≡ some c → Ends doc at c
+FoundEnds = (doc : List ℕ) (at c : ℕ) → character_up_to doc at ≡ Some c → Ends doc at c
 
 -- this one of a place of the document: of a place far past its end the last four bytes are none
 abbrev pub EndsFound : Type 0
-EndsFound = (doc : List ℕ) (at c : ℕ) → at ≤ length doc → Ends doc at c → character_up_to doc at ≡ some c
+EndsFound = (doc : List ℕ) (at c : ℕ) → at ≤ length doc → Ends doc at c → character_up_to doc at ≡ Some c
 
 -- nothing stands before the document's beginning
 abbrev pub EdgeFirst : Type 0

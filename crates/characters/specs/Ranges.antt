@@ -38,13 +38,6 @@ pub record In (t : List ℕ) (k c : ℕ) : Type 0 where
   pub least : low t k ≤ c
   pub most : c ≤ high t k
 
--- where to look for c in a table whose ranges are in order: the ranges before `from` end below it, and those from `to` on begin above it
-pub record Between (t : List ℕ) (c from to : ℕ) : Type 0 where
-  pub ordered : rising 0 t ≡ true
-  pub bound : 2 * to ≤ length t
-  pub below : (k : ℕ) → k < from → high t k < c
-  pub above : (k : ℕ) → to ≤ k → 2 * k + 1 < length t → c < low t k
-
 -- What holds of tables. proofs/Order.antt proves these two, each under its name in small letters.
 
 -- a member is what lies in one of the ranges, whatever their order

@@ -1,7 +1,6 @@
 -- UTF-8 as Unicode has it: which bytes are the form of a character, and of which one.
 -- Assumes nothing.
-use Rattle.std.specs.Prelude.{ℕ, ◌+◌, ◌-◌, ◌*◌, ◌/◌, ◌%◌, Bool, true, false, cond, ◌&&◌, ◌||◌, List, [], ◌∷◌, leb, ltb}
-use Rattle.std.proofs.Math.Option.{Option, none, some}
+use Rattle.std.specs.Prelude.{ℕ, ◌+◌, ◌-◌, ◌*◌, ◌/◌, ◌%◌, Bool, true, false, cond, ◌&&◌, ◌||◌, List, [], ◌∷◌, leb, ltb, Option, None, Some}
 use Rattle.characters.specs.Ranges.{within}
 
 -- Unicode 16.0, table 3-7, "Well-Formed UTF-8 Byte Sequences", row by row: the least and the most that each byte may be. In the table's words, a row to
@@ -46,7 +45,7 @@ value_of (a ∷ b ∷ d ∷ e ∷ f ∷ bs) = 0
 
 -- the character whose form these bytes are, if they are one's
 unfoldable pub character_of : List ℕ → Option ℕ
-character_of bs = cond (well_formed bs) (some (value_of bs)) none
+character_of bs = cond (well_formed bs) (Some (value_of bs)) None
 
 -- The other way round. A character, D76's "Unicode scalar value": "any Unicode code point except high-surrogate and low-surrogate code points", which is 0 to
 -- D7FF and E000 to 10FFFF

@@ -6,186 +6,111 @@
 // The answer is a character in any case: where none is there, at the document's edge, a line feed stands for it, which is whitespace; and for what is malformed
 // the zero byte, which is other.
 
-ghost use Rattle.std.specs.Prelude.{◌≡◌, [], ◌∷◌, ◌-◌, ◌≤◌, ◌<◌, length, get_or};
-ghost use Rattle.characters.specs.Utf8.{character_of};
-ghost use Rattle.characters.specs.Beside.{found, neighbour_before, neighbour_after};
+ghost use Rattle.std.specs.Prelude.{◌≡◌, ◌≤◌, ◌&&◌, nat_le, if◌then◌else◌, length};
+ghost use Rattle.characters.specs.Utf8.{character_of, is_character};
+ghost use Rattle.characters.specs.Beside.{character_from, character_up_to, neighbour_before, neighbour_after};
 ghost use Rattle.characters.specs.StandIn.{stand_in};
 
-// The character of two bytes.
-fn of_two(a: u32, b: u32) -> u32
-    requires { (a < 256) × (b < 256) }
-    ensures { result ≡ stand_in (found (character_of (a ∷ b ∷ []))) }
+// What stands for the document's edge.
+const EDGE: u32 = 10;
+
+// What stands for bytes that are no character.
+const MALFORMED: char = '\0';
+
+// The character that some bits make, but none that needs fewer bytes, and no surrogate.
+#[tactic(auto, using(crate::proofs::Forms::made, std::proofs::lemmas::Bool::Decides::nat_tests), unfolding(crate::specs::Utf8::is_character))]
+#[inline(always)]
+fn at_least(least: u32, c: u32) -> Option<char>
+    ensures { result ≡ (if nat_le least c && is_character c then Some c else None) }
 {
-    if a < 194 {
-        return 0;
-    }
-    if 223 < a {
-        return 0;
-    }
-    if b < 128 {
-        return 0;
-    }
-    if 191 < b {
-        return 0;
-    }
-    (a - 192) * 64 + (b - 128)
+    if c < least { None } else { char::from_u32(c) }
 }
 
-// The character of three bytes. What is longer than it has to be, and what is a surrogate, is seen in what the bits make.
-fn of_three(a: u32, b: u32, d: u32) -> u32
-    requires { (a < 256) × (b < 256) × (d < 256) }
-    ensures { result ≡ stand_in (found (character_of (a ∷ b ∷ d ∷ []))) }
+// The character whose form these bytes are. It is inlined, so that how many there are is known where they are matched.
+#[tactic(auto, using(crate::proofs::Forms::by_bytes, std::proofs::lemmas::Bool::Decides::nat_tests), unfolding(crate::specs::Utf8::is_character))]
+#[inline(always)]
+fn character_of(bytes: &[u8]) -> Option<char>
+    ensures { result ≡ character_of bytes.now }
 {
-    if a < 224 {
-        return 0;
+    match *bytes {
+        [a @ 0..=127] => Some(char::from(a)),
+        [a @ 192..=223, b @ 128..=191] => {
+            at_least(128, u32::from(a - 192) * 64 + u32::from(b - 128))
+        }
+        [a @ 224..=239, b @ 128..=191, d @ 128..=191] => at_least(
+            2048,
+            u32::from(a - 224) * 4096 + u32::from(b - 128) * 64 + u32::from(d - 128),
+        ),
+        [a @ 240..=247, b @ 128..=191, d @ 128..=191, e @ 128..=191] => at_least(
+            65536,
+            u32::from(a - 240) * 262144
+                + u32::from(b - 128) * 4096
+                + u32::from(d - 128) * 64
+                + u32::from(e - 128),
+        ),
+        _ => None,
     }
-    if 239 < a {
-        return 0;
-    }
-    if b < 128 {
-        return 0;
-    }
-    if 191 < b {
-        return 0;
-    }
-    if d < 128 {
-        return 0;
-    }
-    if 191 < d {
-        return 0;
-    }
-    let c = (a - 224) * 4096 + (b - 128) * 64 + (d - 128);
-    if c < 2048 {
-        return 0;
-    }
-    if c < 55296 {
-        return c;
-    }
-    if c < 57344 {
-        return 0;
-    }
-    c
 }
 
-// The character of four bytes.
-fn of_four(a: u32, b: u32, d: u32, e: u32) -> u32
-    requires { (a < 256) × (b < 256) × (d < 256) × (e < 256) }
-    ensures { result ≡ stand_in (found (character_of (a ∷ b ∷ d ∷ e ∷ []))) }
+// The character that some bytes begin with: the first of them says how many there are to be.
+#[tactic(auto, using(crate::proofs::Neighbours::firsts))]
+fn first_of(bytes: &[u8]) -> Option<char>
+    ensures { result ≡ character_from bytes.now 0 }
 {
-    if a < 240 {
-        return 0;
+    if let [a @ 0..=127, ..] = *bytes {
+        return Some(char::from(a));
     }
-    if 244 < a {
-        return 0;
+    if let [a @ 0..=223, b, ..] = *bytes {
+        return character_of(&[a, b]);
     }
-    if b < 128 {
-        return 0;
+    if let [a @ 0..=239, b, d, ..] = *bytes {
+        return character_of(&[a, b, d]);
     }
-    if 191 < b {
-        return 0;
+    if let [a, b, d, e, ..] = *bytes {
+        return character_of(&[a, b, d, e]);
     }
-    if d < 128 {
-        return 0;
-    }
-    if 191 < d {
-        return 0;
-    }
-    if e < 128 {
-        return 0;
-    }
-    if 191 < e {
-        return 0;
-    }
-    let c = (a - 240) * 262144 + (b - 128) * 4096 + (d - 128) * 64 + (e - 128);
-    if c < 65536 {
-        return 0;
-    }
-    if 1114111 < c {
-        return 0;
-    }
-    c
+    None
 }
 
-// The character that begins at a place, where a byte from 128 up stands.
-fn leads(doc: &[u8], at: usize) -> u32
-    requires { (at < length doc.now) × (128 ≤ get_or doc.now at 0) }
-    ensures { result ≡ stand_in (neighbour_after doc.now at) }
+// The character that some bytes end with: the last of them that is no follower leads.
+#[tactic(auto, using(crate::proofs::Neighbours::lasts))]
+fn last_of(bytes: &[u8]) -> Option<char>
+    ensures { result ≡ character_up_to bytes.now (length bytes.now) }
 {
-    let left = doc.len() - at;
-    let a = doc[at] as u32;
-    if left < 2 {
-        return 0;
+    if let [.., a @ 0..=127] = *bytes {
+        return Some(char::from(a));
     }
-    let b = doc[at + 1] as u32;
-    if a < 224 {
-        return of_two(a, b);
+    if let [.., a @ 192..=255, b] = *bytes {
+        return character_of(&[a, b]);
     }
-    if left < 3 {
-        return 0;
+    if let [.., a @ 192..=255, b, d] = *bytes {
+        return character_of(&[a, b, d]);
     }
-    let d = doc[at + 2] as u32;
-    if a < 240 {
-        return of_three(a, b, d);
+    if let [.., a, b, d, e] = *bytes {
+        return character_of(&[a, b, d, e]);
     }
-    if left < 4 {
-        return 0;
-    }
-    let e = doc[at + 3] as u32;
-    of_four(a, b, d, e)
-}
-
-// The character that ends at a place, where a byte from 128 up stands before it: the nearest byte that is no follower leads.
-fn trails(doc: &[u8], at: usize) -> u32
-    requires { (0 < at) × (at ≤ length doc.now) × (128 ≤ get_or doc.now (at - 1) 0) }
-    ensures { result ≡ stand_in (neighbour_before doc.now at) }
-{
-    let last = doc[at - 1] as u32;
-    if at < 2 {
-        return 0;
-    }
-    let second = doc[at - 2] as u32;
-    if 191 < second {
-        return of_two(second, last);
-    }
-    if at < 3 {
-        return 0;
-    }
-    let third = doc[at - 3] as u32;
-    if 191 < third {
-        return of_three(third, second, last);
-    }
-    if at < 4 {
-        return 0;
-    }
-    let fourth = doc[at - 4] as u32;
-    of_four(fourth, third, second, last)
+    None
 }
 
 // What stands before a place.
+#[tactic(auto, using(crate::proofs::Neighbours::edge_stands_before, crate::proofs::Neighbours::stands_before))]
 pub fn neighbour_before(doc: &[u8], at: usize) -> u32
     requires { at ≤ length doc.now }
     ensures { result ≡ stand_in (neighbour_before doc.now at) }
 {
     if at == 0 {
-        return 10;
+        return EDGE;
     }
-    let last = doc[at - 1];
-    if last < 128 {
-        return last as u32;
-    }
-    trails(doc, at)
+    u32::from(last_of(&doc[..at]).unwrap_or(MALFORMED))
 }
 
 // What stands after it.
+#[tactic(auto, using(crate::proofs::Neighbours::edge_stands_after, crate::proofs::Neighbours::stands_after))]
 pub fn neighbour_after(doc: &[u8], at: usize) -> u32
     ensures { result ≡ stand_in (neighbour_after doc.now at) }
 {
     if at >= doc.len() {
-        return 10;
+        return EDGE;
     }
-    let first = doc[at];
-    if first < 128 {
-        return first as u32;
-    }
-    leads(doc, at)
+    u32::from(first_of(&doc[at..]).unwrap_or(MALFORMED))
 }

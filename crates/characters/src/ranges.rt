@@ -1,40 +1,26 @@
-// Whether a character lies in one of the ranges of a table.
+// Whether a character lies in one of some ranges.
 //
-// The compiler lays a constant table out on the stack wherever it is named. So the large one is made once, by whoever has look-ups to do, and lent to each of
-// them; the small one is made at each look-up, 28 bytes.
+// The compiler lays a constant table out on the stack wherever it is named. So the table of punctuation is made once, by whoever has look-ups to do, and lent to
+// each of them; the spaces are few enough for a pattern.
 
-ghost use Rattle.std.specs.Prelude.{◌≡◌, ◌+◌};
-ghost use Rattle.characters.specs.Ranges.{member, unpacked, Between};
+ghost use Rattle.std.specs.Prelude.{◌≡◌, true};
+ghost use Rattle.characters.specs.Ranges.{member, unpacked, rising};
 ghost use Rattle.characters.specs.Tables.{punctuation_ranges, space_ranges};
 ghost use Rattle.characters.specs.Index.{Indexed};
 
-use super::tables::{PUNCTUATION, SPACES};
+use super::tables::PUNCTUATION;
 
-// Whether c lies in one of the ranges of t, each of which is one number. It is looked for among so many of them from one on; they are in rising order and apart,
-// so that halving finds it.
-fn in_ranges(t: &[u32], c: u32, first: usize, count: usize) -> bool
-    requires { Between (unpacked t.now) c first (first + count) }
-    ensures { result ≡ member (unpacked t.now) c }
+// Whether c lies in one of some ranges in rising order and apart, each of which is one number. Of those that begin at c or before, it can only be in the last.
+fn in_ranges(ranges: &[u32], c: u32) -> bool
+    requires { rising 0 (unpacked ranges.now) ≡ true }
+    ensures { result ≡ member (unpacked ranges.now) c }
 {
-    let mut from = first;
-    let mut left = count;
-    while left > 0 {
-        let half = left / 2;
-        let mid = from + half;
-        let range = t[mid];
-        let least = range / 2048;
-        if c < least {
-            left = half;
-        } else {
-            if least + range % 2048 < c {
-                from = mid + 1;
-                left = left - half - 1;
-            } else {
-                return true;
-            }
-        }
+    let begun = ranges.partition_point(|range| *range / 2048 <= c);
+    if begun == 0 {
+        return false;
     }
-    false
+    let range = ranges[begun - 1];
+    c <= range / 2048 + range % 2048
 }
 
 // The table of punctuation, to be lent.
@@ -52,21 +38,17 @@ pub fn is_punctuation(table: &[u32], c: u32) -> bool
     if c >= 131072 {
         return false;
     }
+    let (index, ranges) = table.split_at(129);
     let block = (c / 1024) as usize;
-    let from = table[block] as usize;
-    let to = table[block + 1] as usize;
-    in_ranges(&table[129..], c, from, to - from + 1)
+    let from = index[block] as usize;
+    let to = index[block + 1] as usize;
+    in_ranges(&ranges[from..=to], c)
 }
 
-// Whether c is of the general category Zs. Most letters stand past the last one, the ideographic space, or below the third, the Ogham space mark.
+// Whether c is of the general category Zs.
+#[tactic(auto, using(std::proofs::lemmas::Bool::Decides::nat_tests), unfolding(crate::specs::Ranges::member, crate::specs::Tables::space_ranges))]
 pub fn is_space(c: u32) -> bool
     ensures { result ≡ member space_ranges c }
 {
-    if 12288 < c {
-        return false;
-    }
-    if c < 5760 {
-        return in_ranges(&SPACES, c, 0, 2);
-    }
-    in_ranges(&SPACES, c, 0, 7)
+    matches!(c, 32 | 160 | 5760 | 8192..=8202 | 8239 | 8287 | 12288)
 }

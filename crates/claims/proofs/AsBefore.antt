@@ -10,16 +10,15 @@ use native.Mathlib.Omega.{arith}
 use lib.Dec.{leb, ltb, eqb}
 use lib.ListN.{length, get_or}
 use borrow.Author.Tests.{ltb-true, ltb-false, lt-leb, leb-true, leb-false, ne_eqb}
+use Rattle.std.specs.Prelude.{Ok, Err}
 use Rattle.record.specs.Choice.{choose}
 use Rattle.record.specs.Options.{option_on}
-use Rattle.record.specs.Check.{admitted}
+use Rattle.record.specs.Check.{admitted, Reading}
 use Rattle.record.specs.Handed.{options_of}
 use Rattle.record.specs.Outcome.{Outcome, accepted, refused}
 use Rattle.record.specs.Stack.{after}
 use Rattle.record.specs.declared.event.Event.{Event}
 use Rattle.record.specs.declared.form.Handed.{Handed}
-use Rattle.record.specs.declared.check.Reading.{Reading}
-use Rattle.record.specs.declared.check.Reading.TheVariants.{Good, Refused}
 use Rattle.record.proofs.Exactly.{exactly}
 use Rattle.characters.specs.Beside.{Neighbour, Edge, Character, Malformed, neighbour_before, neighbour_after}
 use Rattle.characters.proofs.Neighbours.{ascii_before, ascii_after, edge_before, edge_after}
@@ -135,9 +134,9 @@ unfolding outcome_of
 comes_as_before profile h s outs works a = go (admitted h s works) refl
   where
     go : (r : Reading) → admitted h s works ≡ r → outcome_of profile h s outs works ≡ comes_before profile h s outs works
-    go (Refused r) e = rw e
-    go (Good d n) e =
-        let g = (exactly h s works).good d n e in
+    go (Err r) e = rw e
+    go (Ok c) e =
+        let g = (exactly h s works).good c.document c.events e in
         rw (e, g.0, g.1, attention_as_before (doc_of h s) a profile (options_of h s) (all_events h s))
 
 answers_alike : (profile : Profile) (h : Handed) (s : List ℕ) → Ascii (doc_of h s) → (o : Outcome) →

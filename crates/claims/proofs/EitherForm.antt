@@ -8,7 +8,7 @@ use mathlib.Core.List.{List}
 use mathlib.Core.Logic.{◌⊎◌, inl, inr}
 use lib.ListN.{length}
 use lib.Dec.{ltb}
-use Rattle.record.specs.Check.{admitted, refuse}
+use Rattle.record.specs.Check.{admitted, refuse, Reading}
 use Rattle.record.specs.Choice.{choose}
 use Rattle.record.specs.Form.{old, second}
 use Rattle.record.specs.Handed.{form_of}
@@ -17,7 +17,6 @@ use Rattle.record.specs.Outcome.{Resolution, offends, gives, Outcome, accepted, 
 use Rattle.record.specs.Partners.{record_in}
 use Rattle.record.specs.Promise.{Writes}
 use Rattle.record.specs.Rows.{document_count_in, event_count_in}
-use Rattle.record.specs.declared.check.Reading.{Reading}
 use Rattle.record.specs.declared.event.Event.{Event}
 use Rattle.record.specs.declared.form.Handed.{Handed}
 use Rattle.record.specs.declared.form.Handed.TheVariants.{Old, Second}

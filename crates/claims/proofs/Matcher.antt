@@ -6,6 +6,7 @@ use mathlib.Core.Path.{◌≡◌, refl, sym, ap, ◌∙◌}
 use mathlib.Core.List.{List}
 use mathlib.Core.Option.{Option, none, some}
 use lib.ListN.{length}
+use Rattle.std.specs.Prelude.{Result, Err}
 use Rattle.record.specs.Handed.{form_of, options_of}
 use Rattle.record.specs.Partners.{section_in}
 use Rattle.record.specs.Written.{by_check, row_7}
@@ -25,9 +26,10 @@ use Rattle.attention.specs.Attention.{unless_offended, attention}
 use Rattle.attention.proofs.Beginning.{begins}
 use Rattle.ledgerlark.specs.declared.resolve.LarkResolved.{LarkResolved}
 use Rattle.matcher.specs.Closer.{closer_from}
+use Rattle.matcher.specs.Along.{too_many}
 use Rattle.matcher.specs.Promise.{Answered}
-use Rattle.matcher.specs.declared.closers.Found.{Found}
-use Rattle.matcher.specs.declared.closers.Found.TheVariants.{Groups, TooMany}
+use Rattle.matcher.specs.declared.closers.Groups.{Groups}
+use Rattle.matcher.specs.declared.closers.TooMany.{TooMany}
 use Rattle.matcher.proofs.Chained.{onward_went}
 use Rattle.claims.specs.Records.{doc_of, all_events}
 use Rattle.claims.specs.Matcher.{AcceptedAsThePlainRule, AcceptedNests, GroupsAreThePlainRule's, AcceptedBegins, AcceptedGroups, AcceptedHasRoom, StandsByThePlainRule, ChainsAfterEach, StandsAfterEach, PromisedAtTheExit, AnswersThroughThese, ChainsFindTheSame}
@@ -91,15 +93,14 @@ unfolding outcome
 accepted_groups profile h s n made tried w w' f a = (groups_are_the_plain_rule's (profile.rule (options_of h s)) w n made tried w' a).1 (begin profile (options_of h s) (doc_of h s) (all_events h s)) f
 
 -- more than 1,000 groups make a result that is too long
-too_many : (rule : Rule) (rs : List Standing) (n : ℕ) (found : Found) (w : List ℕ) → found ≡ TooMany → Answered rule rs n found w →
+over : (rule : Rule) (rs : List Standing) (n : ℕ) (found : Result Groups TooMany) (w : List ℕ) → found ≡ Err too_many → Answered rule rs n found w →
     1000 < length (plain rule rs).groups
-too_many rule rs n (Groups made tried) w q a = let z : ◌≡◌ {A = ℕ} 0 1 = cc in absurd (omega arith)
-too_many rule rs n TooMany w q a = a
+over rule rs n found w q a = rw q at a
 
 pub accepted_has_room : AcceptedHasRoom
 unfolding outcome
 accepted_has_room profile h s out work r out' work' p z n found w w' f a q =
-    let many = too_many (profile.rule (options_of h s)) (begin profile (options_of h s) (doc_of h s) (all_events h s)) n found w' q (a.of (begin profile (options_of h s) (doc_of h s) (all_events h s)) f) in
+    let many = over (profile.rule (options_of h s)) (begin profile (options_of h s) (doc_of h s) (all_events h s)) n found w' q (a.of (begin profile (options_of h s) (doc_of h s) (all_events h s)) f) in
     let long = many_groups_too_long profile (options_of h s) (doc_of h s) (all_events h s) many in
     let x = (attention_claim profile h s).accepts out work r out' work' p z in
     let none = ((attention_claim profile h s).exactly out work r out' work' p).none_holds z in

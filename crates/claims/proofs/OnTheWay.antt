@@ -11,6 +11,7 @@ use mathlib.Core.List.{List}
 use native.Mathlib.Omega.{arith}
 use lib.Dec.{eqb, ltb}
 use borrow.Author.Tests.{lt-ltb, ltb-true, ltb-false}
+use Rattle.std.specs.Prelude.{Result, Ok, Err}
 use Rattle.record.specs.Choice.{choose}
 use Rattle.runs.specs.declared.Next.{Next}
 use Rattle.runs.specs.declared.Next.TheVariants.{Match, Done}
@@ -20,9 +21,9 @@ use Rattle.slots.specs.Layout.{link_of}
 use Rattle.chains.specs.Step.{matched_at}
 use Rattle.chains.specs.Walk.{takes_at, first, down, closing, seek, passed, raised, onward}
 use Rattle.matcher.specs.State.{Fresh}
-use Rattle.matcher.specs.Along.{walked, closer_along, closer_by, stepped, along, chained}
-use Rattle.matcher.specs.declared.closers.Step.{Step}
-use Rattle.matcher.specs.declared.closers.Step.TheVariants.{Closed, Full}
+use Rattle.matcher.specs.Along.{walked, closer_along, closer_by, stepped, along, chained, closed_at, too_many}
+use Rattle.matcher.specs.declared.closers.Closed.{Closed}
+use Rattle.matcher.specs.declared.closers.TooMany.{TooMany}
 use Rattle.matcher.proofs.Chained.{onward_suc}
 use Rattle.matcher.proofs.Rounds.{raise}
 use Rattle.matcher.proofs.Ways.{done_way, end_way, again_all}
@@ -73,10 +74,10 @@ onward_shift (suc m) rule w height i s t = rw (seek_shift rule w i s t) (go (λ 
     go ih (miss u) = ih u
 
 -- one turn for one closer: its walk found nothing, or a match
-abbrev turn : ℕ → Rule → ℕ → ℕ → ℕ → Next × (List ℕ × ℕ) → Step × List ℕ
+abbrev turn : ℕ → Rule → ℕ → ℕ → ℕ → Next × (List ℕ × ℕ) → Result Closed TooMany × List ℕ
 turn k rule until made count x =
-    walked x (λ u v h. (Closed until h made (count + u), v))
-    (λ o c u v h. choose (eqb made 1000) (Full, v) (closer_along k rule (matched_at v h o c made).0 (matched_at v h o c made).1 c (c + 1) (made + 1) (count + u)))
+    walked x (λ u v h. (Ok (closed_at until h made (count + u)), v))
+    (λ o c u v h. choose (eqb made 1000) (Err too_many, v) (closer_along k rule (matched_at v h o c made).0 (matched_at v h o c made).1 c (c + 1) (made + 1) (count + u)))
 
 closer_suc : (k : ℕ) (rule : Rule) (w : List ℕ) (height at until made count : ℕ)
     → closer_along (suc k) rule w height at until made count ≡ turn k rule until made count (onward (until - at) rule w height at 0)
@@ -112,7 +113,7 @@ unfolding along choose
 along_step rule w height n i made tried k h = rw (lt-ltb i n h)
 
 -- at the end of the runs nothing is left to do
-closer_end : (rule : Rule) (w : List ℕ) (height n made tried : ℕ) → closer_by rule w height n n made tried ≡ (Closed n height made tried, w)
+closer_end : (rule : Rule) (w : List ℕ) (height n made tried : ℕ) → closer_by rule w height n n made tried ≡ (Ok (closed_at n height made tried), w)
 unfolding onward
 closer_end rule w height n made tried =
     let z : n - n ≡ zero = omega arith in
@@ -131,7 +132,7 @@ module _ (rule : Rule) (w : List ℕ) (height i n u : ℕ) (l : i < n) (none : s
           ∙ sym (along_step rule (passed w height i) (raised w height i) n (i + 1) made (tried + u) k (ltb-true (i + 1) n e))
       go false e =
           let last : i + 1 ≡ n = omega (arith, ltb-false (i + 1) n e) in
-          let here : (Closed n (raised w height i) made (tried + u), passed w height i) ≡ closer_by rule w height i n made tried =
+          let here : (Ok (closed_at n (raised w height i) made (tried + u)), passed w height i) ≡ closer_by rule w height i n made tried =
           sym (closer_passing rule w height i n u l none made tried ∙ rw last (closer_end rule (passed w height i) (raised w height i) n made (tried + u))) in
           again_all rule w height n i made tried here l (suc k) h refl
           ∙ end_way rule (passed w height i) (raised w height i) n n made (tried + u) (suc k - 1) (omega arith)

@@ -13,6 +13,7 @@ use native.Mathlib.Numerals.{add-one}
 use lib.Dec.{ltb}
 use lib.ListN.{length}
 use borrow.Author.Tests.{ltb-true, ltb-false}
+use Rattle.std.specs.Prelude.{Result, Ok, Err}
 use Rattle.runs.specs.declared.Next.{Next}
 use Rattle.runs.specs.declared.Next.TheVariants.{Match, Done}
 use Rattle.runs.specs.Rule.{Rule}
@@ -20,10 +21,10 @@ use Rattle.runs.specs.Plain.{Standing, Group, Look, hit, miss, settle, look, for
 use Rattle.chains.specs.Walk.{seek, passed, raised, onward}
 use Rattle.matcher.specs.State.{Fresh, Ready, InOrder}
 use Rattle.matcher.specs.Closer.{Finish, finish, closer_from}
-use Rattle.matcher.specs.Along.{closer_by, along}
+use Rattle.matcher.specs.Along.{closer_by, along, closed_at, too_many}
 use Rattle.matcher.specs.Promise.{ClosedAs, Handled}
-use Rattle.matcher.specs.declared.closers.Step.{Step}
-use Rattle.matcher.specs.declared.closers.Step.TheVariants.{Closed, Full}
+use Rattle.matcher.specs.declared.closers.Closed.{Closed}
+use Rattle.matcher.specs.declared.closers.TooMany.{TooMany}
 use Rattle.matcher.proofs.Chained.{forth_suc, seek_look, passed_ready}
 use Rattle.matcher.proofs.Matched.{matched_length}
 use Rattle.matcher.proofs.Order.{onward_walks, ready_order}
@@ -203,15 +204,15 @@ module _ {rule : Rule} {n : ℕ} {rs₀ : List Standing} {w : List ℕ} {height 
       let z : i + (n - i) ≡ length b.runs = omega (arith, long) in
       rw z at (finish_up_to (n - i) rule rs₀ i b.groups tried b.runs b.up (omega (arith, long)))
 
-  comes : (step : Step) (w' : List ℕ) → (step, w') ≡ closer_by rule w height i n made tried → Handled rule b.runs b.groups n i tried step w'
+  comes : (step : Result Closed TooMany) (w' : List ℕ) → (step, w') ≡ closer_by rule w height i n made tried → Handled rule b.runs b.groups n i tried step w'
   comes step w' e =
       let size = b.size in
       let fits = b.ready.grouped.fits in
       handled_by_closer_by rule step w' (record { order = order; more = l; room = omega arith; few = b.few }) e b.runs b.groups b.ready b.size
 
-  module _ {next height' made' tried' : ℕ} {w' : List ℕ} (e : (Closed next height' made' tried', w') ≡ closer_by rule w height i n made tried) where
+  module _ {next height' made' tried' : ℕ} {w' : List ℕ} (e : (Ok (closed_at next height' made' tried'), w') ≡ closer_by rule w height i n made tried) where
     closes : ClosedAs found n i next height' made' tried' w'
-    closes = comes (Closed next height' made' tried') w' e
+    closes = comes (Ok (closed_at next height' made' tried')) w' e
 
     both_closed : Both rule n rs₀ w' height' next made' tried'
     both_closed =
@@ -234,10 +235,10 @@ module _ {rule : Rule} {n : ℕ} {rs₀ : List Standing} {w : List ℕ} {height 
         let m = finish_match rule b.runs i (length b.runs) b.groups tried o i u (omega (arith, long)) (omega arith) (forth_one rule (length b.runs - i) b.runs i o u (omega (arith, long)) h) in
         closes.at ∙ ap (λ (f : Finish). f.next) m ∙ finish_next (total (matched b.runs o i) + 1) rule (matched b.runs o i) i (and_group b.groups b.runs o i) (tried + u)
 
-  full_over : {w' : List ℕ} → (Full, w') ≡ closer_by rule w height i n made tried → length rs₀ ≡ n → 1000 < length (plain rule rs₀).groups
+  full_over : {w' : List ℕ} → (Err too_many, w') ≡ closer_by rule w height i n made tried → length rs₀ ≡ n → 1000 < length (plain rule rs₀).groups
   unfolding closer_from
   full_over {w'} e len =
-      let over : 1000 < length found.groups = comes Full w' e in
+      let over : 1000 < length found.groups = comes (Err too_many) w' e in
       let here : plain rule rs₀ ≡ rounds_left rule (standing b.groups tried b.runs i) = rw b.up at (up_to_plain rule rs₀ i (omega arith)) in
       let on = rounds_finish rule (total b.runs + 1) b.runs i (length b.runs) b.groups tried (omega (arith, long)) (omega arith) (omega arith) in
       rw (here ∙ on) (omega (arith, rounds_longer rule (total found.runs + 1) found.runs found.next found.groups found.tried))
@@ -259,18 +260,18 @@ leads (suc k) rule n w₀ rs₀ w height i made tried f st l = go (leads k rule 
     b = stands_both f st
 
     go : ((v : List ℕ) (h j m t : ℕ) → Fresh w₀ rs₀ n → Stands rule n w₀ v h j m t → n - j < k → Leads rule n w₀ v h j m t (along k rule v h n j m t)) →
-        (z : Bool) → ltb i n ≡ z → (x : Step × List ℕ) → closer_by rule w height i n made tried ≡ x → Leads rule n w₀ w height i made tried (along (suc k) rule w height n i made tried)
+        (z : Bool) → ltb i n ≡ z → (x : Result Closed TooMany × List ℕ) → closer_by rule w height i n made tried ≡ x → Leads rule n w₀ w height i made tried (along (suc k) rule w height n i made tried)
     go ih false e x q =
         let h : n ≤ i = ltb-false i n e in
         let same : i ≡ n = omega (arith, b.ready.within) in
         rw (end_way rule w height n i made tried (suc k) h) (rw same (at_the_last (rw same at st)))
-    go ih true e (Full, w') q =
+    go ih true e (Err x, w') q =
         rw (full_all rule w height n i made tried (sym q) (ltb-true i n e) (suc k) l refl) (no_room st (ltb-true i n e) (sym q))
-    go ih true e (Closed next h m t, w') q =
+    go ih true e (Ok c, w') q =
         let lt : i < n = ltb-true i n e in
         let z : suc k - 1 ≡ k = omega arith in
         let on = closes_onward b lt (sym q) in
-        rw (again_all rule w height n i made tried (sym q) lt (suc k) l refl, z) (by_a_closer st lt (sym q) (ih w' h next m t f (after_a_closer st lt (sym q)) (omega arith)))
+        rw (again_all rule w height n i made tried (sym q) lt (suc k) l refl, z) (by_a_closer st lt (sym q) (ih w' c.height c.next c.groups c.tried f (after_a_closer st lt (sym q)) (omega arith)))
 
 -- a place after each run, where there is room for all groups
 pub each : (rule : Rule) (n : ℕ) (w₀ : List ℕ) (rs₀ : List Standing) → Fresh w₀ rs₀ n → length (plain rule rs₀).groups ≤ 1000 → (i : ℕ) → i ≤ n → StandsAt rule n w₀ i
@@ -286,7 +287,7 @@ each rule n w₀ rs₀ f fits (suc i) h = next (each rule n w₀ rs₀ f fits i 
         l : i < n
         l = omega arith
 
-        go : (x : Look) → seek rule p.memory i 0 ≡ x → (y : Step × List ℕ) → closer_by rule p.memory p.height i n p.made p.tried ≡ y → StandsAt rule n w₀ (suc i)
+        go : (x : Look) → seek rule p.memory i 0 ≡ x → (y : Result Closed TooMany × List ℕ) → closer_by rule p.memory p.height i n p.made p.tried ≡ y → StandsAt rule n w₀ (suc i)
         go (miss u) e y q =
             record {
               memory = passed p.memory p.height i;
@@ -295,9 +296,9 @@ each rule n w₀ rs₀ f fits (suc i) h = next (each rule n w₀ rs₀ f fits i 
               tried = p.tried + u;
               stands = rw (add-one i) at (after_passing p.stands l e);
             }
-        go (hit o u) e (Full, w') q = absurd (omega (arith, full_over b l (sym q) f.reads.len))
-        go (hit o u) e (Closed j h m t, w') q =
+        go (hit o u) e (Err x, w') q = absurd (omega (arith, full_over b l (sym q) f.reads.len))
+        go (hit o u) e (Ok c, w') q =
             let r = b.ready in
             let same = seek_look rule p.memory p.height b.runs n i 0 r.reads r.falls (r.chains i l) l r.listed in
-            let there : j ≡ suc i = closes_here b l (sym q) (sym same ∙ e) ∙ add-one i in
-            record { memory = w'; height = h; made = m; tried = t; stands = rw there at (after_a_closer p.stands l (sym q)) }
+            let there : c.next ≡ suc i = closes_here b l (sym q) (sym same ∙ e) ∙ add-one i in
+            record { memory = w'; height = c.height; made = c.groups; tried = c.tried; stands = rw there at (after_a_closer p.stands l (sym q)) }

@@ -7,11 +7,12 @@ use mathlib.Core.Bool.{Bool, true, false}
 use mathlib.Core.Logic.{◌⊎◌, inl}
 use mathlib.Core.List.{List, [], ◌∷◌, ◌++◌}
 use lib.ListN.{length, get_or, take}
+use Rattle.std.specs.Prelude.{Ok, Err, None, Some}
 use Rattle.record.specs.Form.{old}
 use Rattle.record.specs.Handed.{form_of, options_of}
 use Rattle.record.specs.Choice.{choose}
 use Rattle.record.specs.Event.{section_bytes, section_at, section_at_in, document_in, events_in}
-use Rattle.record.specs.Check.{admitted}
+use Rattle.record.specs.Check.{admitted, accept}
 use Rattle.record.specs.Rows.{Row, document_count_in, event_count_in}
 use Rattle.record.specs.Sound.{sound}
 use Rattle.record.specs.ReadsBack.{Holdable, AreBytes}
@@ -25,7 +26,6 @@ use Rattle.partners.proofs.Rewritten.{good_is_rewritten}
 use Rattle.record.specs.Written.{WrittenRow, by_check, row_7}
 use Rattle.record.specs.Outcome.{Resolution, gives, onto}
 use Rattle.record.specs.Partners.{section_in, record_in}
-use Rattle.record.specs.declared.check.Reading.TheVariants.{Good}
 use Rattle.record.specs.declared.event.Event.{Event}
 use Rattle.record.specs.declared.form.Form.{Form}
 use Rattle.record.specs.declared.form.Handed.{Handed}
@@ -39,9 +39,7 @@ use Rattle.record.proofs.Depth.{sound_shallow, sound_deeper}
 use Rattle.scan.specs.Line.{end_of, line_of}
 use Rattle.scan.specs.Rows.{row_3, row_4}
 use Rattle.atx.specs.Rows.{WritingRow, reading, row_7 as heading-row-7}
-use Rattle.atx.specs.Heading.{is_heading, heading_events, headed_of}
-use Rattle.atx.specs.declared.Headed.{Headed}
-use Rattle.atx.specs.declared.Headed.TheVariants.{Heading, NotHeading, Refused}
+use Rattle.atx.specs.Heading.{is_heading, heading_events, headed_of, Headed}
 use Rattle.atx.proofs.Covering.{heading_lawful}
 use Rattle.ledgerlark.specs.Answers.{lark_reading, lark_reading2, lark_headed, HeadedAs}
 use Rattle.ledgerlark.specs.declared.resolve.LarkReading2.{LarkReading2}
@@ -59,13 +57,13 @@ section_there : (f : Form) → (f.width ≡ 8) ⊎ (f.width ≡ 12) → (es : Li
     d < 4294967296 → out' ≡ onto (section_in f es) out → SectionThere f out' 0 es
 section_there f w es out out' n deep d q h e = section_onto f w es out out' n (sound_storable deep d 0 [] es q h) e
 
-reader_accepts : (h : Handed) (s : List ℕ) (d e : ℕ) → ((works : ℕ) → 65536 ≤ works → admitted h s works ≡ Good d e) → ReaderAccepts h s d e
+reader_accepts : (h : Handed) (s : List ℕ) (d e : ℕ) → ((works : ℕ) → 65536 ≤ works → admitted h s works ≡ accept d e) → ReaderAccepts h s d e
 reader_accepts (Old options) s d e good = λ work r work' hw a. a.answer ∙ ap lark_reading (good (length work) hw)
 reader_accepts Second s d e good = λ work r work' hw a. a.answer ∙ ap (lark_reading2 (options_of Second s)) (good (length work) hw)
 
 -- what a record may hold is read again
 pub admitted_again : (document : List ℕ) (es : List Event) → Holdable document es → (h : Handed) (options : ℕ) → With h options → options ≤ 63 → (works : ℕ) →
-    65536 ≤ works → admitted h (record_in (form_of h) options document es) works ≡ Good (length document) (length es)
+    65536 ≤ works → admitted h (record_in (form_of h) options document es) works ≡ accept (length document) (length es)
 admitted_again document es holds h options o ho works hw =
     sym (enough_work h (record_in (form_of h) options document es) works hw) ∙ (record_reads_back h options document es o ho holds).good
 
@@ -73,7 +71,7 @@ again : (document : List ℕ) (es : List Event) → Holdable document es → Rea
 again document es holds h options o ho =
     let s : List ℕ = record_in (form_of h) options document es in
     let t : RecordThere h options s document es = record_reads_back h options document es o ho holds in
-    let good : (works : ℕ) → 65536 ≤ works → admitted h s works ≡ Good (length document) (length es) = admitted_again document es holds h options o ho in
+    let good : (works : ℕ) → 65536 ≤ works → admitted h s works ≡ accept (length document) (length es) = admitted_again document es holds h options o ho in
     let g = (admission h s 65536 (length document) (length es) (good 65536 (omega arith))).good in
     let d : document_count_in (form_of h) s ≡ length document = g.document_count in
     let e : event_count_in (form_of h) s ≡ length es = rw (sym d) at g.event_count in
@@ -106,7 +104,7 @@ accepted_is_record2 s work r work' p z b =
     rw e (is_record Second s (length work) b ((c.exactly work r work' p).none_holds z))
 
 -- the front of the record and the section of the output, as they stand
-in_memory : (h : Handed) (s : List ℕ) (works d e : ℕ) (es : List Event) (out out' : List ℕ) (n : ℕ) → AreBytes s → admitted h s works ≡ Good d e →
+in_memory : (h : Handed) (s : List ℕ) (works d e : ℕ) (es : List Event) (out out' : List ℕ) (n : ℕ) → AreBytes s → admitted h s works ≡ accept d e →
     65536 ≤ works → n ≡ length es → out' ≡ onto (section_in (form_of h) es) out →
     take (4 + (form_of h).front + d) s ++ take (4 + (form_of h).width * n) out' ≡ record_in (form_of h) (options_of h s) (document_in (form_of h) s d) es
 in_memory h s works d e es out out' n b good hw k w =
@@ -120,7 +118,7 @@ resolved_back : {made : Resolution} {groups tried works outs : ℕ} {Offends : �
     (a : Accepts (form_of h) made groups tried out r out') → ((n p : ℕ) → WrittenRow h s works Offends made outs n p → ⊥) →
     sound deep (document_count_in (form_of h) s) a.events ≡ true → ResolvedReadsBack h made s r out'
 resolved_back {works = works} h s out r out' deep a none q =
-    let good : admitted h s works ≡ Good (document_count_in (form_of h) s) (event_count_in (form_of h) s) = (exactly h s works).accepted (λ n p x. none n p (by_check x)) in
+    let good : admitted h s works ≡ accept (document_count_in (form_of h) s) (event_count_in (form_of h) s) = (exactly h s works).accepted (λ n p x. none n p (by_check x)) in
     let found = admission h s works (document_count_in (form_of h) s) (event_count_in (form_of h) s) good in
     let g = found.good in
     let small : document_count_in (form_of h) s ≤ 16384 = g.small in
@@ -164,11 +162,11 @@ lists_read_back h s out work r out' work' p z =
 
 -- the heading reader: what is found has number 0, and is a heading
 found_zero : (a : Headed) → (lark_headed a).found ≡ 1 → (lark_headed a).number ≡ 0
-found_zero (Heading events) q = refl
-found_zero NotHeading q = refl
-found_zero (Refused x) q = absurd (omega arith)
+found_zero (Ok (Some events)) q = refl
+found_zero (Ok None) q = refl
+found_zero (Err x) q = absurd (omega arith)
 
-found_heading : (b : Bool) (n : ℕ) → (headed_found (choose b (Heading n) NotHeading)).found ≡ 1 → b ≡ true
+found_heading : (b : Bool) (n : ℕ) → (headed_found (choose b (Ok (Some n)) (Ok None))).found ≡ 1 → b ≡ true
 unfolding choose
 found_heading true n q = refl
 found_heading false n q = absurd (omega arith)

@@ -9,7 +9,8 @@ use mathlib.Core.Logic.{inl, inr}
 use lib.ListN.{length, take, drop, replicate}
 use lib.Dec.{leb}
 use borrow.Author.Tests.{leb-true, leb-false}
-use Rattle.record.specs.Check.{admitted, refuse}
+use Rattle.std.specs.Prelude.{Result, Ok, Err}
+use Rattle.record.specs.Check.{admitted, Reading, accept}
 use Rattle.record.specs.Event.{document_in, events_in}
 use Rattle.record.specs.Sound.{sound}
 use Rattle.record.specs.Form.{old, second}
@@ -19,8 +20,7 @@ use Rattle.record.specs.Rows.{Row, document_count_in, event_count_in}
 use Rattle.record.specs.Written.{WrittenRow, by_check, row_6, row_7, row_8, ExactlyWritten}
 use Rattle.record.specs.Outcome.{Outcome, accepted, refused, refusing, Resolution, outcome, onto, bytes_written}
 use Rattle.record.specs.Promise.{Writes}
-use Rattle.record.specs.declared.check.Reading.{Reading}
-use Rattle.record.specs.declared.check.Reading.TheVariants.{Good, Refused}
+use Rattle.record.specs.declared.check.Refusal.{Refusal}
 use Rattle.record.specs.declared.event.Event.{Event}
 use Rattle.record.specs.declared.form.Form.{Form}
 use Rattle.record.specs.declared.form.Handed.{Handed}
@@ -55,44 +55,50 @@ written_number (row_6 k h e f) = omega arith
 written_number (row_7 es h g e f) = omega arith
 written_number (row_8 es h g e f) = omega arith
 
--- the claim of a call that reads: its answer is `reads` of what the check finds, and that tells a refusal by its numbers
-record ReadsAs {A : Type 0} (number place : A → ℕ) (refusal : ℕ → ℕ → A) (reads : Reading → A) : Type 0 where
-  of_refused : (n p : ℕ) → reads (refuse n p) ≡ refusal n p
-  of_good : (d e : ℕ) → number (reads (Good d e)) ≡ 0
-  its_number : (n p : ℕ) → number (refusal n p) ≡ n
-  its_place : (n p : ℕ) → place (refusal n p) ≡ p
+-- how a call's answer reads what it found, or a refusal, in numbers: 0 where something is found, and a refusal by its number and place
+pub record ReadsAs {A B : Type 0} (number place : B → ℕ) (refusal : ℕ → ℕ → B) (reads : Result A Refusal → B) : Type 0 where
+  pub of_refused : (n p : ℕ) → reads (Err (record { number = n; place = p })) ≡ refusal n p
+  pub of_found : (a : A) → number (reads (Ok a)) ≡ 0
+  pub its_number : (n p : ℕ) → number (refusal n p) ≡ n
+  pub its_place : (n p : ℕ) → place (refusal n p) ≡ p
 
-module _ {A : Type 0} (number place : A → ℕ) (refusal : ℕ → ℕ → A) (reads : Reading → A) (R : ReadsAs number place refusal reads) (h : Handed) (s : List ℕ) where
-  read_back : (a : Reading) (n p : ℕ) → 0 < n → reads a ≡ refusal n p → a ≡ refuse n p
-  read_back (Good d e) n p h q = let z : 0 ≡ n = sym (R.of_good d e) ∙ ap number q ∙ R.its_number n p in absurd (omega arith)
-  read_back (Refused x) n p h q =
+-- so its numbers are those of one refusal only, its number is 0 where nothing is refused, and one that has a number is a refusal and nothing more
+module _ {A B : Type 0} (number place : B → ℕ) (refusal : ℕ → ℕ → B) (reads : Result A Refusal → B) (R : ReadsAs number place refusal reads) where
+  pub read_back : (a : Result A Refusal) (n p : ℕ) → 0 < n → reads a ≡ refusal n p → a ≡ Err (record { number = n; place = p })
+  read_back (Ok c) n p h q = let z : 0 ≡ n = sym (R.of_found c) ∙ ap number q ∙ R.its_number n p in absurd (omega arith)
+  read_back (Err x) n p h q =
       let e₀ : refusal x.number x.place ≡ refusal n p = sym (R.of_refused x.number x.place) ∙ q in
       let e₁ : x.number ≡ n = sym (R.its_number x.number x.place) ∙ ap number e₀ ∙ R.its_number n p in
       let e₂ : x.place ≡ p = sym (R.its_place x.number x.place) ∙ ap place e₀ ∙ R.its_place n p in
-      let e₃ : refuse x.number x.place ≡ refuse n p = cc in
-      e₃
+      rw (← e₁, ← e₂)
 
-  read_whole : (a : Reading) → 0 < number (reads a) → reads a ≡ refusal (number (reads a)) (place (reads a))
-  read_whole (Good d e) l = let z = R.of_good d e in absurd (omega arith)
-  read_whole (Refused x) l =
-      let e : reads (Refused x) ≡ refusal x.number x.place = R.of_refused x.number x.place in
-      let e₁ : number (reads (Refused x)) ≡ x.number = ap number e ∙ R.its_number x.number x.place in
-      let e₂ : place (reads (Refused x)) ≡ x.place = ap place e ∙ R.its_place x.number x.place in
+  pub read_zero : (a : Result A Refusal) → ((n p : ℕ) → a ≡ Err (record { number = n; place = p }) → ⊥) → number (reads a) ≡ 0
+  read_zero (Ok c) f = R.of_found c
+  read_zero (Err x) f = absurd (f x.number x.place refl)
+
+  pub read_whole : (a : Result A Refusal) → 0 < number (reads a) → reads a ≡ refusal (number (reads a)) (place (reads a))
+  read_whole (Ok c) l = let z = R.of_found c in absurd (omega arith)
+  read_whole (Err x) l =
+      let e : reads (Err x) ≡ refusal x.number x.place = R.of_refused x.number x.place in
+      let e₁ : number (reads (Err x)) ≡ x.number = ap number e ∙ R.its_number x.number x.place in
+      let e₂ : place (reads (Err x)) ≡ x.place = ap place e ∙ R.its_place x.number x.place in
       e ∙ sym (rw (e₁, e₂))
 
+-- the claim of a call that reads: its answer is `reads` of what the check finds
+module _ {A : Type 0} (number place : A → ℕ) (refusal : ℕ → ℕ → A) (reads : Reading → A) (R : ReadsAs number place refusal reads) (h : Handed) (s : List ℕ) where
   read_exactly : (works : ℕ) (r : A) → r ≡ reads (admitted h s works) → Told number place refusal (Row h s works) r
   read_exactly works r a =
       record {
         given = λ n p l. a ∙ ap reads ((exactly h s works).given n p l) ∙ R.of_refused n p;
-        only = λ n p l q. (exactly h s works).refused n p (read_back (admitted h s works) n p l (sym a ∙ q));
-        accepted = λ none. ap number (a ∙ ap reads ((exactly h s works).accepted none)) ∙ R.of_good _ _;
+        only = λ n p l q. (exactly h s works).refused n p (read_back number place refusal reads R (admitted h s works) n p l (sym a ∙ q));
+        accepted = λ none. ap number (a ∙ ap reads ((exactly h s works).accepted none)) ∙ R.of_found _;
         none_holds = λ z. read_none (admitted h s works) refl z;
-        nothing_more = λ l. rw a (read_whole (admitted h s works) (rw a at l));
+        nothing_more = λ l. rw a (read_whole number place refusal reads R (admitted h s works) (rw a at l));
       }
     where
       read_none : (o : Reading) → admitted h s works ≡ o → number r ≡ 0 → (n p : ℕ) → Row h s works n p → ⊥
-      read_none (Good d e) q z = ((exactly h s works).good d e q).2
-      read_none (Refused x) q z =
+      read_none (Ok c) q z = ((exactly h s works).good c.document c.events q).2
+      read_none (Err x) q z =
           let l = (row_low ((exactly h s works).refused x.number x.place q).holds).0 in
           let k : number r ≡ x.number = ap number (a ∙ ap reads q ∙ R.of_refused x.number x.place) ∙ R.its_number x.number x.place in
           absurd (omega arith)
@@ -107,7 +113,7 @@ no_row_sound h s works none =
 
 -- which holds of each, by its promise alone
 reads_claim : {A : Type 0} (number place : A → ℕ) (refusal : ℕ → ℕ → A) (reads : Reading → A) → ReadsAs number place refusal reads → (h : Handed) (s : List ℕ) →
-    ReadClaim h s number place refusal (reads (Good (document_count_in (form_of h) s) (event_count_in (form_of h) s))) (ReadBy h s reads)
+    ReadClaim h s number place refusal (reads (accept (document_count_in (form_of h) s) (event_count_in (form_of h) s))) (ReadBy h s reads)
 reads_claim {A} number place refusal reads R h s =
     record {
       unique = λ work r₁ r₂ w₁ w₂ p q. (p.answer ∙ sym q.answer, p.wiped ∙ sym q.wiped);
@@ -125,13 +131,13 @@ reads_claim {A} number place refusal reads R h s =
 
 pub reading_claim : ReadingClaim
 reading_claim s options =
-    reads_claim _ _ read_refusal lark_reading (record { of_refused = λ n p. refl; of_good = λ d e. refl; its_number = λ n p. refl; its_place = λ n p. refl })
+    reads_claim _ _ read_refusal lark_reading (record { of_refused = λ n p. refl; of_found = λ a. refl; its_number = λ n p. refl; its_place = λ n p. refl })
     (Old options) s
 
 pub reading2_claim : Reading2Claim
 reading2_claim s =
     reads_claim _ _ read2_refusal (lark_reading2 (options_of Second s))
-    (record { of_refused = λ n p. refl; of_good = λ d e. refl; its_number = λ n p. refl; its_place = λ n p. refl }) Second s
+    (record { of_refused = λ n p. refl; of_found = λ a. refl; its_number = λ n p. refl; its_place = λ n p. refl }) Second s
 
 -- every call that writes, once: what it comes to, and how its answer reads that
 

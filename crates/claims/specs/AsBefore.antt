@@ -2,7 +2,7 @@
 -- that time, under names that say so, stands for this alone: the class of a byte, and all that is made of it up to what a run can do. From there on, as the rules
 -- on classes before, nothing has moved: runs, matches and what is written are those of today. proofs/AsBefore.antt proves the statement.
 -- Assumes nothing.
-use Rattle.std.specs.Prelude.{ℕ, zero, suc, ◌+◌, ◌-◌, ◌<◌, ◌≡◌, refl, Bool, ◌&&◌, ◌||◌, List, [], ◌∷◌, eqb, length, get_or}
+use Rattle.std.specs.Prelude.{ℕ, zero, suc, ◌+◌, ◌-◌, ◌<◌, ◌≡◌, refl, Bool, ◌&&◌, ◌||◌, List, [], ◌∷◌, eqb, length, get_or, Err}
 use Rattle.std.proofs.Math.Option.{Option, none, some}
 use Rattle.record.specs.Choice.{choose, and}
 use Rattle.record.specs.Options.{option_on}
@@ -29,8 +29,7 @@ use Rattle.runs.specs.Plain.{Standing, Outcome as Matching, group, opener, close
 use Rattle.runs.specs.Pieces.{standing, outcome as matching}
 use Rattle.runs.specs.Output.{replaced}
 use Rattle.attention.specs.Attention.{unless_offended}
-use Rattle.attention.specs.declared.call.Answer.{Answer}
-use Rattle.attention.specs.declared.call.Answer.TheVariants.{Resolved, Refused}
+use Rattle.attention.specs.Promise.{Answer, resolved}
 use Rattle.ledgerlark.specs.Answers.{lark_attention, AttentionBy}
 use Rattle.ledgerlark.specs.declared.resolve.LarkResolved.{LarkResolved}
 use Rattle.claims.specs.Records.{doc_of, all_events}
@@ -100,8 +99,8 @@ comes_before profile h s outs works =
     outcome (form_of h) (admitted h s works) (λ d e. attention_before profile (options_of h s) (document_in (form_of h) s d) (events_in (form_of h) s d e)) outs
 
 abbrev pub answer_before : Matching → Outcome → Answer
-answer_before made (accepted rs) = Resolved (length rs) (length made.groups) made.tried
-answer_before made (refused r) = Refused r
+answer_before made (accepted rs) = resolved (length rs) (length made.groups) made.tried
+answer_before made (refused r) = Err r
 
 -- the promise of lark_resolve_attention as it was
 abbrev pub AttentionBefore : Profile → Handed → List ℕ → List ℕ → List ℕ → LarkResolved → List ℕ → List ℕ → Type 0

@@ -4,25 +4,20 @@
 -- heading reader has isolation too, and no refusal and no finding of it writes. These are the statements; proofs/Lines.antt proves each for every
 -- line and all arguments.
 -- Assumes nothing.
-use Rattle.std.specs.Prelude.{ℕ, suc, ◌≤◌, ◌≡◌, true, false, List, [], length, take, drop}
+use Rattle.std.specs.Prelude.{ℕ, suc, ◌≤◌, ◌≡◌, true, false, List, [], length, take, drop, Result, Ok, Err, None, Some}
 use Rattle.record.specs.Event.{section_bytes}
 use Rattle.record.specs.Choice.{choose}
 use Rattle.record.specs.Outcome.{onto}
+use Rattle.record.specs.declared.check.Refusal.{Refusal}
 use Rattle.scan.specs.Line.{line_of, flag}
 use Rattle.scan.specs.Rows.{Row}
 use Rattle.atx.specs.Rows.{WritingRow, heading_found}
-use Rattle.lines.specs.Spaces.{spaces_in}
-use Rattle.lines.specs.Item.{mark_of, start_in}
+use Rattle.lines.specs.Spaces.{spaces_in, Spaces}
+use Rattle.lines.specs.Item.{mark_of, start_in, Start}
 use Rattle.lines.specs.Going.{going_in}
-use Rattle.atx.specs.Heading.{is_heading, heading_events, headed_of}
-use Rattle.lines.specs.declared.spaces.Spaces.{Spaces}
-use Rattle.lines.specs.declared.spaces.Spaces.TheVariants.{Taken, TooFew, Refused as SpacesRefused}
-use Rattle.lines.specs.declared.item.Start.{Start}
-use Rattle.lines.specs.declared.item.Start.TheVariants.{Item, NotItem, Refused as StartRefused}
+use Rattle.atx.specs.Heading.{is_heading, heading_events, headed_of, Headed}
 use Rattle.lines.specs.declared.going.Going.{Going}
-use Rattle.lines.specs.declared.going.Going.TheVariants.{Goes, Stops, Refused as GoingRefused}
-use Rattle.atx.specs.declared.Headed.{Headed}
-use Rattle.atx.specs.declared.Headed.TheVariants.{Heading, NotHeading, Refused as HeadedRefused}
+use Rattle.lines.specs.declared.going.Going.TheVariants.{Goes, Stops}
 use Rattle.ledgerlark.specs.Answers.{flagged, container_of, SpacesAs, ItemAs, GoingAs, HeadedAs}
 use Rattle.ledgerlark.specs.declared.line.LarkSpaces.{LarkSpaces}
 use Rattle.ledgerlark.specs.declared.line.LarkItem.{LarkItem}
@@ -44,15 +39,15 @@ spaces_refusal n p = record { number = n; place = p; found = 0; taken = 0; left 
 
 -- what comes with number 0: "too few" has 0 in all fields
 abbrev pub spaces_found : Spaces → LarkSpaces
-spaces_found (Taken n left) = record { number = 0; place = 0; found = 1; taken = n; left = left }
-spaces_found TooFew = spaces_refusal 0 0
-spaces_found (SpacesRefused r) = spaces_refusal r.number r.place
+spaces_found (Ok (Some t)) = record { number = 0; place = 0; found = 1; taken = t.bytes; left = t.left }
+spaces_found (Ok None) = spaces_refusal 0 0
+spaces_found (Err r) = spaces_refusal r.number r.place
 
 abbrev pub SpacesClaim : Type 0
 SpacesClaim =
     (s : List ℕ) (options column min max : ℕ) →
     LineClaim (λ (x : LarkSpaces). x.number) (λ (x : LarkSpaces). x.place) spaces_refusal (SpacesAs s options column min max) (Row s options column)
-    (spaces_found (spaces_in (line_of s) column min max))
+    (spaces_found (Ok (spaces_in (line_of s) column min max)))
 
 -- lark_list_item
 
@@ -61,16 +56,16 @@ item_refusal n p = record { number = n; place = p; found = 0; taken = 0; left = 
 
 -- an item: the bytes taken, the columns left of a cut tab, its size, whether its start is blank, and its mark
 abbrev pub item_found : Start → LarkItem
-item_found (Item n left held) =
-    record { number = 0; place = 0; found = 1; taken = n; left = left; size = held.size; blank = flag held.blank; mark = mark_of held.kind }
-item_found NotItem = item_refusal 0 0
-item_found (StartRefused r) = item_refusal r.number r.place
+item_found (Ok (Some i)) =
+    record { number = 0; place = 0; found = 1; taken = i.taken; left = i.left; size = i.container.size; blank = flag i.container.blank; mark = mark_of i.container.kind }
+item_found (Ok None) = item_refusal 0 0
+item_found (Err r) = item_refusal r.number r.place
 
 abbrev pub ItemClaim : Type 0
 ItemClaim =
     (s : List ℕ) (options column interrupting : ℕ) →
     LineClaim (λ (x : LarkItem). x.number) (λ (x : LarkItem). x.place) item_refusal (ItemAs s options column interrupting) (Row s options column)
-    (item_found (start_in (line_of s) options column (flagged interrupting)))
+    (item_found (Ok (start_in (line_of s) options column (flagged interrupting))))
 
 -- lark_continuation
 
@@ -78,16 +73,16 @@ abbrev pub going_refusal : ℕ → ℕ → LarkGoing
 going_refusal n p = record { number = n; place = p; found = 0; taken = 0; left = 0; blank = 0 }
 
 -- the container's flag as it then stands, also where the line does not go on
-abbrev pub going_found : Going → LarkGoing
-going_found (Goes n left held) = record { number = 0; place = 0; found = 1; taken = n; left = left; blank = flag held.blank }
-going_found (Stops held) = record { number = 0; place = 0; found = 0; taken = 0; left = 0; blank = flag held.blank }
-going_found (GoingRefused r) = going_refusal r.number r.place
+abbrev pub going_found : Result Going Refusal → LarkGoing
+going_found (Ok (Goes n left held)) = record { number = 0; place = 0; found = 1; taken = n; left = left; blank = flag held.blank }
+going_found (Ok (Stops held)) = record { number = 0; place = 0; found = 0; taken = 0; left = 0; blank = flag held.blank }
+going_found (Err r) = going_refusal r.number r.place
 
 abbrev pub GoingClaim : Type 0
 GoingClaim =
     (s : List ℕ) (options column size blank mark : ℕ) →
     LineClaim (λ (x : LarkGoing). x.number) (λ (x : LarkGoing). x.place) going_refusal (GoingAs s options column size blank mark) (Row s options column)
-    (going_found (going_in (line_of s) column (container_of size blank mark)))
+    (going_found (Ok (going_in (line_of s) column (container_of size blank mark))))
 
 -- what goes in: a flag is set by any number but 0
 abbrev pub FlagsSet : Type 0
@@ -104,9 +99,9 @@ abbrev pub headed_refusal : ℕ → ℕ → LarkHeaded
 headed_refusal n p = record { number = n; place = p; found = 0; events = 0 }
 
 abbrev pub headed_found : Headed → LarkHeaded
-headed_found (Heading n) = record { number = 0; place = 0; found = 1; events = n }
-headed_found NotHeading = headed_refusal 0 0
-headed_found (HeadedRefused r) = headed_refusal r.number r.place
+headed_found (Ok (Some n)) = record { number = 0; place = 0; found = 1; events = n }
+headed_found (Ok None) = headed_refusal 0 0
+headed_found (Err r) = headed_refusal r.number r.place
 
 -- the one reader that writes, with an output of the length `outs`: `found` is what it answers, and `section` what it writes, where no row holds
 pub record WritingClaim (As : List ℕ → LarkHeaded → List ℕ → Type 0) (bytes : ℕ → List ℕ) (R : ℕ → ℕ → ℕ → Type 0) (found : LarkHeaded) (section : List ℕ) : Type 0 where

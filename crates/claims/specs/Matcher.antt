@@ -18,7 +18,7 @@
 -- that this is the way to its answer; and what it finds along them. These are the statements; proofs/Matcher.antt proves each under the name in small
 -- letters.
 -- Assumes nothing.
-use Rattle.std.specs.Prelude.{ℕ, ◌+◌, ◌<◌, ◌≤◌, ◌≡◌, List, length}
+use Rattle.std.specs.Prelude.{ℕ, ◌+◌, ◌<◌, ◌≤◌, ◌≡◌, List, length, Result, Ok, Err}
 use Rattle.record.specs.Handed.{form_of, options_of}
 use Rattle.record.specs.Partners.{section_in}
 use Rattle.record.specs.Rows.{document_count_in, event_count_in}
@@ -40,17 +40,15 @@ use Rattle.ledgerlark.specs.Answers.{AttentionBy}
 use Rattle.ledgerlark.specs.declared.resolve.LarkResolved.{LarkResolved}
 use Rattle.slots.specs.Layout.{Room}
 use Rattle.loading.specs.Promise.{Loads}
-use Rattle.loading.specs.declared.pass.Loaded.TheVariants.{Runs}
 use Rattle.matcher.specs.Promise.{Answers, Handles}
 use Rattle.matcher.specs.Closer.{closer_from}
-use Rattle.matcher.specs.Along.{closer_by, chained}
+use Rattle.matcher.specs.Along.{closer_by, chained, closed_at, groups_at, too_many}
 use Rattle.matcher.specs.Groups.{Grouped}
 use Rattle.matcher.specs.State.{Fresh, Ready}
 use Rattle.chains.specs.Walk.{onward}
 use Rattle.claims.specs.Records.{doc_of, all_events}
-use Rattle.matcher.specs.declared.closers.Step.TheVariants.{Closed}
-use Rattle.matcher.specs.declared.closers.Found.{Found}
-use Rattle.matcher.specs.declared.closers.Found.TheVariants.{Groups, TooMany}
+use Rattle.matcher.specs.declared.closers.Groups.{Groups}
+use Rattle.matcher.specs.declared.closers.TooMany.{TooMany}
 use Rattle.claims.specs.ChainsAsLists.{ChainsList}
 use Rattle.claims.specs.Positions.{plain_up_to, rounds_left, Stands, StandsAt, Leads}
 
@@ -94,8 +92,8 @@ AcceptedNests =
 -- match, after it the memory holds the plain rule's groups of them in match order
 abbrev pub GroupsAreThePlainRule's : Type 0
 GroupsAreThePlainRule's =
-    (rule : Rule) (w : List ℕ) (n made tried : ℕ) (w' : List ℕ) → Answers rule w n (Groups made tried) w' →
-    ((Groups made tried, w') ≡ chained rule w n)
+    (rule : Rule) (w : List ℕ) (n made tried : ℕ) (w' : List ℕ) → Answers rule w n (Ok (groups_at made tried)) w' →
+    ((Ok (groups_at made tried), w') ≡ chained rule w n)
     × ((rs : List Standing) → Fresh w rs n →
     (made ≡ length (plain rule rs).groups) × (tried ≡ (plain rule rs).tried) × Grouped w' (plain rule rs).groups n)
 
@@ -103,22 +101,22 @@ GroupsAreThePlainRule's =
 -- (crates/attention). After both the memory is as before the first match, for the runs of this record: here the statements on chains begin
 abbrev pub AcceptedBegins : Type 0
 AcceptedBegins =
-    (profile : Profile) (h : Handed) (s : List ℕ) (n : ℕ) (w w₁ w₂ : List ℕ) → Room w → Loads profile (form_of h) s (document_count_in (form_of h) s) (event_count_in (form_of h) s) (options_of h s) w (Runs n) w₁ →
+    (profile : Profile) (h : Handed) (s : List ℕ) (n : ℕ) (w w₁ w₂ : List ℕ) → Room w → Loads profile (form_of h) s (document_count_in (form_of h) s) (event_count_in (form_of h) s) (options_of h s) w (Ok n) w₁ →
     Cleared w₁ 6147 w₂ → Fresh w₂ (begin profile (options_of h s) (doc_of h s) (all_events h s)) n
 
 -- so the groups that the memory then holds are those that are reported and written
 abbrev pub AcceptedGroups : Type 0
 AcceptedGroups =
     (profile : Profile) (h : Handed) (s : List ℕ) (n made tried : ℕ) (w w' : List ℕ) → Fresh w (begin profile (options_of h s) (doc_of h s) (all_events h s)) n →
-    Answers (profile.rule (options_of h s)) w n (Groups made tried) w' →
+    Answers (profile.rule (options_of h s)) w n (Ok (groups_at made tried)) w' →
     (made ≡ length (plain_groups profile h s)) × (tried ≡ (outcome profile (options_of h s) (doc_of h s) (all_events h s)).tried) × Grouped w' (plain_groups profile h s) n
 
 -- and there is room for them: of a record that the call accepts, the matcher does not come to more groups than a result can hold
 abbrev pub AcceptedHasRoom : Type 0
 AcceptedHasRoom =
     (profile : Profile) (h : Handed) (s : List ℕ) (out work : List ℕ) (r : LarkResolved) (out' work' : List ℕ) →
-    AttentionBy profile h s out work r out' work' → r.number ≡ 0 → (n : ℕ) (found : Found) (w w' : List ℕ) →
-    Fresh w (begin profile (options_of h s) (doc_of h s) (all_events h s)) n → Answers (profile.rule (options_of h s)) w n found w' → (found ≡ TooMany → ⊥)
+    AttentionBy profile h s out work r out' work' → r.number ≡ 0 → (n : ℕ) (found : Result Groups TooMany) (w w' : List ℕ) →
+    Fresh w (begin profile (options_of h s) (doc_of h s) (all_events h s)) n → Answers (profile.rule (options_of h s)) w n found w' → (found ≡ Err too_many → ⊥)
 
 -- where the matcher stands after a run, as Positions.antt has it, the plain rule stands too: it has made as many groups, which the memory holds, and
 -- has tried as many candidates; and what it makes of the first runs is what the rounds that are left make of the runs as they stand then
@@ -140,15 +138,15 @@ ChainsAfterEach =
 abbrev pub StandsAfterEach : Type 0
 StandsAfterEach =
     (rule : Rule) (n : ℕ) (w₀ : List ℕ) (rs₀ : List Standing) (made tried : ℕ) (w' : List ℕ) →
-    Fresh w₀ rs₀ n → Answers rule w₀ n (Groups made tried) w' → (i : ℕ) → i ≤ n → StandsAt rule n w₀ i
+    Fresh w₀ rs₀ n → Answers rule w₀ n (Ok (groups_at made tried)) w' → (i : ℕ) → i ≤ n → StandsAt rule n w₀ i
 
 -- "the step that handles one closer promises this at its exit": it is a step of `along`, so from such a place it comes to such a place; and of
 -- whatever runs and groups the memory has, the chains then list those up to the closer as the plain rule has them on finishing it
 abbrev pub PromisedAtTheExit : Type 0
 PromisedAtTheExit =
     (rule : Rule) (w : List ℕ) (height n i made tried next height' made' tried' : ℕ) (w' : List ℕ) →
-    Handles rule w height n i made tried (Closed next height' made' tried') w' →
-    ((Closed next height' made' tried', w') ≡ closer_by rule w height i n made tried)
+    Handles rule w height n i made tried (Ok (closed_at next height' made' tried')) w' →
+    ((Ok (closed_at next height' made' tried'), w') ≡ closer_by rule w height i n made tried)
     × ((rs : List Standing) (gs : List Group) → Ready w height rs gs n i → length gs ≡ made →
     (next ≡ (closer_from rule rs i gs tried).next) × ChainsList w' (closer_from rule rs i gs tried).runs next)
 
@@ -156,7 +154,7 @@ PromisedAtTheExit =
 -- among them, its steps lead over such places alone to the last
 abbrev pub AnswersThroughThese : Type 0
 AnswersThroughThese =
-    (rule : Rule) (n : ℕ) (w₀ : List ℕ) (rs₀ : List Standing) (w : List ℕ) (height i made tried : ℕ) (found : Found) (w' : List ℕ) →
+    (rule : Rule) (n : ℕ) (w₀ : List ℕ) (rs₀ : List Standing) (w : List ℕ) (height i made tried : ℕ) (found : Result Groups TooMany) (w' : List ℕ) →
     Fresh w₀ rs₀ n → Answers rule w₀ n found w' → Stands rule n w₀ w height i made tried → Leads rule n w₀ w height i made tried (found, w')
 
 -- "the call that finds the next match": from such a place, what `onward` finds along the chains, and how many it tries, is what the plain rule finds

@@ -2,15 +2,14 @@
 -- tried again", and the chains are "as the plain rule has them on finishing that closer". A closer that takes no opener is passed, as is a run that
 -- cannot close: after either the next run is taken.
 -- Assumes nothing.
-use Rattle.std.specs.Prelude.{ℕ, zero, suc, ◌+◌, ◌<◌, ◌≡◌, List, []}
+use Rattle.std.specs.Prelude.{ℕ, zero, suc, ◌+◌, ◌<◌, ◌≡◌, List, [], Result, Ok, Err}
 use Rattle.runs.specs.Rule.{Rule}
 use Rattle.runs.specs.Plain.{Standing, Outcome, miss, rounds, total}
 use Rattle.chains.specs.Walk.{seek, passed, raised}
 use Rattle.matcher.specs.Closer.{Finish, finish}
-use Rattle.matcher.specs.Along.{closer_by}
-use Rattle.matcher.specs.declared.closers.Step.TheVariants.{Closed, Full}
-use Rattle.matcher.specs.declared.closers.Found.{Found}
-use Rattle.matcher.specs.declared.closers.Found.TheVariants.{Groups, TooMany}
+use Rattle.matcher.specs.Along.{closer_by, closed_at, groups_at, too_many}
+use Rattle.matcher.specs.declared.closers.Groups.{Groups}
+use Rattle.matcher.specs.declared.closers.TooMany.{TooMany}
 
 -- the plain rule up to the run i: the runs before it in order, each tried as a closer until it takes no opener
 unfoldable pub plain_up_to : Rule → List Standing → ℕ → Finish
@@ -31,7 +30,7 @@ pub data Stands (rule : Rule) (n : ℕ) (w₀ : List ℕ) : List ℕ → ℕ →
   after_passing : {w : List ℕ} {height i made tried u : ℕ} → Stands rule n w₀ w height i made tried → i < n → seek rule w i 0 ≡ miss u →
       Stands rule n w₀ (passed w height i) (raised w height i) (i + 1) made (tried + u)
   after_a_closer : {w w' : List ℕ} {height i made tried next height' made' tried' : ℕ} → Stands rule n w₀ w height i made tried → i < n →
-      (Closed next height' made' tried', w') ≡ closer_by rule w height i n made tried → Stands rule n w₀ w' height' next made' tried'
+      (Ok (closed_at next height' made' tried'), w') ≡ closer_by rule w height i n made tried → Stands rule n w₀ w' height' next made' tried'
 
 -- a memory after the run before i
 pub record StandsAt (rule : Rule) (n : ℕ) (w₀ : List ℕ) (i : ℕ) : Type 0 where
@@ -43,11 +42,11 @@ pub record StandsAt (rule : Rule) (n : ℕ) (w₀ : List ℕ) (i : ℕ) : Type 0
 
 -- the way of `along` from where it stands to its answer and last memory: step by step, and after each it stands so again. At its end all runs are
 -- passed and the answer is what was made and tried, or there was no room for a match
-pub data Leads (rule : Rule) (n : ℕ) (w₀ : List ℕ) : List ℕ → ℕ → ℕ → ℕ → ℕ → Found × List ℕ → Type 0 where
+pub data Leads (rule : Rule) (n : ℕ) (w₀ : List ℕ) : List ℕ → ℕ → ℕ → ℕ → ℕ → Result Groups TooMany × List ℕ → Type 0 where
   at_the_last : {w : List ℕ} {height made tried : ℕ} → Stands rule n w₀ w height n made tried →
-      Leads rule n w₀ w height n made tried (Groups made tried, w)
+      Leads rule n w₀ w height n made tried (Ok (groups_at made tried), w)
   no_room : {w w' : List ℕ} {height i made tried : ℕ} → Stands rule n w₀ w height i made tried → i < n →
-      (Full, w') ≡ closer_by rule w height i n made tried → Leads rule n w₀ w height i made tried (TooMany, w')
-  by_a_closer : {w w' : List ℕ} {height i made tried next height' made' tried' : ℕ} {answer : Found × List ℕ} →
-      Stands rule n w₀ w height i made tried → i < n → (Closed next height' made' tried', w') ≡ closer_by rule w height i n made tried →
+      (Err too_many, w') ≡ closer_by rule w height i n made tried → Leads rule n w₀ w height i made tried (Err too_many, w')
+  by_a_closer : {w w' : List ℕ} {height i made tried next height' made' tried' : ℕ} {answer : Result Groups TooMany × List ℕ} →
+      Stands rule n w₀ w height i made tried → i < n → (Ok (closed_at next height' made' tried'), w') ≡ closer_by rule w height i n made tried →
       Leads rule n w₀ w' height' next made' tried' answer → Leads rule n w₀ w height i made tried answer

@@ -6,7 +6,7 @@ ghost use Rattle.chains.specs.Walk.{Sound, onward};
 ghost use Rattle.matcher.specs.Promise.{Begun, Handles, Loaded, Answers};
 
 use chains::walk::Walked;
-use matcher::closers::{Found, Step};
+use matcher::closers::{Closed, Groups, TooMany};
 
 // "the call that finds the next match".
 pub fn next_match(w: &mut [u8], height: usize, from: usize, n: usize, single: bool) -> Walked
@@ -19,21 +19,18 @@ pub fn next_match(w: &mut [u8], height: usize, from: usize, n: usize, single: bo
 // "the step that handles one closer".
 pub fn handle_closer(
     w: &mut [u8],
-    height: usize,
-    from: usize,
     n: usize,
     single: bool,
-    groups: usize,
-    tried: usize,
-) -> Step
-    requires { Begun w.old height n from groups tried }
-    ensures { Handles (rule_for single) w.old height n from groups tried result w.new }
+    so_far: Closed,
+) -> Result<Closed, TooMany>
+    requires { Begun w.old so_far.height n so_far.next so_far.groups so_far.tried }
+    ensures { Handles (rule_for single) w.old so_far.height n so_far.next so_far.groups so_far.tried result w.new }
 {
-    matcher::closers::handle_closer(w, height, from, n, single, groups, tried)
+    matcher::closers::handle_closer(w, n, single, so_far)
 }
 
 // All of the chained matcher.
-pub fn find_groups(w: &mut [u8], n: usize, single: bool) -> Found
+pub fn find_groups(w: &mut [u8], n: usize, single: bool) -> Result<Groups, TooMany>
     requires { Loaded w.old n }
     ensures { Answers (rule_for single) w.old n result w.new }
 {

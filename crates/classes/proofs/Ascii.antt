@@ -1,45 +1,59 @@
 -- The table of ASCII characters is right where each entry is, and the standard's lists of ASCII characters are its categories, both by a test at each of 128.
 -- Assumes nothing.
 use Prim.Native.Nat.{ℕ, ◌<◌, ◌≤◌}
-use mathlib.Core.Path.{◌≡◌, refl, sym, ◌∙◌}
+use mathlib.Core.Path.{◌≡◌, refl, ◌∙◌}
 use mathlib.Core.Bool.{Bool, true, false, cond, ◌||◌}
 use mathlib.Core.List.{List}
 use native.Mathlib.Omega.{arith}
-use lib.Dec.{T, leb, ltb, eqb, eqb→eq}
+use lib.Dec.{T, leb}
 use lib.ListN.{length, get_or}
-use borrow.Author.Tests.{ne_eqb, le-leb, lt-leb, leb-true, leb-false}
+use borrow.Author.Tests.{ne_eqb, le-leb, leb-true, leb-false}
 use Rattle.characters.specs.Ranges.{member}
 use Rattle.characters.specs.Tables.{punctuation_ranges, space_ranges}
-use Rattle.classes.specs.Class.{whitespace, punctuation, replaced, ascii_class, wide_class, standard_class, amended, class_of, class_by_bytes, code_of}
+use Rattle.classes.specs.Class.{whitespace, punctuation, replaced, ascii_class, wide_class, standard_class, amended, class_of, class_by_bytes}
 use Rattle.classes.specs.Laws.{unicode_whitespace, unicode_punctuation, ByCategories, AsciiAsByBytes, asked, AsAsked}
 use Rattle.classes.specs.Lent.{AsciiTable}
 use Rattle.classes.specs.declared.Class.{Class}
 use Rattle.classes.specs.declared.Class.TheVariants.{Other, Whitespace, Punctuation}
-use Rattle.characters.proofs.Table.{at, every, all_below}
-use Rattle.classes.proofs.Codes.{one_code, by_ranges}
+use Rattle.characters.proofs.Table.{below, all_below}
+use Rattle.classes.proofs.Wide.{by_ranges}
 
--- an entry is its character's number
-unfoldable pub right : ℕ → ℕ → Bool
-right c x = eqb x (code_of (class_of c))
+-- whether two classes are one
+abbrev pub same : Class → Class → Bool
+same Other Other = true
+same Whitespace Whitespace = true
+same Punctuation Punctuation = true
+same k l = false
 
-pub table_of : (xs : List ℕ) → length xs ≡ 128 → T (every right 0 xs) → AsciiTable xs
+same_is : (k l : Class) → T (same k l) → k ≡ l
+same_is Other Other t = refl
+same_is Other Whitespace t = absurd t
+same_is Other Punctuation t = absurd t
+same_is Whitespace Other t = absurd t
+same_is Whitespace Whitespace t = refl
+same_is Whitespace Punctuation t = absurd t
+same_is Punctuation Other t = absurd t
+same_is Punctuation Whitespace t = absurd t
+same_is Punctuation Punctuation t = refl
+
+-- an entry is its character's class
+unfoldable pub right : List Class → ℕ → Bool
+right xs c = same (get_or xs c Other) (class_of c)
+
+pub table_of : (xs : List Class) → length xs ≡ 128 → T (below (right xs) 128) → AsciiTable xs
 unfolding right
-table_of xs n t =
-    record {
-      size = n;
-      entries = λ c h. eqb→eq (get_or xs c 0) (code_of (class_of c)) (at right xs t c (omega arith));
-    }
+table_of xs n t = record { size = n; entries = λ c h. same_is (get_or xs c Other) (class_of c) (all_below (right xs) 128 t c h) }
 
 -- the class by the categories alone
 abbrev categorised : ℕ → Class
 categorised c = cond (unicode_whitespace c) Whitespace (cond (unicode_punctuation c || replaced c) Punctuation Other)
 
 unfoldable agrees : ℕ → Bool
-agrees c = eqb (code_of (ascii_class c)) (code_of (categorised c))
+agrees c = same (ascii_class c) (categorised c)
 
 on_ascii : (c : ℕ) → c < 128 → ascii_class c ≡ categorised c
 unfolding agrees ascii_class whitespace punctuation member space_ranges punctuation_ranges
-on_ascii c h = one_code (ascii_class c) (categorised c) (eqb→eq (code_of (ascii_class c)) (code_of (categorised c)) (all_below agrees 128 tt c h))
+on_ascii c h = same_is (ascii_class c) (categorised c) (all_below agrees 128 tt c h)
 
 or_false : (b : Bool) → b || false ≡ b
 or_false true = refl
@@ -67,11 +81,11 @@ by_categories c = go (leb 128 c) refl
     go false e = rw e (on_ascii c (leb-false 128 c e))
 
 unfoldable same_byte : ℕ → Bool
-same_byte c = eqb (code_of (class_of c)) (code_of (class_by_bytes c))
+same_byte c = same (class_of c) (class_by_bytes c)
 
 pub ascii_as_by_bytes : AsciiAsByBytes
 unfolding same_byte class_of standard_class ascii_class amended whitespace punctuation class_by_bytes
-ascii_as_by_bytes c h = one_code (class_of c) (class_by_bytes c) (eqb→eq (code_of (class_of c)) (code_of (class_by_bytes c)) (all_below same_byte 128 tt c h))
+ascii_as_by_bytes c h = same_is (class_of c) (class_by_bytes c) (all_below same_byte 128 tt c h)
 
 -- and a byte from 128 up was other
 pub high_by_bytes : (c : ℕ) → 128 ≤ c → class_by_bytes c ≡ Other
@@ -79,11 +93,11 @@ unfolding class_by_bytes
 high_by_bytes c h = simp (ne_eqb c 13 (λ e. omega arith), le-leb 128 c h)
 
 unfoldable as_asked_at : ℕ → Bool
-as_asked_at c = eqb (code_of (class_of c)) (code_of (asked c))
+as_asked_at c = same (class_of c) (asked c)
 
 asked_ascii : (c : ℕ) → c < 128 → class_of c ≡ asked c
 unfolding as_asked_at class_of standard_class ascii_class amended whitespace punctuation member space_ranges punctuation_ranges
-asked_ascii c h = one_code (class_of c) (asked c) (eqb→eq (code_of (class_of c)) (code_of (asked c)) (all_below as_asked_at 128 tt c h))
+asked_ascii c h = same_is (class_of c) (asked c) (all_below as_asked_at 128 tt c h)
 
 asked_wide : (c : ℕ) → 128 ≤ c → class_of c ≡ asked c
 unfolding wide_class

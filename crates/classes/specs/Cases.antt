@@ -1,7 +1,7 @@
 -- Each amendment to the classes on a character for which it holds, and on one for which it does not: the standard's class, and the one here. And the
 -- characters of other classes than a reader may expect.
 -- Assumes nothing.
-use Rattle.std.specs.Prelude.{ℕ, ◌≡◌, refl, true, false, [], ◌∷◌, map}
+use Rattle.std.specs.Prelude.{◌≡◌, refl, true, [], ◌∷◌, map}
 use Rattle.characters.specs.Ranges.{member}
 use Rattle.characters.specs.Tables.{punctuation_ranges, space_ranges}
 use Rattle.classes.specs.Class.{whitespace, crate_whitespace, punctuation, ascii_class, wide_class, standard_class, amended, class_of}

@@ -3,7 +3,7 @@
 -- ASCII characters stand by themselves, as document 01 and the standard list them, and are looked up in a table of 128; what the standard says of all
 -- characters, by Unicode's categories, is the same on them (specs/Laws.antt).
 -- Assumes nothing.
-use Rattle.std.specs.Prelude.{ℕ, Bool, cond, ◌&&◌, ◌||◌, leb, eqb}
+use Rattle.std.specs.Prelude.{ℕ, Bool, cond, ◌||◌, leb, eqb}
 use Rattle.characters.specs.Ranges.{within, member}
 use Rattle.characters.specs.Tables.{punctuation_ranges, space_ranges}
 use Rattle.classes.specs.declared.Class.{Class}
@@ -41,12 +41,6 @@ amended c = eqb c 13 || eqb c 0
 
 unfoldable pub class_of : ℕ → Class
 class_of c = cond (amended c) Other (standard_class c)
-
--- the number that the table has for a class
-abbrev pub code_of : Class → ℕ
-code_of Other = 0
-code_of Whitespace = 1
-code_of Punctuation = 2
 
 -- D6: the crate's whitespace, which is `char::is_whitespace` of Rust: beyond the standard's it has vertical tab, next line (U+0085), and the separators of
 -- lines and of paragraphs (U+2028, U+2029), none of which is of the category Zs

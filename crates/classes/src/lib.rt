@@ -13,147 +13,147 @@ ghost use Rattle.classes.specs.Lent.{AsciiTable, Lent, lacks as lacksRanges};
 
 use characters::ranges::{is_punctuation, is_space};
 
-#[derive(Clone, Copy)]
+#[derive(Clone, Copy, PartialEq, Eq)]
 pub enum Class {
     Other,
     Whitespace,
     Punctuation,
 }
 
-// For each ASCII character its class: 0 other, 1 whitespace, 2 punctuation.
-const CLASSES: [u8; 128] = [
-    0, // zero byte
-    0, // control 1
-    0, // control 2
-    0, // control 3
-    0, // control 4
-    0, // control 5
-    0, // control 6
-    0, // control 7
-    0, // control 8
-    1, // tab
-    1, // line feed
-    0, // vertical tab
-    1, // form feed
-    0, // carriage return
-    0, // control 14
-    0, // control 15
-    0, // control 16
-    0, // control 17
-    0, // control 18
-    0, // control 19
-    0, // control 20
-    0, // control 21
-    0, // control 22
-    0, // control 23
-    0, // control 24
-    0, // control 25
-    0, // control 26
-    0, // escape
-    0, // control 28
-    0, // control 29
-    0, // control 30
-    0, // control 31
-    1, // space
-    2, // !
-    2, // "
-    2, // #
-    2, // $
-    2, // %
-    2, // &
-    2, // '
-    2, // (
-    2, // )
-    2, // *
-    2, // +
-    2, // ,
-    2, // -
-    2, // .
-    2, // /
-    0, // 0
-    0, // 1
-    0, // 2
-    0, // 3
-    0, // 4
-    0, // 5
-    0, // 6
-    0, // 7
-    0, // 8
-    0, // 9
-    2, // :
-    2, // ;
-    2, // <
-    2, // =
-    2, // >
-    2, // ?
-    2, // @
-    0, // A
-    0, // B
-    0, // C
-    0, // D
-    0, // E
-    0, // F
-    0, // G
-    0, // H
-    0, // I
-    0, // J
-    0, // K
-    0, // L
-    0, // M
-    0, // N
-    0, // O
-    0, // P
-    0, // Q
-    0, // R
-    0, // S
-    0, // T
-    0, // U
-    0, // V
-    0, // W
-    0, // X
-    0, // Y
-    0, // Z
-    2, // [
-    2, // \
-    2, // ]
-    2, // ^
-    2, // _
-    2, // `
-    0, // a
-    0, // b
-    0, // c
-    0, // d
-    0, // e
-    0, // f
-    0, // g
-    0, // h
-    0, // i
-    0, // j
-    0, // k
-    0, // l
-    0, // m
-    0, // n
-    0, // o
-    0, // p
-    0, // q
-    0, // r
-    0, // s
-    0, // t
-    0, // u
-    0, // v
-    0, // w
-    0, // x
-    0, // y
-    0, // z
-    2, // {
-    2, // |
-    2, // }
-    2, // ~
-    0, // delete
+// For each ASCII character its class.
+const CLASSES: [Class; 128] = [
+    Class::Other, // zero byte
+    Class::Other, // control 1
+    Class::Other, // control 2
+    Class::Other, // control 3
+    Class::Other, // control 4
+    Class::Other, // control 5
+    Class::Other, // control 6
+    Class::Other, // control 7
+    Class::Other, // control 8
+    Class::Whitespace, // tab
+    Class::Whitespace, // line feed
+    Class::Other, // vertical tab
+    Class::Whitespace, // form feed
+    Class::Other, // carriage return
+    Class::Other, // control 14
+    Class::Other, // control 15
+    Class::Other, // control 16
+    Class::Other, // control 17
+    Class::Other, // control 18
+    Class::Other, // control 19
+    Class::Other, // control 20
+    Class::Other, // control 21
+    Class::Other, // control 22
+    Class::Other, // control 23
+    Class::Other, // control 24
+    Class::Other, // control 25
+    Class::Other, // control 26
+    Class::Other, // escape
+    Class::Other, // control 28
+    Class::Other, // control 29
+    Class::Other, // control 30
+    Class::Other, // control 31
+    Class::Whitespace, // space
+    Class::Punctuation, // !
+    Class::Punctuation, // "
+    Class::Punctuation, // #
+    Class::Punctuation, // $
+    Class::Punctuation, // %
+    Class::Punctuation, // &
+    Class::Punctuation, // '
+    Class::Punctuation, // (
+    Class::Punctuation, // )
+    Class::Punctuation, // *
+    Class::Punctuation, // +
+    Class::Punctuation, // ,
+    Class::Punctuation, // -
+    Class::Punctuation, // .
+    Class::Punctuation, // /
+    Class::Other, // 0
+    Class::Other, // 1
+    Class::Other, // 2
+    Class::Other, // 3
+    Class::Other, // 4
+    Class::Other, // 5
+    Class::Other, // 6
+    Class::Other, // 7
+    Class::Other, // 8
+    Class::Other, // 9
+    Class::Punctuation, // :
+    Class::Punctuation, // ;
+    Class::Punctuation, // <
+    Class::Punctuation, // =
+    Class::Punctuation, // >
+    Class::Punctuation, // ?
+    Class::Punctuation, // @
+    Class::Other, // A
+    Class::Other, // B
+    Class::Other, // C
+    Class::Other, // D
+    Class::Other, // E
+    Class::Other, // F
+    Class::Other, // G
+    Class::Other, // H
+    Class::Other, // I
+    Class::Other, // J
+    Class::Other, // K
+    Class::Other, // L
+    Class::Other, // M
+    Class::Other, // N
+    Class::Other, // O
+    Class::Other, // P
+    Class::Other, // Q
+    Class::Other, // R
+    Class::Other, // S
+    Class::Other, // T
+    Class::Other, // U
+    Class::Other, // V
+    Class::Other, // W
+    Class::Other, // X
+    Class::Other, // Y
+    Class::Other, // Z
+    Class::Punctuation, // [
+    Class::Punctuation, // \
+    Class::Punctuation, // ]
+    Class::Punctuation, // ^
+    Class::Punctuation, // _
+    Class::Punctuation, // `
+    Class::Other, // a
+    Class::Other, // b
+    Class::Other, // c
+    Class::Other, // d
+    Class::Other, // e
+    Class::Other, // f
+    Class::Other, // g
+    Class::Other, // h
+    Class::Other, // i
+    Class::Other, // j
+    Class::Other, // k
+    Class::Other, // l
+    Class::Other, // m
+    Class::Other, // n
+    Class::Other, // o
+    Class::Other, // p
+    Class::Other, // q
+    Class::Other, // r
+    Class::Other, // s
+    Class::Other, // t
+    Class::Other, // u
+    Class::Other, // v
+    Class::Other, // w
+    Class::Other, // x
+    Class::Other, // y
+    Class::Other, // z
+    Class::Punctuation, // {
+    Class::Punctuation, // |
+    Class::Punctuation, // }
+    Class::Punctuation, // ~
+    Class::Other, // delete
 ];
 
 // The table of ASCII characters, to be lent.
-pub fn ascii_classes() -> [u8; 128]
+pub fn ascii_classes() -> [Class; 128]
     ensures { AsciiTable result }
 {
     CLASSES
@@ -165,35 +165,30 @@ fn class_past_ascii(marks: &[u32], c: u32) -> Class
     ensures { result ≡ class_of c }
 {
     if is_space(c) {
-        return Class::Whitespace;
+        Class::Whitespace
+    } else if is_punctuation(marks, c) {
+        Class::Punctuation
+    } else {
+        Class::Other
     }
-    if is_punctuation(marks, c) {
-        return Class::Punctuation;
-    }
-    Class::Other
 }
 
 // Whether a character is past ASCII while the ranges are not lent.
+#[tactic(auto, unfolding(crate::specs::Lent::lacks))]
 pub fn lacks(marks: &[u32], c: u32) -> bool
     ensures { result ≡ lacksRanges marks.now c }
 {
-    if c < 128 {
-        return false;
-    }
-    marks.len() == 0
+    marks.is_empty() && c >= 128
 }
 
 // The class of a character, by the two tables.
-pub fn class_of(ascii: &[u8], marks: &[u32], c: u32) -> Class
+pub fn class_of(ascii: &[Class], marks: &[u32], c: u32) -> Class
     requires { Lent ascii.now marks.now × (lacksRanges marks.now c ≡ false) }
     ensures { result ≡ class_of c }
 {
-    if c >= 128 {
-        return class_past_ascii(marks, c);
-    }
-    match ascii[c as usize] {
-        1 => Class::Whitespace,
-        2 => Class::Punctuation,
-        _ => Class::Other,
+    if c < 128 {
+        ascii[c as usize]
+    } else {
+        class_past_ascii(marks, c)
     }
 }

@@ -8,12 +8,11 @@ use lib.Dec.{leb}
 use borrow.Author.Tests.{leb-true, leb-false}
 use Rattle.record.specs.Handed.{form_of}
 use Rattle.record.specs.Event.{events_in}
-use Rattle.record.specs.Check.{admitted}
+use Rattle.record.specs.Check.{admitted, accept}
 use Rattle.record.specs.Rows.{document_count_in, event_count_in}
 use Rattle.record.specs.Written.{Judges, ExactlyWritten}
 use Rattle.record.specs.declared.event.Event.{Event}
 use Rattle.record.specs.declared.form.Handed.{Handed}
-use Rattle.record.specs.declared.check.Reading.TheVariants.{Good}
 use Rattle.record.proofs.Good.{admission}
 use Rattle.record.proofs.ExactlyWritten.{exactly_written}
 use Rattle.heading.specs.Headings.{headings}
@@ -32,7 +31,7 @@ pub exactly_resolved : (h : Handed) (s : List ℕ) (works outs : ℕ) →
 exactly_resolved h s works outs =
     exactly_written h s works (Broken (events_in (form_of h) s (document_count_in (form_of h) s) (event_count_in (form_of h) s))) (λ d e. headings (events_in (form_of h) s d e)) outs judges
   where
-    judges : admitted h s works ≡ Good (document_count_in (form_of h) s) (event_count_in (form_of h) s) →
+    judges : admitted h s works ≡ accept (document_count_in (form_of h) s) (event_count_in (form_of h) s) →
         Judges (Broken (events_in (form_of h) s (document_count_in (form_of h) s) (event_count_in (form_of h) s))) (headings (events_in (form_of h) s (document_count_in (form_of h) s) (event_count_in (form_of h) s)))
     judges q =
         let s₁ = (admission h s works (document_count_in (form_of h) s) (event_count_in (form_of h) s) q).good.sound_events in

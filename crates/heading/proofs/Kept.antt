@@ -16,12 +16,11 @@ use Rattle.record.specs.Choice.{choose, and}
 use Rattle.record.specs.Handed.{form_of}
 use Rattle.record.specs.Event.{event, enter, exit, events_in}
 use Rattle.record.specs.Stack.{nth}
-use Rattle.record.specs.Check.{admitted}
+use Rattle.record.specs.Check.{admitted, accept}
 use Rattle.record.specs.Outcome.{Resolution, offends, gives, Outcome, accepted, refused, refusing, sized, settled}
 use Rattle.record.specs.declared.event.Event.{Event}
 use Rattle.record.specs.declared.form.Handed.{Handed}
 use Rattle.record.specs.declared.form.Form.{Form}
-use Rattle.record.specs.declared.check.Reading.TheVariants.{Good}
 use Rattle.record.proofs.Good.{admission}
 use Rattle.record.proofs.Parts.{length_events}
 use Rattle.heading.specs.Headings.{is_of, before_first, through_last, inner_of, leaves, shaped, is_data_or_run, before_text, to_last, before_closing, without_closing, text_events, through_text, text_round, with_text, resolved_from, earliest, headings}
@@ -198,7 +197,7 @@ fits_seven f rs outs h r = go (ltb outs (4 + f.width * length rs)) (rw (le-ltb 8
     go false q = omega (arith, ap number_of q)
 
 -- number 7 cannot come
-pub seven_never : (h : Handed) (s : List ℕ) (works d e outs : ℕ) → admitted h s works ≡ Good d e →
+pub seven_never : (h : Handed) (s : List ℕ) (works d e outs : ℕ) → admitted h s works ≡ accept d e →
     settled (form_of h) d (headings (events_in (form_of h) s d e)) outs ≡ refusing 7 0 → ⊥
 seven_never h s works d e outs q = go (headings (events_in (form_of h) s d e)) refl
   where

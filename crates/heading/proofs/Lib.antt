@@ -1,4 +1,3 @@
-pub mod Lists
 pub mod Seeking
 pub mod Shapes
 pub mod Leaves

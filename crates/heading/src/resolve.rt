@@ -9,70 +9,50 @@ ghost use Rattle.record.specs.Promise.{Answered};
 ghost use Rattle.heading.specs.Headings.{headings};
 ghost use Rattle.heading.specs.Promise.{answer_of, outcome_of, Promise};
 
-use crate::judge::{Judged, judge};
+use crate::judge::judge;
 use crate::write::put_resolved;
 use record::bytes::{put_u32, wipe};
-use record::check::{Reading, Refusal, admit};
+use record::check::{Counts, Refusal, admit, refused};
 use record::form::{Form, Handed, form_of, place_of};
 use record::limits::MAX_RESULT;
+use record::listed::Events;
 
-// How many events the section that is written has, or the refusal.
-#[derive(Clone, Copy)]
-pub enum Answer {
-    Resolved { events: usize },
-    Refused(Refusal),
-}
-
-// Numbers 6 to 8, or the section: of a good record of a form with these two counts.
-pub fn settle(s: &[u8], form: Form, d: usize, e: usize, out: &mut [u8]) -> Answer
+// Numbers 6 to 8, or the section and how many events it has: of a good record of a form with these two counts.
+pub fn settle(s: &[u8], form: Form, d: usize, e: usize, out: &mut [u8]) -> Result<usize, Refusal>
     requires { GoodIn form s.now d e }
     ensures { Answered form (settled form d (headings (events_in form s.now d e)) (length out.old)) answer_of out.old result out.new }
 {
-    let from = 8 + form.front + d;
-    let width = form.width;
-    match judge(s, from, width, e) {
-        Judged::Offends(k) => {
-            return Answer::Refused(Refusal {
-                number: 6,
-                place: place_of(form, d, k),
-            });
-        }
-        Judged::Sized(n) => {
-            if n > MAX_RESULT {
-                return Answer::Refused(Refusal {
-                    number: 7,
-                    place: 0,
-                });
-            }
-            if out.len() < 4 + width * n {
-                return Answer::Refused(Refusal {
-                    number: 8,
-                    place: 0,
-                });
-            }
-            put_u32(out, 0, n);
-            put_resolved(out, s, from, form, e, n);
-            return Answer::Resolved { events: n };
-        }
+    let events = Events::of_record(s, form, d, e);
+    let n = match judge(events) {
+        Ok(n) => n,
+        Err(offender) => return refused(6, place_of(form, d, offender.event)),
+    };
+    if n > MAX_RESULT {
+        return refused(7, 0);
     }
+    if out.len() < 4 + form.width * n {
+        return refused(8, 0);
+    }
+    put_u32(out, 0, n);
+    put_resolved(out, events, form, n);
+    Ok(n)
 }
 
 // The answer and the output; of the work memory only the length matters.
-pub fn answer_for(handed: Handed, s: &[u8], out: &mut [u8], works: usize) -> Answer
+pub fn answer_for(handed: Handed, s: &[u8], out: &mut [u8], works: usize) -> Result<usize, Refusal>
     ensures { Answered (form_of handed) (outcome_of handed s.now (length out.old) works) answer_of out.old result out.new }
 {
-    match admit(handed, s, works) {
-        Reading::Refused(refusal) => {
-            return Answer::Refused(refusal);
-        }
-        Reading::Good { document, events } => {
-            return settle(s, form_of(handed), document, events, out);
-        }
-    }
+    let Counts { document, events } = admit(handed, s, works)?;
+    settle(s, form_of(handed), document, events, out)
 }
 
-// Resolves the headings of a record into an output; the whole of the work memory is zero afterwards, whatever it held and whatever is answered.
-pub fn resolve_headings(handed: Handed, s: &[u8], out: &mut [u8], work: &mut [u8]) -> Answer
+// Resolves the headings of a record into an output, and says how many events it then has; the whole of the work memory is zero afterwards, whatever it held and whatever is answered.
+pub fn resolve_headings(
+    handed: Handed,
+    s: &[u8],
+    out: &mut [u8],
+    work: &mut [u8],
+) -> Result<usize, Refusal>
     ensures { Promise handed s.now out.old work.old result out.new work.new }
 {
     let answer = answer_for(handed, s, out, work.len());

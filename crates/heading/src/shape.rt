@@ -1,78 +1,66 @@
-// The shape rule: in a heading only leaf pairs of 0, 12, 14, beginning with at most one 14 and then a 12. An event takes `width` bytes, of
-// which the first eight are read.
+// The shape rule: in a heading only leaf pairs of 0, 12, 14, beginning with at most one 14 and then a 12.
 
-ghost use Rattle.std.specs.Prelude.{◌≡◌, ◌+◌, ◌*◌, ◌≤◌, length};
-ghost use Rattle.record.specs.Event.{event_at, events_by};
-ghost use Rattle.heading.specs.Headings.{leaf, leaves, headed, shaped};
+ghost use Rattle.std.specs.Prelude.{◌≡◌};
+ghost use Rattle.record.specs.EventsOf.{events_of};
+ghost use Rattle.heading.specs.Headings.{leaf, leaves, starts_with, headed, shaped};
 
 use crate::seek::is_of;
+use record::event::Event;
 use record::limits::{DATA, ENTER, EXIT, HEADING_SEQUENCE, SPACE_OR_TAB};
+use record::listed::Events;
 
-// Whether the two events from a place on are a leaf pair of a name that a heading may hold.
-pub fn is_leaf(s: &[u8], at: usize, width: usize) -> bool
-    requires { (8 ≤ width) × (at + 2 * width ≤ length s.now) }
-    ensures { result ≡ leaf (event_at s.now at) (event_at s.now (at + width)) }
+// Whether two events are a leaf pair of a name that a heading may hold.
+#[tactic(auto, unfolding(crate::specs::Headings::leaf, record::specs::Choice::and, record::specs::Choice::choose))]
+pub fn is_leaf(enter: Event, exit: Event) -> bool
+    ensures { result ≡ leaf enter exit }
 {
-    let name = s[at + 1];
-    if s[at] != ENTER {
-        return false;
-    }
-    if !is_of(s, at + width, EXIT, name) {
-        return false;
-    }
-    if name == DATA {
-        return true;
-    }
-    if name == HEADING_SEQUENCE {
-        return true;
-    }
-    name == SPACE_OR_TAB
+    enter.kind == ENTER
+        && is_of(exit, EXIT, enter.name)
+        && matches!(enter.name, DATA | HEADING_SEQUENCE | SPACE_OR_TAB)
 }
 
-// Whether the n events from a place on are leaf pairs, and no others.
-pub fn all_leaves(s: &[u8], from: usize, width: usize, n: usize) -> bool
-    requires { (8 ≤ width) × (from + width * n ≤ length s.now) }
-    ensures { result ≡ leaves (events_by width n s.now from) }
+// Whether events are leaf pairs, and no others.
+pub fn all_leaves(events: Events) -> bool
+    ensures { result ≡ leaves (events_of events.entry) }
 {
-    let mut at = from;
-    let mut left = n;
-    while left > 0 {
-        if left == 1 {
+    let mut rest = events;
+    while let Some((enter, inside)) = rest.split_first() {
+        let Some((exit, behind)) = inside.split_first() else {
+            return false;
+        };
+        if !is_leaf(enter, exit) {
             return false;
         }
-        if !is_leaf(s, at, width) {
-            return false;
-        }
-        at += 2 * width;
-        left -= 2;
+        rest = behind;
     }
     true
 }
 
-// Whether the n events from a place on begin with at most one 14 and then a 12.
-pub fn is_headed(s: &[u8], from: usize, width: usize, n: usize) -> bool
-    requires { (8 ≤ width) × (from + width * n ≤ length s.now) }
-    ensures { result ≡ headed (events_by width n s.now from) }
+// Whether the first event has a name.
+#[tactic(auto, unfolding(crate::specs::Headings::starts_with))]
+pub fn starts_with(events: Events, name: u8) -> bool
+    ensures { result ≡ starts_with name (events_of events.entry) }
 {
-    if n == 0 {
-        return false;
+    match events.split_first() {
+        Some((first, _)) => first.name == name,
+        None => false,
     }
-    if s[from + 1] != SPACE_OR_TAB {
-        return s[from + 1] == HEADING_SEQUENCE;
-    }
-    if n < 3 {
-        return false;
-    }
-    s[from + 2 * width + 1] == HEADING_SEQUENCE
 }
 
-// Whether the n events from a place on are what a heading may hold.
-pub fn is_shaped(s: &[u8], from: usize, width: usize, n: usize) -> bool
-    requires { (8 ≤ width) × (from + width * n ≤ length s.now) }
-    ensures { result ≡ shaped (events_by width n s.now from) }
+// Whether events begin with at most one 14 and then a 12.
+pub fn is_headed(events: Events) -> bool
+    ensures { result ≡ headed (events_of events.entry) }
 {
-    if !is_headed(s, from, width, n) {
-        return false;
+    if starts_with(events, SPACE_OR_TAB) {
+        return starts_with(events.skip(2), HEADING_SEQUENCE);
     }
-    all_leaves(s, from, width, n)
+    starts_with(events, HEADING_SEQUENCE)
+}
+
+// Whether events are what a heading may hold.
+#[tactic(auto, unfolding(crate::specs::Headings::shaped, record::specs::Choice::and))]
+pub fn is_shaped(events: Events) -> bool
+    ensures { result ≡ shaped (events_of events.entry) }
+{
+    is_headed(events) && all_leaves(events)
 }

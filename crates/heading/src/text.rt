@@ -1,113 +1,122 @@
 // The text rule: Text (13) goes from the first Data or `#` run after the opening run to the last, and a `#` run that closes the heading stays out. All
-// that lies in the text goes, but for one Data pair. Events are read `width` bytes apart, and put by a pen.
+// that lies in the text goes, but for one Data pair. Events are put into a section.
 
-ghost use Rattle.std.specs.Prelude.{◌≡◌, ◌+◌, ◌*◌, ◌≤◌, true, length};
-ghost use Rattle.record.specs.Event.{events_by};
-ghost use Rattle.partners.specs.Pen.{Put, Fits};
-ghost use Rattle.heading.specs.Headings.{shaped, through_opening, before_closing, text_round, with_text};
+ghost use Rattle.std.specs.Prelude.{◌≡◌, ◌+◌, ◌≤◌, ◌<◌, true, length, reverse, MatchOption};
+ghost use Rattle.record.specs.EventsOf.{events_of};
+ghost use Rattle.partners.specs.Section.{Ready, Puts};
+ghost use Rattle.heading.specs.Headings.{shaped, starts_with, through_opening, to_last, without_closing, before_text, through_text, text_round, with_text};
 ghost use Rattle.heading.specs.Steps.{Ends};
 
-use crate::seek::{Sought, before_first, through_last};
-use partners::{Pen, copy, put};
-use record::bytes::u32_at;
+use crate::seek::{before_first, is_data_or_run};
+use crate::shape::starts_with;
+use partners::Section;
 use record::limits::{DATA, ENTER, EXIT, HEADING_SEQUENCE, HEADING_TEXT, SPACE_OR_TAB};
+use record::listed::Events;
 
-// Where a text lies among a heading's inner events: how many stand before it, and how many up to its end. Where there is none, these are the same.
-#[derive(Clone, Copy)]
+// Where a text lies among a heading's inner events: how many stand before it, and how many up to its end.
+#[derive(Clone, Copy, PartialEq, Eq)]
 pub struct Text {
     pub before: usize,
     pub through: usize,
 }
 
-// How many of a heading's n inner events stand up to the end of its opening run.
-pub fn through_opening(s: &[u8], from: usize, width: usize, n: usize) -> usize
-    requires { (8 ≤ width) × (from + width * n ≤ length s.now) × (shaped (events_by width n s.now from) ≡ true) }
-    ensures { (result ≡ through_opening (events_by width n s.now from)) × (result ≤ n) }
+// How many of a heading's inner events stand up to the end of its opening run.
+pub fn through_opening(inner: Events) -> usize
+    requires { shaped (events_of inner) ≡ true }
+    ensures { (result ≡ through_opening (events_of inner.entry)) × (result ≤ inner.entry.count) }
 {
-    if s[from + 1] == SPACE_OR_TAB {
-        return 4;
+    if starts_with(inner, SPACE_OR_TAB) {
+        4
+    } else {
+        2
     }
-    2
 }
 
-// How many of n events stand before a `#` run that is the last of them.
-pub fn before_closing(s: &[u8], from: usize, width: usize, n: usize) -> usize
-    requires { (8 ≤ width) × (from + width * n ≤ length s.now) }
-    ensures { (result ≡ before_closing (events_by width n s.now from)) × (result ≤ n) }
+// Events up to the last Data or `#` run.
+pub fn to_last<'a>(events: Events<'a>) -> Events<'a>
+    ensures { events_of result ≡ to_last (events_of events.entry) }
 {
-    if n == 0 {
-        return 0;
+    let mut rest = events;
+    while let Some((last, front)) = rest.split_last() {
+        if is_data_or_run(last) {
+            return rest;
+        }
+        rest = front;
     }
-    if s[from + width * (n - 1) + 1] != HEADING_SEQUENCE {
-        return n;
-    }
-    if n < 2 {
-        return 0;
-    }
-    n - 2
+    rest
 }
 
-// The text of a heading's n inner events.
-pub fn text_of(s: &[u8], from: usize, width: usize, n: usize) -> Text
-    requires { (8 ≤ width) × (from + width * n ≤ length s.now) × (shaped (events_by width n s.now from) ≡ true) }
-    ensures { Ends (events_by width n s.now from) n result.before result.through }
+// Whether the last event has a name.
+pub fn ends_with(events: Events, name: u8) -> bool
+    ensures { result ≡ starts_with name (reverse (events_of events.entry)) }
 {
-    let opened = through_opening(s, from, width, n);
-    let behind = from + width * opened;
-    let before = opened + before_first(s, behind, width, n - opened, Sought::DataOrRun);
-    let start = from + width * before;
-    let last = through_last(s, start, width, n - before, Sought::DataOrRun);
-    let unclosed = before_closing(s, start, width, last);
-    // Most headings have no closing run: then the last event is known.
-    if unclosed == last {
-        let through = before + last;
-        return Text { before, through };
+    match events.split_last() {
+        Some((last, _)) => last.name == name,
+        None => false,
     }
-    let through = before + through_last(s, start, width, unclosed, Sought::DataOrRun);
-    Text { before, through }
 }
 
-// How many events a heading's n inner events become.
-pub fn inner_size(s: &[u8], from: usize, width: usize, n: usize) -> usize
-    requires { (8 ≤ width) × (n ≤ 2048) × (from + width * n ≤ length s.now) × (shaped (events_by width n s.now from) ≡ true) }
-    ensures { (result ≡ length (with_text (events_by width n s.now from))) × (result ≤ n + 3) }
+// Events without a `#` run that is the last of them.
+pub fn without_closing<'a>(events: Events<'a>) -> Events<'a>
+    ensures { events_of result ≡ without_closing (events_of events.entry) }
 {
-    let text = text_of(s, from, width, n);
-    let before = text.before;
-    let through = text.through;
-    if before == through {
-        return n;
+    if ends_with(events, HEADING_SEQUENCE) {
+        return events.take(events.count.saturating_sub(2));
     }
-    before + 4 + (n - through)
+    events
 }
 
-// Puts a text's four events, from one place of the document to another. The pen behind them.
-pub fn put_round(out: &mut [u8], pen: Pen, from: usize, end: usize) -> Pen
-    requires { Fits out.old pen (text_round from end) }
-    ensures { Put out.old pen (text_round from end) out.new result }
+// The text of a heading's inner events, if one is left.
+pub fn text_of(inner: Events) -> Option<Text>
+    requires { shaped (events_of inner) ≡ true }
+    ensures { MatchOption result (before_text (events_of inner.entry) ≡ through_text (events_of inner.entry)) (λ t. Ends (events_of inner.entry) inner.entry.count t.before t.through × (t.before < t.through)) }
 {
-    let inside = put(out, pen, ENTER, HEADING_TEXT, from);
-    let behind = put(out, inside, ENTER, DATA, from);
-    let after = put(out, behind, EXIT, DATA, end);
-    put(out, after, EXIT, HEADING_TEXT, end)
+    let opened = through_opening(inner);
+    let before = opened + before_first(inner.skip(opened), |e| is_data_or_run(e));
+    let text = to_last(without_closing(to_last(inner.skip(before))));
+    if text.count == 0 {
+        return None;
+    }
+    Some(Text {
+        before,
+        through: before + text.count,
+    })
 }
 
-// Puts what a heading's n inner events become. The pen behind it.
-pub fn put_inner(out: &mut [u8], pen: Pen, s: &[u8], from: usize, width: usize, n: usize) -> Pen
-    requires { (8 ≤ width) × (from + width * n ≤ length s.now) × (shaped (events_by width n s.now from) ≡ true) × Fits out.old pen (with_text (events_by width n s.now from)) }
-    ensures { Put out.old pen (with_text (events_by width n s.now from)) out.new result }
+// How many events a heading's inner events become.
+pub fn inner_size(inner: Events) -> usize
+    requires { (inner.count ≤ 2048) × (shaped (events_of inner) ≡ true) }
+    ensures { (result ≡ length (with_text (events_of inner.entry))) × (result ≤ inner.entry.count + 3) }
 {
-    let found = text_of(s, from, width, n);
-    let before = found.before;
-    let through = found.through;
-    if before == through {
-        return copy(out, pen, s, from, width, n);
+    match text_of(inner) {
+        Some(Text { before, through }) => before + 4 + (inner.count - through),
+        None => inner.count,
     }
-    let end = from + width * through;
-    let behind = n - through;
-    let first = u32_at(s, from + width * before + 4);
-    let last = u32_at(s, end - width + 4);
-    let text = copy(out, pen, s, from, width, before);
-    let after = put_round(out, text, first, last);
-    copy(out, after, s, end, width, behind)
+}
+
+// Puts a text's four events, from one place of the document to another.
+pub fn put_round(section: &mut Section<'_>, from: usize, end: usize)
+    requires { Ready section.old (text_round from end) }
+    ensures { Puts section.old (text_round from end) section.new }
+{
+    section.put(ENTER, HEADING_TEXT, from);
+    section.put(ENTER, DATA, from);
+    section.put(EXIT, DATA, end);
+    section.put(EXIT, HEADING_TEXT, end);
+}
+
+// Puts what a heading's inner events become.
+pub fn put_inner(section: &mut Section<'_>, inner: Events)
+    requires { (shaped (events_of inner) ≡ true) × Ready section.old (with_text (events_of inner)) }
+    ensures { Puts section.old (with_text (events_of inner.entry)) section.new }
+{
+    let Some(Text { before, through }) = text_of(inner) else {
+        section.copy(inner);
+        return;
+    };
+    let first = inner.event(before).place;
+    let last = inner.event(through - 1).place;
+    section.copy(inner.take(before));
+    put_round(section, first, last);
+    section.copy(inner.skip(through));
 }

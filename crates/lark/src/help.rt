@@ -2,53 +2,27 @@
 
 use terminal::host::{Host, Stream, argument_count, argument_length};
 use terminal::say::write;
-use terminal::words::same;
 
-// What a word asks for: nothing, these words, the version, or that behind it no word asks for anything.
-const NOTHING: u8 = 0;
-
-pub const HELP: u8 = 1;
-
-pub const VERSION: u8 = 2;
-
-const ENDED: u8 = 3;
-
-// What a word asks for.
-fn wish_of(word: &[u8]) -> u8 {
-    if same(word, b"--help") {
-        return HELP;
-    }
-    if same(word, b"-h") {
-        return HELP;
-    }
-    if same(word, b"--version") {
-        return VERSION;
-    }
-    if same(word, b"--") {
-        return ENDED;
-    }
-    NOTHING
-}
-
-// What argument i asks for.
-fn wish_at(host: &Host, i: usize) -> u8 {
-    let mut word = [0u8; 16];
-    let n = argument_length(host, i, &mut word);
-    wish_of(&word[..n])
+// What the arguments ask for in the place of a command.
+#[derive(Clone, Copy)]
+pub enum Wish {
+    Help,
+    Version,
 }
 
 // What the arguments from a number on ask for: the first that asks for something, wherever it stands before --.
-pub fn wish_from(host: &Host, from: usize) -> u8 {
-    let count = argument_count(host);
-    let mut i = from;
-    while i < count {
-        let wish = wish_at(host, i);
-        if wish != NOTHING {
-            return wish;
+pub fn wish_from(host: &Host, from: usize) -> Option<Wish> {
+    for i in from..argument_count(host) {
+        let mut word = [0u8; 16];
+        let n = argument_length(host, i, &mut word);
+        match &word[..n] {
+            b"--help" | b"-h" => return Some(Wish::Help),
+            b"--version" => return Some(Wish::Version),
+            b"--" => return None,
+            _ => {}
         }
-        i += 1;
     }
-    NOTHING
+    None
 }
 
 // The version, which the header and the binding have too; whether it was written.

@@ -1,122 +1,92 @@
 // The command `line`: what the line readers find in one line, and what the heading resolver makes of it where it is a heading.
 
 use asked::args::Asked;
-use asked::input::{RECORD_ROOM, handed_asked, memory};
-use asked::made::{Made, put_record};
-use atx::{Headed, heading};
+use asked::input::{RECORD_ROOM, handed_asked};
+use asked::made::put_record;
+use atx::heading;
 use causes::refuse::refuse_line;
-use heading::resolve::{Answer, resolve_headings};
+use heading::resolve::resolve_headings;
 use lines::container::{Container, Kind};
 use lines::going::{Going, continuation};
-use lines::item::{Start, list_item};
-use lines::spaces::{Spaces, space_or_tab};
+use lines::item::{Item, list_item};
+use lines::spaces::{Taken, space_or_tab};
 use record::check::Refusal;
-use record::form::{Handed, form_of, old};
+use record::form::form_of;
 use record::limits::{HEADING_TEXT, MAX_EVENTS};
-use terminal::events::{event_of, exit_of, first_enter, say_events};
-use terminal::host::Host;
-use terminal::say::{done, end_line, say, say_number, say_range, say_with};
+use terminal::events::{Section, say_events};
+use terminal::host::{Host, Stream};
+use terminal::say::{Status, done, end_line, print, say};
 
 // As many columns as the spaces and tabs of a line can have: 16,384 tabs of four.
 const ALL: usize = 65536;
 
-// What a line is as a heading: its events with the text resolved, none, or a refusal.
-#[derive(Clone, Copy)]
-enum Title {
-    Events(usize),
-    NotHeading,
-    Refused(Refusal),
-}
-
 // A refusal of a heading's record, which is for its events alone, by the place in the line of the first piece for which it has no room: its enter
 // is the last event that a record takes, where the heading's exit should be. The section has the events as they were read, side by side.
-fn crowded(refusal: Refusal, section: &[u8]) -> Title {
-    let read = old();
-    let event = event_of(section, read.width, MAX_EVENTS - 1);
-    Title::Refused(Refusal {
-        number: refusal.number,
-        place: event.place,
-    })
-}
-
-// The resolved events of a record, put into the section, where its events as they were read are.
-fn resolve_title(rec: &[u8], handed: Handed, section: &mut [u8]) -> Title {
-    let mut work = memory();
-    match resolve_headings(handed, rec, section, &mut work) {
-        Answer::Resolved { events } => Title::Events(events),
-        Answer::Refused(refusal) => crowded(refusal, section),
+fn crowded(refusal: Refusal, section: Section) -> Refusal {
+    Refusal {
+        place: section.event(MAX_EVENTS - 1).map_or(0, |event| event.place),
+        ..refusal
     }
 }
 
-// The resolved events of a line that is a heading, put into the section, where its events as it was read are.
-fn find_events(line: &[u8], asked: Asked, section: &mut [u8], events: usize) -> Title {
+// How many events a line that is a heading has with its text resolved, which are put into the section, where its events as it was read are.
+fn resolve(line: &[u8], asked: Asked, section: &mut [u8], events: usize) -> Result<usize, Refusal> {
     let handed = handed_asked(asked);
-    let mut rec = memory();
-    match put_record(line, section, events, handed, asked.options, &mut rec) {
-        Made::Bytes(n) => {
-            if n > RECORD_ROOM {
-                return Title::NotHeading;
-            }
-            return resolve_title(&rec[0..n], handed, section);
-        }
-        Made::Refused(refusal) => {
-            return crowded(refusal, section);
-        }
-    }
+    let mut bytes = [0u8; RECORD_ROOM];
+    let mut work = [0u8; RECORD_ROOM];
+    let read = Section::written(section, events);
+    let rec = put_record(line, read, handed, asked.options(), &mut bytes)?;
+    resolve_headings(handed, rec, section, &mut work)
 }
 
-// The resolved events of a line, put into the section.
-fn find_title(line: &[u8], asked: Asked, section: &mut [u8]) -> Title {
-    match heading(line, asked.options, asked.column, section) {
-        Headed::NotHeading => Title::NotHeading,
-        Headed::Refused(refusal) => Title::Refused(refusal),
-        Headed::Heading { events } => find_events(line, asked, section, events),
+// The same of any line; None where it is no heading.
+fn find_title(line: &[u8], asked: Asked, section: &mut [u8]) -> Result<Option<usize>, Refusal> {
+    let Some(read) = heading(line, asked.options(), asked.column, section)? else {
+        return Ok(None);
+    };
+    match resolve(line, asked, section, read) {
+        Ok(events) => Ok(Some(events)),
+        Err(refusal) => Err(crowded(refusal, Section::written(section, read))),
     }
 }
 
 // What is found of the spaces and tabs in front, on a line. All of them are taken, so that none is cut.
-fn say_leading(host: &mut Host, spaces: Spaces) {
+fn say_leading(host: &mut Host, spaces: Result<Option<Taken>, Refusal>) {
     say(host, b"leading spaces and tabs: ");
     match spaces {
-        Spaces::Taken { taken, left: _ } => {
-            say_number(host, taken);
-        }
-        Spaces::TooFew => {
-            say(host, b"too few");
-        }
-        Spaces::Refused(refusal) => {
-            say(host, b"refused");
-        }
-    }
+        Ok(Some(taken)) => print(host, Stream::Output, taken.bytes),
+        Ok(None) => say(host, b"too few"),
+        Err(_) => say(host, b"refused"),
+    };
     end_line(host);
 }
 
 // Where a heading's text stands, and its events.
-fn say_heading(host: &mut Host, section: &[u8], width: usize, events: usize) {
-    let k = first_enter(section, width, events, HEADING_TEXT);
-    if k < events {
-        let event = event_of(section, width, k);
-        say(host, b"heading: text ");
-        say_range(host, event.place, exit_of(section, width, events, k));
-        say(host, b"\nheading: events ");
+fn say_heading(host: &mut Host, section: Section) {
+    if let Some(k) = section.first_named(HEADING_TEXT)
+        && let Some(event) = section.event(k)
+        && let Some(to) = section.exit(k)
+    {
+        let from = event.place;
+        print(
+            host,
+            Stream::Output,
+            format_args!("heading: text {from}..{to}\nheading: events "),
+        );
     } else {
         say(host, b"heading: no text\nheading: events ");
     }
-    say_events(host, section, width, events);
+    say_events(host, section);
 }
 
 // Whether an item is bulleted or ordered, and its mark.
 fn say_kind(host: &mut Host, kind: Kind) {
-    match kind {
-        Kind::Bullet(mark) => {
-            say(host, b", bullet ");
-            say(host, &[mark]);
-        }
-        Kind::Ordered(mark) => {
-            say(host, b", ordered ");
-            say(host, &[mark]);
-        }
-    }
+    let (words, mark): (&[u8], u8) = match kind {
+        Kind::Bullet(mark) => (b", bullet ", mark),
+        Kind::Ordered(mark) => (b", ordered ", mark),
+    };
+    say(host, words);
+    say(host, &[mark]);
 }
 
 // A container's flag; where it is not set nothing is said.
@@ -128,36 +98,34 @@ fn say_blank(host: &mut Host, blank: bool) {
 
 // The bytes taken, and the columns left of a tab; where none is cut nothing is said of that.
 fn say_taken(host: &mut Host, taken: usize, left: usize) {
-    say_with(host, b"taken ", taken);
+    print(host, Stream::Output, format_args!("taken {taken}"));
     if left != 0 {
-        say_with(host, b", left ", left);
+        print(host, Stream::Output, format_args!(", left {left}"));
     }
 }
 
 // What a list item takes, and its container: the size, the kind and the flag.
-fn say_item(host: &mut Host, taken: usize, left: usize, container: Container) {
-    say_taken(host, taken, left);
-    say_with(host, b", size ", container.size);
-    let kind = container.kind;
-    say_kind(host, kind);
+fn say_item(host: &mut Host, item: Item) {
+    let container = item.container;
+    say_taken(host, item.taken, item.left);
+    print(
+        host,
+        Stream::Output,
+        format_args!(", size {}", container.size),
+    );
+    say_kind(host, container.kind);
     say_blank(host, container.blank);
 }
 
 // What is found of a list item; whether it was written.
-fn say_start(host: &mut Host, start: Start) -> bool {
+fn say_start(host: &mut Host, start: Result<Option<Item>, Refusal>) -> bool {
     say(host, b"list item: ");
     match start {
-        Start::Item {
-            taken,
-            left,
-            container,
-        } => {
-            say_item(host, taken, left, container);
-        }
-        Start::NotItem => {
+        Ok(Some(item)) => say_item(host, item),
+        Ok(None) => {
             say(host, b"no");
         }
-        Start::Refused(refusal) => {
+        Err(_) => {
             say(host, b"refused");
         }
     }
@@ -165,43 +133,45 @@ fn say_start(host: &mut Host, start: Start) -> bool {
 }
 
 // What is found of a further line: what is taken, or no, each with the flag as it then stands; or that it is refused.
-fn say_going(host: &mut Host, going: Going) {
+fn say_going(host: &mut Host, going: Result<Going, Refusal>) {
     match going {
-        Going::Goes {
-            taken,
-            left,
-            container,
-        } => {
+        Ok(
+            Going::Goes {
+                taken,
+                left,
+                container,
+            },
+        ) => {
             say(host, b": ");
             say_taken(host, taken, left);
             say_blank(host, container.blank);
         }
-        Going::Stops { container } => {
+        Ok(Going::Stops { container }) => {
             say(host, b": no");
             say_blank(host, container.blank);
         }
-        Going::Refused(refusal) => {
+        Err(_) => {
             say(host, b": refused");
         }
     }
 }
 
-// What is found of a further line of an item whose size and flag are given; whether it was written. The item's mark does not matter.
-fn read_further(
-    host: &mut Host,
-    line: &[u8],
-    options: u32,
-    column: usize,
-    size: usize,
-    blank: bool,
-) -> bool {
+// What is found of a further line of an item of this size; whether it was written. The item's mark does not matter.
+fn read_further(host: &mut Host, line: &[u8], asked: Asked, size: usize) -> bool {
     let held = Container {
         kind: Kind::Bullet(b'-'),
         size,
-        blank,
+        blank: asked.blank,
     };
-    say_with(host, b"continuation of size ", size);
-    say_going(host, continuation(line, options, column, held));
+    print(
+        host,
+        Stream::Output,
+        format_args!("continuation of size {size}"),
+    );
+    say_going(
+        host,
+        continuation(line, asked.options(), asked.column, held),
+    );
     end_line(host)
 }
 
@@ -210,30 +180,22 @@ fn read_further(
 fn read_others(host: &mut Host, line: &[u8], asked: Asked) -> bool {
     let written = say_start(
         host,
-        list_item(line, asked.options, asked.column, asked.interrupting),
+        list_item(line, asked.options(), asked.column, asked.interrupting),
     );
-    if asked.continuing {
-        return read_further(
-            host,
-            line,
-            asked.options,
-            asked.column,
-            asked.size,
-            asked.blank,
-        );
+    match asked.size {
+        Some(size) => read_further(host, line, asked, size),
+        None => written,
     }
-    written
 }
 
-// The answer on a line that is not refused.
-fn answer(host: &mut Host, line: &[u8], asked: Asked, section: &[u8], title: Title) -> u8 {
+// The answer on a line that is not refused, and has these events as a heading, or is none.
+fn answer(host: &mut Host, line: &[u8], asked: Asked, title: Option<Section>) -> Status {
     say_leading(
         host,
-        space_or_tab(line, asked.options, asked.column, 0, ALL),
+        space_or_tab(line, asked.options(), asked.column, 0, ALL),
     );
-    if let Title::Events(events) = title {
-        let form = form_of(handed_asked(asked));
-        say_heading(host, section, form.width, events);
+    if let Some(section) = title {
+        say_heading(host, section);
     } else {
         say(host, b"heading: no\n");
     }
@@ -242,11 +204,17 @@ fn answer(host: &mut Host, line: &[u8], asked: Asked, section: &[u8], title: Tit
 }
 
 // The answer on any line. The heading comes first: all that can be refused shows there, before a word is written.
-pub fn read_line(host: &mut Host, line: &[u8], asked: Asked) -> u8 {
-    let mut section = memory();
-    let title = find_title(line, asked, &mut section);
-    if let Title::Refused(refusal) = title {
-        return refuse_line(host, line, refusal);
-    }
-    answer(host, line, asked, &section, title)
+pub fn read_line(host: &mut Host, line: &[u8], asked: Asked) -> Status {
+    let mut bytes = [0u8; RECORD_ROOM];
+    let title = match find_title(line, asked, &mut bytes) {
+        Ok(title) => title,
+        Err(refusal) => return refuse_line(host, line, refusal),
+    };
+    let width = form_of(handed_asked(asked)).width;
+    let title = title.map(|events| Section {
+        bytes: &bytes,
+        width,
+        events,
+    });
+    answer(host, line, asked, title)
 }

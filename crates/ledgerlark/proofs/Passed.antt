@@ -4,15 +4,15 @@ use Prim.Native.Nat.{ℕ}
 use mathlib.Core.Path.{◌≡◌, ap, ◌∙◌}
 use mathlib.Core.Bool.{Bool}
 use mathlib.Core.List.{List}
+use Rattle.atx.specs.Heading.{Headed}
+use Rattle.record.specs.Check.{Reading}
 use Rattle.record.specs.Outcome.{Outcome}
 use Rattle.record.specs.Promise.{Read, Writes}
 use Rattle.record.specs.declared.form.Form.{Form}
 use Rattle.record.specs.declared.form.Handed.{Handed}
-use Rattle.record.specs.declared.check.Reading.{Reading}
 use Rattle.atx.specs.Promise.{HeadedBy}
 use Rattle.lines.specs.Going.{going_of}
 use Rattle.lines.specs.declared.container.Kind.{Kind}
-use Rattle.atx.specs.declared.Headed.{Headed}
 use Rattle.ledgerlark.specs.Answers.{lark_reading2, lark_headed, kind_of, ReadBy, HeadedAs}
 use Rattle.ledgerlark.specs.declared.resolve.LarkReading2.{LarkReading2}
 use Rattle.ledgerlark.specs.declared.resolve.LarkResolved.{LarkResolved}

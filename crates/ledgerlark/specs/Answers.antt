@@ -1,38 +1,31 @@
 -- What the exported calls promise: document 01's numbers of each answer, and the promise of the call below.
 -- Assumes nothing.
-use Rattle.std.specs.Prelude.{ℕ, ◌%◌, ◌≡◌, Bool, not, List, length, replicate, eqb}
+use Rattle.std.specs.Prelude.{ℕ, ◌%◌, ◌≡◌, Bool, not, List, length, replicate, eqb, Result, Ok, Err}
 use Rattle.record.specs.Choice.{choose}
-use Rattle.record.specs.Check.{admitted}
+use Rattle.record.specs.Check.{Reading, admitted}
 use Rattle.record.specs.Handed.{form_of, options_of}
 use Rattle.record.specs.Outcome.{Outcome, onto}
 use Rattle.record.specs.Promise as read
 use Rattle.record.specs.Promise.{Writes}
+use Rattle.record.specs.declared.check.Refusal.{Refusal}
 use Rattle.record.specs.declared.form.Handed.{Handed}
 use Rattle.record.specs.declared.form.Handed.TheVariants.{Old, Second}
-use Rattle.record.specs.declared.check.Reading.{Reading}
-use Rattle.record.specs.declared.check.Reading.TheVariants.{Good, Refused}
 use Rattle.runs.specs.Rule.{Profile}
 use Rattle.attention.specs.Promise as attention
-use Rattle.attention.specs.declared.call.Answer.{Answer as AttentionAnswer}
 use Rattle.heading.specs.Promise as heading
-use Rattle.heading.specs.declared.resolve.Answer.{Answer as HeadingAnswer}
 use Rattle.list.specs.Promise as list
-use Rattle.list.specs.declared.call.Answer.{Answer as ListAnswer}
 use Rattle.lines.specs.Spaces as spaces
-use Rattle.lines.specs.Spaces.{spaces_of}
+use Rattle.lines.specs.Spaces.{spaces_of, Spaces}
 use Rattle.lines.specs.Item as item
-use Rattle.lines.specs.Item.{start_of}
+use Rattle.lines.specs.Item.{start_of, Start}
 use Rattle.lines.specs.Going as going
 use Rattle.lines.specs.Going.{going_of}
 use Rattle.atx.specs.Heading as atx
-use Rattle.atx.specs.Heading.{headed_of}
-use Rattle.lines.specs.declared.spaces.Spaces.{Spaces}
-use Rattle.lines.specs.declared.item.Start.{Start}
+use Rattle.atx.specs.Heading.{headed_of, Headed}
 use Rattle.lines.specs.declared.container.Kind.{Kind}
 use Rattle.lines.specs.declared.container.Kind.TheVariants.{Bullet, Ordered}
 use Rattle.lines.specs.declared.container.Container.{Container}
 use Rattle.lines.specs.declared.going.Going.{Going}
-use Rattle.atx.specs.declared.Headed.{Headed}
 use Rattle.ledgerlark.specs.declared.resolve.LarkReading.{LarkReading}
 use Rattle.ledgerlark.specs.declared.resolve.LarkReading2.{LarkReading2}
 use Rattle.ledgerlark.specs.declared.resolve.LarkResolved.{LarkResolved}
@@ -49,10 +42,10 @@ lark_reading r =
 
 -- form 2 has the options beside the counts, "read from the record"; a refusal has none
 abbrev pub lark_reading2 : ℕ → Reading → LarkReading2
-lark_reading2 options (Good d e) = record { number = 0; place = 0; options = options; document = d; events = e }
-lark_reading2 options (Refused x) = record { number = x.number; place = x.place; options = 0; document = 0; events = 0 }
+lark_reading2 options (Ok c) = record { number = 0; place = 0; options = options; document = c.document; events = c.events }
+lark_reading2 options (Err x) = record { number = x.number; place = x.place; options = 0; document = 0; events = 0 }
 
-abbrev pub lark_attention : AttentionAnswer → LarkResolved
+abbrev pub lark_attention : attention.Answer → LarkResolved
 lark_attention r =
     record {
       number = (attention.numbers_of r).number;
@@ -63,11 +56,11 @@ lark_attention r =
     }
 
 -- headings and lists have neither groups nor candidates
-abbrev pub lark_headings : HeadingAnswer → LarkResolved
+abbrev pub lark_headings : Result ℕ Refusal → LarkResolved
 lark_headings r =
     record { number = (heading.numbers_of r).number; place = (heading.numbers_of r).place; events = (heading.numbers_of r).events; groups = 0; tried = 0 }
 
-abbrev pub lark_lists : ListAnswer → LarkResolved
+abbrev pub lark_lists : Result ℕ Refusal → LarkResolved
 lark_lists r = record { number = (list.numbers_of r).number; place = (list.numbers_of r).place; events = (list.numbers_of r).events; groups = 0; tried = 0 }
 
 abbrev pub lark_spaces : Spaces → LarkSpaces
@@ -93,7 +86,7 @@ lark_item r =
       mark = (item.numbers_of r).mark;
     }
 
-abbrev pub lark_going : Going → LarkGoing
+abbrev pub lark_going : Result Going Refusal → LarkGoing
 lark_going r =
     record {
       number = (going.numbers_of r).number;

@@ -1,15 +1,13 @@
 // The calls on a line.
 
 ghost use Rattle.std.specs.Prelude.{◌≡◌};
-ghost use Rattle.scan.specs.Line.{flag};
-ghost use Rattle.lines.specs.Item.{mark_of};
 ghost use Rattle.ledgerlark.specs.Answers.{kind_of, lark_spaces, lark_item, lark_going, lark_headed, SpacesAs, ItemAs, GoingAs, HeadedAs};
 
-use atx::Headed;
 use lines::container::{Container, Kind};
 use lines::going::Going;
-use lines::item::Start;
-use lines::spaces::Spaces;
+use lines::item::Item;
+use lines::spaces::Taken;
+use record::check::Refusal;
 
 #[repr(C)]
 #[derive(Clone, Copy)]
@@ -54,102 +52,73 @@ pub struct LarkHeaded {
     pub events: usize,
 }
 
-// A flag as a number.
-fn flag_of(set: bool) -> usize
-    ensures { result ≡ flag set }
-{
-    if set {
-        return 1;
-    }
-    0
-}
-
-// The mark's byte.
-fn mark_of(kind: Kind) -> usize
-    ensures { result ≡ mark_of kind }
-{
-    match kind {
-        Kind::Bullet(mark) => {
-            return mark as usize;
-        }
-        Kind::Ordered(mark) => {
-            return mark as usize;
-        }
-    }
-}
-
 // The kind of container that a mark's number stands for: `.` and `)` make an ordered one, all else a bulleted one.
 fn kind_of(mark: u32) -> Kind
     ensures { result ≡ kind_of mark }
 {
-    if mark == 46 {
-        return Kind::Ordered(46);
+    match mark {
+        46 => Kind::Ordered(b'.'),
+        41 => Kind::Ordered(b')'),
+        _ => Kind::Bullet((mark % 256) as u8),
     }
-    if mark == 41 {
-        return Kind::Ordered(41);
-    }
-    Kind::Bullet((mark % 256) as u8)
 }
 
 // The numbers of an answer about space-or-tab.
-fn spaces_of(found: Spaces) -> LarkSpaces
-    ensures { result ≡ lark_spaces found }
-{
-    match found {
-        Spaces::Taken { taken, left } => {
-            return LarkSpaces {
+impl From<Result<Option<Taken>, Refusal>> for LarkSpaces {
+    ghost from_gives = { λ found numbers. numbers ≡ lark_spaces found };
+
+    fn from(found: Result<Option<Taken>, Refusal>) -> LarkSpaces {
+        match found {
+            Ok(Some(Taken { bytes, left })) => LarkSpaces {
                 number: 0,
                 place: 0,
                 found: 1,
-                taken,
+                taken: bytes,
                 left,
-            };
-        }
-        Spaces::TooFew => {
-            return LarkSpaces {
+            },
+            Ok(None) => LarkSpaces {
                 number: 0,
                 place: 0,
                 found: 0,
                 taken: 0,
                 left: 0,
-            };
-        }
-        Spaces::Refused(refusal) => {
-            return LarkSpaces {
-                number: refusal.number,
-                place: refusal.place,
+            },
+            Err(Refusal { number, place }) => LarkSpaces {
+                number,
+                place,
                 found: 0,
                 taken: 0,
                 left: 0,
-            };
+            },
         }
     }
 }
 
 // The numbers of an answer about a list item's start.
-fn item_of(found: Start) -> LarkItem
-    ensures { result ≡ lark_item found }
-{
-    match found {
-        Start::Item {
-            taken,
-            left,
-            container,
-        } => {
-            let kind = container.kind;
-            return LarkItem {
+impl From<Result<Option<Item>, Refusal>> for LarkItem {
+    ghost from_gives = { λ found numbers. numbers ≡ lark_item found };
+
+    fn from(found: Result<Option<Item>, Refusal>) -> LarkItem {
+        match found {
+            Ok(
+                Some(
+                    Item {
+                        taken,
+                        left,
+                        container,
+                    },
+                ),
+            ) => LarkItem {
                 number: 0,
                 place: 0,
                 found: 1,
                 taken,
                 left,
                 size: container.size,
-                blank: flag_of(container.blank),
-                mark: mark_of(kind),
-            };
-        }
-        Start::NotItem => {
-            return LarkItem {
+                blank: usize::from(container.blank),
+                mark: usize::from(container.kind.mark()),
+            },
+            Ok(None) => LarkItem {
                 number: 0,
                 place: 0,
                 found: 0,
@@ -158,93 +127,85 @@ fn item_of(found: Start) -> LarkItem
                 size: 0,
                 blank: 0,
                 mark: 0,
-            };
-        }
-        Start::Refused(refusal) => {
-            return LarkItem {
-                number: refusal.number,
-                place: refusal.place,
+            },
+            Err(Refusal { number, place }) => LarkItem {
+                number,
+                place,
                 found: 0,
                 taken: 0,
                 left: 0,
                 size: 0,
                 blank: 0,
                 mark: 0,
-            };
+            },
         }
     }
 }
 
 // The numbers of an answer about continuation.
-fn going_of(found: Going) -> LarkGoing
-    ensures { result ≡ lark_going found }
-{
-    match found {
-        Going::Goes {
-            taken,
-            left,
-            container,
-        } => {
-            return LarkGoing {
+impl From<Result<Going, Refusal>> for LarkGoing {
+    ghost from_gives = { λ found numbers. numbers ≡ lark_going found };
+
+    fn from(found: Result<Going, Refusal>) -> LarkGoing {
+        match found {
+            Ok(
+                Going::Goes {
+                    taken,
+                    left,
+                    container,
+                },
+            ) => LarkGoing {
                 number: 0,
                 place: 0,
                 found: 1,
                 taken,
                 left,
-                blank: flag_of(container.blank),
-            };
-        }
-        Going::Stops { container } => {
-            return LarkGoing {
+                blank: usize::from(container.blank),
+            },
+            Ok(Going::Stops { container }) => LarkGoing {
                 number: 0,
                 place: 0,
                 found: 0,
                 taken: 0,
                 left: 0,
-                blank: flag_of(container.blank),
-            };
-        }
-        Going::Refused(refusal) => {
-            return LarkGoing {
-                number: refusal.number,
-                place: refusal.place,
+                blank: usize::from(container.blank),
+            },
+            Err(Refusal { number, place }) => LarkGoing {
+                number,
+                place,
                 found: 0,
                 taken: 0,
                 left: 0,
                 blank: 0,
-            };
+            },
         }
     }
 }
 
 // The numbers of an answer of the heading reader.
-fn headed_of(found: Headed) -> LarkHeaded
-    ensures { result ≡ lark_headed found }
-{
-    match found {
-        Headed::Heading { events } => {
-            return LarkHeaded {
+impl From<Result<Option<usize>, Refusal>> for LarkHeaded {
+    ghost from_gives = { λ found numbers. numbers ≡ lark_headed found };
+
+    fn from(found: Result<Option<usize>, Refusal>) -> LarkHeaded {
+        match found {
+            Ok(Some(events)) => LarkHeaded {
                 number: 0,
                 place: 0,
                 found: 1,
                 events,
-            };
-        }
-        Headed::NotHeading => {
-            return LarkHeaded {
+            },
+            Ok(None) => LarkHeaded {
                 number: 0,
                 place: 0,
                 found: 0,
                 events: 0,
-            };
-        }
-        Headed::Refused(refusal) => {
-            return LarkHeaded {
-                number: refusal.number,
-                place: refusal.place,
+            },
+            Err(Refusal { number, place }) => LarkHeaded {
+                number,
+                place,
                 found: 0,
                 events: 0,
-            };
+            },
         }
     }
 }
@@ -259,14 +220,14 @@ pub fn lark_space_or_tab(
 ) -> LarkSpaces
     ensures { SpacesAs line.now options column min max result }
 {
-    spaces_of(lines::spaces::space_or_tab(line, options, column, min, max))
+    LarkSpaces::from(lines::spaces::space_or_tab(line, options, column, min, max))
 }
 
 // A list item that starts on a line.
 pub fn lark_list_item(line: &[u8], options: u32, column: usize, interrupting: u32) -> LarkItem
     ensures { ItemAs line.now options column interrupting result }
 {
-    item_of(lines::item::list_item(line, options, column, interrupting != 0))
+    LarkItem::from(lines::item::list_item(line, options, column, interrupting != 0))
 }
 
 // Whether a line goes on with a list item.
@@ -286,12 +247,12 @@ pub fn lark_continuation(
         size,
         blank: blank != 0,
     };
-    going_of(lines::going::continuation(line, options, column, held))
+    LarkGoing::from(lines::going::continuation(line, options, column, held))
 }
 
 // A heading's events, not yet resolved.
 pub fn lark_heading(line: &[u8], options: u32, column: usize, out: &mut [u8]) -> LarkHeaded
     ensures { HeadedAs line.now options column out.old result out.new }
 {
-    headed_of(atx::heading(line, options, column, out))
+    LarkHeaded::from(atx::heading(line, options, column, out))
 }

@@ -6,6 +6,7 @@ use mathlib.Core.List.{List}
 use Prim.Native.Nat.{ℕ, ◌+◌}
 use native.Mathlib.Omega.{arith}
 use lib.ListN.{drop}
+use Rattle.std.specs.Prelude.{None, Option, Some}
 use Rattle.scan.specs.Columns.{columns, indentation}
 use Rattle.scan.specs.declared.columns.Reach.{Reach}
 use Rattle.lines.specs.Spaces.{spaces_in}
@@ -15,7 +16,6 @@ use Rattle.lines.specs.Laws.{EveryFour}
 use Rattle.lines.specs.declared.container.Kind.{Kind}
 use Rattle.lines.specs.declared.container.Container.{Container}
 use Rattle.lines.specs.declared.item.Marker.{Marker}
-use Rattle.lines.specs.declared.item.Marker.TheVariants.{Marked, Unmarked}
 use Rattle.scan.proofs.InColumns.{every_four}
 use Rattle.scan.proofs.Taken.{indent_four}
 
@@ -27,12 +27,12 @@ after_four : (z : Bool) (kind : Kind) (before : Reach) (c : ℕ) (rest : List �
 unfolding start_after
 after_four z kind before c rest = rw (filled_four kind before c rest)
 
-from_four : (z : Bool) (column : ℕ) (indent : Reach) (m : Marker) (l : List ℕ) → start_from z (column + 4) indent m l ≡ start_from z column indent m l
+from_four : (z : Bool) (column : ℕ) (indent : Reach) (m : Option Marker) (l : List ℕ) → start_from z (column + 4) indent m l ≡ start_from z column indent m l
 unfolding start_from
-from_four z column indent Unmarked l = refl
-from_four z column indent (Marked kind width) l =
-    let e : column + 4 + (indent.columns + width) ≡ column + (indent.columns + width) + 4 = omega arith in
-    rw e (after_four z kind (up_to_marker indent width) (column + (indent.columns + width)) (drop width l))
+from_four z column indent None l = refl
+from_four z column indent (Some m) l =
+    let e : column + 4 + (indent.columns + m.width) ≡ column + (indent.columns + m.width) + 4 = omega arith in
+    rw e (after_four z m.kind (up_to_marker indent m.width) (column + (indent.columns + m.width)) (drop m.width l))
 
 start_four : (l : List ℕ) (options column : ℕ) (z : Bool) → start_in l options (column + 4) z ≡ start_in l options column z
 unfolding start_in start_at

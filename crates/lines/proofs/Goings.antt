@@ -3,22 +3,22 @@
 use mathlib.Core.Path.{◌≡◌, refl, sym, ap, ◌∙◌}
 use mathlib.Core.Bool.{Bool, true, false}
 use mathlib.Core.List.{List}
-use Prim.Native.Nat.{ℕ, ◌-◌, ◌≤◌, ◌<◌}
+use Prim.Native.Nat.{ℕ, ◌≤◌, ◌<◌}
 use native.Mathlib.Omega.{arith}
-use lib.ListN.{take, drop}
+use lib.ListN.{take}
 use lib.Dec.{leb}
 use borrow.Author.Tests.{le-leb, lt-leb, leb-true, leb-false}
+use Rattle.std.specs.Prelude.{Ok}
 use Rattle.record.specs.Choice.{choose, and}
 use Rattle.scan.specs.Run.{space_or_tab, first, blank}
 use Rattle.scan.specs.Columns.{columns, reach}
 use Rattle.scan.specs.Line.{checked_line}
 use Rattle.lines.specs.Going.{cleared, blank_going, filled_going, going_in, going_of}
 use Rattle.scan.specs.declared.columns.Reach.{Reach}
-use Rattle.scan.specs.declared.line.Checked.TheVariants.{Ends}
 use Rattle.lines.specs.declared.container.Container.{Container}
 use Rattle.lines.specs.declared.going.Going.{Going}
-use Rattle.lines.specs.declared.going.Going.TheVariants.{Goes, Stops, Refused}
-use Rattle.scan.proofs.Checks.{found_by}
+use Rattle.lines.specs.declared.going.Going.TheVariants.{Goes, Stops}
+use Rattle.scan.proofs.Checks.{found_as}
 use Rattle.scan.proofs.InColumns.{columns_none, reach_counted}
 use Rattle.scan.proofs.Taken.{columns_full, some_columns}
 
@@ -65,6 +65,6 @@ module _ (l : List ℕ) (column : ℕ) (held : Container) (r : Reach) (k : r ≡
       enough_goes m = rw (h, le-leb _ _ some, le-leb _ _ (enough m), ← k, c)
 
 pub going_found : (s : List ℕ) (options column : ℕ) (held : Container) (n : ℕ) (r : Going) →
-    Ends n ≡ checked_line s options column → r ≡ going_in (take (n - 0) (drop 0 s)) column held → r ≡ going_of s options column held
+    Ok n ≡ checked_line s options column → r ≡ going_in (take n s) column held → Ok r ≡ going_of s options column held
 unfolding going_of
-going_found s options column held n r q e = found_by s options column Refused (λ (l : List ℕ). going_in l column held) n r q e
+going_found s options column held n r q e = found_as s options column (λ (l : List ℕ). going_in l column held) n r q e

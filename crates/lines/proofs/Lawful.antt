@@ -10,6 +10,9 @@ use lib.ListN.{length, drop, length-drop}
 use lib.Seq.{get_or-drop, drop-drop}
 use lib.Dec.{eqb, leb}
 use borrow.Author.Tests.{leb-true, eqb-true, eqb-false}
+use Rattle.std.specs.Prelude.{Ok, Err, None, Option, Some, Result}
+use Rattle.lines.specs.declared.item.Item.{Item}
+use Rattle.lines.specs.declared.spaces.Taken.{Taken}
 use Rattle.record.specs.Choice.{choose, and}
 use Rattle.record.specs.Options.{option_on}
 use Rattle.record.specs.declared.check.Refusal.{Refusal}
@@ -17,30 +20,25 @@ use Rattle.record.proofs.Bools.{clash}
 use Rattle.record.proofs.Chosen.{chosen}
 use Rattle.scan.specs.Run.{or, space_or_tab, digit, leading, first}
 use Rattle.scan.specs.Columns.{columns, reach, indentation, ReachTo}
-use Rattle.scan.specs.Line.{line_of, checked_line, reading}
-use Rattle.lines.specs.Spaces.{spaces_in, spaces_of}
-use Rattle.lines.specs.Item.{bullet_mark, marker_of, container, padding, up_to_marker, filled_start, start_after, start_from, start_at, start_in, start_of}
+use Rattle.scan.specs.Line.{line_of, checked_line, reading, Checked}
+use Rattle.lines.specs.Spaces.{spaces_in, spaces_of, takes}
+use Rattle.lines.specs.Item.{bullet_mark, marker_of, container, padding, up_to_marker, filled_start, start_after, start_from, start_at, start_in, start_of, starts}
 use Rattle.lines.specs.Going.{cleared, goes_to, blank_going, filled_going, going_in, going_of}
 use Rattle.lines.specs.Laws.{LeftLaws, TakenLaws, ItemLaws, TooDeep, GoesLaws}
 use Rattle.scan.specs.declared.columns.Reach.{Reach}
-use Rattle.scan.specs.declared.line.Checked.{Checked}
-use Rattle.scan.specs.declared.line.Checked.TheVariants.{Ends, Bad}
 use Rattle.lines.specs.declared.container.Kind.{Kind}
 use Rattle.lines.specs.declared.container.Container.{Container}
-use Rattle.lines.specs.declared.spaces.Spaces.TheVariants.{Taken, TooFew, Refused as SpacesRefused}
 use Rattle.lines.specs.declared.item.Marker.{Marker}
-use Rattle.lines.specs.declared.item.Marker.TheVariants.{Marked, Unmarked}
-use Rattle.lines.specs.declared.item.Start.TheVariants.{Item, NotItem, Refused as StartRefused}
-use Rattle.lines.specs.declared.going.Going.TheVariants.{Goes, Stops, Refused as GoingRefused}
+use Rattle.lines.specs.declared.going.Going.TheVariants.{Goes, Stops}
 use Rattle.scan.proofs.InColumns.{reach_counted, going_on}
 use Rattle.scan.proofs.Taken.{columns_full, columns_first, indent_reach, indent_fits, reach_narrow, left_most}
 use Rattle.lines.proofs.Marks.{Told, told, no_bullet, no_digits}
 
 -- an answer that is no refusal is what is found on the line
-pub not_refused : {A : Type 0} (c : Checked) (bad : Refusal → A) (found r : A) → ((x : Refusal) → r ≡ bad x → ⊥) → r ≡ reading c bad found → r ≡ found
+pub found_in : {A : Type 0} (c : Checked) (found r : A) → ◌≡◌ {A = Result A Refusal} (Ok r) (reading c Err (Ok found)) → r ≡ found
 unfolding reading
-not_refused (Ends n) bad found r never q = q
-not_refused (Bad x) bad found r never q = absurd (never x q)
+found_in (Ok n) found r q = cc
+found_in (Err x) found r q = let z : ◌≡◌ {A = ℕ} 0 1 = cc in absurd (omega arith)
 
 -- what a reach leaves
 left_lawful : (max c : ℕ) (l : List ℕ) (r : Reach) → ReachTo max c l r → LeftLaws l r.bytes r.left
@@ -63,16 +61,15 @@ left_at : (l : List ℕ) (m n j k : ℕ) → m ≡ n → j ≡ k → LeftLaws l 
 left_at l m n j k p q t = rw (p, q) t
 
 -- space-or-tab
-pub taken_not_few : (n left : ℕ) → Taken n left ≡ TooFew → ⊥
+pub taken_not_few : (n left : ℕ) → takes n left ≡ None → ⊥
 taken_not_few n left q = let z : ◌≡◌ {A = ℕ} 0 1 = cc in omega arith
 
-pub same_taken : (m n j k : ℕ) → Taken m j ≡ Taken n k → (m ≡ n) × (j ≡ k)
-same_taken m n j k q = (cc, cc)
+pub same_taken : (m n j k : ℕ) → takes m j ≡ takes n k → (m ≡ n) × (j ≡ k)
+same_taken m n j k q =
+    let r : ◌≡◌ {A = Taken} (record { bytes = m; left = j }) (record { bytes = n; left = k }) = cc in
+    (ap (λ (x : Taken). x.bytes) r, ap (λ (x : Taken). x.left) r)
 
-taken_not_refused : (n left : ℕ) (x : Refusal) → Taken n left ≡ SpacesRefused x → ⊥
-taken_not_refused n left x q = let z : ◌≡◌ {A = ℕ} 0 1 = cc in omega arith
-
-taken_lawful : (l : List ℕ) (column min max n left : ℕ) → Taken n left ≡ spaces_in l column min max → TakenLaws l column min max n left
+taken_lawful : (l : List ℕ) (column min max n left : ℕ) → takes n left ≡ spaces_in l column min max → TakenLaws l column min max n left
 unfolding spaces_in
 taken_lawful l column min max n left q =
     let r : Reach = reach max column l in
@@ -90,22 +87,21 @@ taken_lawful l column min max n left q =
     (λ w. absurd (taken_not_few n left w.1))
     (chosen _ _ _ _ q)
 
-pub spaces_lawful : (s : List ℕ) (options column min max n left : ℕ) → Taken n left ≡ spaces_of s options column min max →
+pub spaces_lawful : (s : List ℕ) (options column min max n left : ℕ) → Ok (takes n left) ≡ spaces_of s options column min max →
     TakenLaws (line_of s) column min max n left
 unfolding spaces_of
 spaces_lawful s options column min max n left q =
     taken_lawful (line_of s) column min max n left
-    (not_refused (checked_line s options column) SpacesRefused (spaces_in (line_of s) column min max) (Taken n left) (taken_not_refused n left) q)
+    (found_in (checked_line s options column) _ _ q)
 
 -- list item start
-pub item_not : (taken left : ℕ) (held : Container) → Item taken left held ≡ NotItem → ⊥
+pub item_not : (taken left : ℕ) (held : Container) → starts taken left held ≡ None → ⊥
 item_not taken left held q = let z : ◌≡◌ {A = ℕ} 0 1 = cc in omega arith
 
-item_not_refused : (taken left : ℕ) (held : Container) (x : Refusal) → Item taken left held ≡ StartRefused x → ⊥
-item_not_refused taken left held x q = let z : ◌≡◌ {A = ℕ} 0 1 = cc in omega arith
-
-pub same_start : (m n j k : ℕ) (a b : Container) → Item m j a ≡ Item n k b → (m ≡ n) × (j ≡ k) × (a ≡ b)
-same_start m n j k a b q = (cc, cc, cc)
+pub same_start : (m n j k : ℕ) (a b : Container) → starts m j a ≡ starts n k b → (m ≡ n) × (j ≡ k) × (a ≡ b)
+same_start m n j k a b q =
+    let r : ◌≡◌ {A = Item} (record { taken = m; left = j; container = a }) (record { taken = n; left = k; container = b }) = cc in
+    (ap (λ (x : Item). x.taken) r, ap (λ (x : Item). x.left) r, ap (λ (x : Item). x.container) r)
 
 -- the padding of a filled start: one to four, and no more than is there
 padding_is : (n : ℕ) → padding n ≡ choose (leb n 4) n 1
@@ -142,7 +138,7 @@ module _ (l : List ℕ) (options column : ℕ) (z : Bool) (kind : Kind) (width :
   narrow = reach_narrow _ _ _ _ (indent_reach options column l).1
 
   -- what is told of an item whose size and flag are known
-  blank_item : Item taken left held ≡ Item (indent.bytes + width) 0 (container kind (indent.columns + width + 1) true) →
+  blank_item : starts taken left held ≡ starts (indent.bytes + width) 0 (container kind (indent.columns + width + 1) true) →
       ItemLaws l options column taken left held
   blank_item q =
       let e = same_start _ _ _ _ _ _ q in
@@ -162,7 +158,7 @@ module _ (l : List ℕ) (options column : ℕ) (z : Bool) (kind : Kind) (width :
       }
 
   filled_item : (r : Reach) → r ≡ reach (padding (columns here after)) here after → (columns here after ≡ 0 → ⊥) →
-      Item taken left held ≡ Item (indent.bytes + width + r.bytes) r.left (container kind (indent.columns + width + r.columns) false) →
+      starts taken left held ≡ starts (indent.bytes + width + r.bytes) r.left (container kind (indent.columns + width + r.columns) false) →
       ItemLaws l options column taken left held
   filled_item r k some q =
       let e = same_start _ _ _ _ _ _ q in
@@ -188,7 +184,7 @@ module _ (l : List ℕ) (options column : ℕ) (z : Bool) (kind : Kind) (width :
         no_break = t.no_break;
       }
 
-  pub after_lawful : Item taken left held ≡ start_after z kind (up_to_marker indent width) here after → ItemLaws l options column taken left held
+  pub after_lawful : starts taken left held ≡ start_after z kind (up_to_marker indent width) here after → ItemLaws l options column taken left held
   unfolding start_after filled_start
   after_lawful q =
       ⊎_elim
@@ -196,22 +192,20 @@ module _ (l : List ℕ) (options column : ℕ) (z : Bool) (kind : Kind) (width :
       (λ w. ⊎_elim (λ v. absurd (item_not _ _ _ v.1)) (λ v. filled_item _ refl (eqb-false _ _ v.0) v.1) (chosen _ _ _ _ w.1))
       (chosen _ _ _ _ q)
 
-from_lawful : (l : List ℕ) (options column : ℕ) (z : Bool) (m : Marker) → m ≡ marker_of z (drop (indentation options column l).bytes l) →
+from_lawful : (l : List ℕ) (options column : ℕ) (z : Bool) (m : Option Marker) → m ≡ marker_of z (drop (indentation options column l).bytes l) →
     (taken left : ℕ) (held : Container) →
-    Item taken left held ≡ start_from z column (indentation options column l) m (drop (indentation options column l).bytes l) →
+    starts taken left held ≡ start_from z column (indentation options column l) m (drop (indentation options column l).bytes l) →
     ItemLaws l options column taken left held
 unfolding start_from
-from_lawful l options column z Unmarked e taken left held q = absurd (item_not taken left held q)
-from_lawful l options column z (Marked kind width) e taken left held q =
-    after_lawful l options column z kind width (told z _ kind width e) taken left held q
+from_lawful l options column z None e taken left held q = absurd (item_not taken left held q)
+from_lawful l options column z (Some m) e taken left held q =
+    after_lawful l options column z m.kind m.width (told z _ m.kind m.width e) taken left held q
 
 pub start_lawful : (s : List ℕ) (options column : ℕ) (z : Bool) (taken left : ℕ) (held : Container) →
-    Item taken left held ≡ start_of s options column z → ItemLaws (line_of s) options column taken left held
+    Ok (starts taken left held) ≡ start_of s options column z → ItemLaws (line_of s) options column taken left held
 unfolding start_of start_in start_at
 start_lawful s options column z taken left held q =
-    let p =
-    not_refused (checked_line s options column) StartRefused (start_in (line_of s) options column z) (Item taken left held) (item_not_refused taken left held) q
-    in
+    let p = found_in (checked_line s options column) _ _ q in
     ⊎_elim
     (λ w. from_lawful (line_of s) options column z _ refl taken left held w.1)
     (λ w. absurd (item_not taken left held w.1))
@@ -240,9 +234,9 @@ unfolding leading choose
 no_run kind [] e = omega arith
 no_run kind (b ∷ l) e = rw e (omega arith)
 
-pub blank_unmarked : (z : Bool) (l : List ℕ) → space_or_tab (first l) ≡ true → Unmarked ≡ marker_of z l
+pub blank_unmarked : (z : Bool) (l : List ℕ) → space_or_tab (first l) ≡ true → None ≡ marker_of z l
 blank_unmarked z l e =
-    no_bullet l z (first l) refl (blank_no_bullet (first l) e) Unmarked (no_digits l (leading digit l) refl z (no_run digit l (blank_no_digit (first l) e)))
+    no_bullet l z (first l) refl (blank_no_bullet (first l) e) None (no_digits l (leading digit l) refl z (no_run digit l (blank_no_digit (first l) e)))
 
 -- a choice between two of the same
 same_both : {A : Type 0} (b : Bool) (x y : A) → x ≡ y → choose b x y ≡ y
@@ -250,7 +244,7 @@ unfolding choose
 same_both true x y e = e
 same_both false x y e = refl
 
-unmarked_starts : (z : Bool) (column : ℕ) (indent : Reach) (l : List ℕ) → Unmarked ≡ marker_of z l → start_at z column indent l ≡ NotItem
+unmarked_starts : (z : Bool) (column : ℕ) (indent : Reach) (l : List ℕ) → None ≡ marker_of z l → start_at z column indent l ≡ None
 unfolding start_at start_from
 unmarked_starts z column indent l e = rw (← e)
 
@@ -273,9 +267,6 @@ too_deep l options column z o h =
 -- continuation
 pub goes_not : (taken left : ℕ) (a b : Container) → Goes taken left a ≡ Stops b → ⊥
 goes_not taken left a b q = let z : ◌≡◌ {A = ℕ} 0 1 = cc in omega arith
-
-goes_not_refused : (taken left : ℕ) (a : Container) (x : Refusal) → Goes taken left a ≡ GoingRefused x → ⊥
-goes_not_refused taken left a x q = let z : ◌≡◌ {A = ℕ} 0 1 = cc in omega arith
 
 pub same_goes : (m n j k : ℕ) (a b : Container) → Goes m j a ≡ Goes n k b → (m ≡ n) × (j ≡ k) × (a ≡ b)
 same_goes m n j k a b q = (cc, cc, cc)
@@ -305,8 +296,8 @@ module _ (l : List ℕ) (column : ℕ) (held : Container) (taken left : ℕ) (he
       (chosen _ _ _ _ q)
 
 pub going_lawful : (s : List ℕ) (options column : ℕ) (held : Container) (taken left : ℕ) (held' : Container) →
-    Goes taken left held' ≡ going_of s options column held → GoesLaws (line_of s) held taken left held'
+    Ok (Goes taken left held') ≡ going_of s options column held → GoesLaws (line_of s) held taken left held'
 unfolding going_of
 going_lawful s options column held taken left held' q =
     goes_lawful (line_of s) column held taken left held'
-    (not_refused (checked_line s options column) GoingRefused (going_in (line_of s) column held) (Goes taken left held') (goes_not_refused taken left held') q)
+    (found_in (checked_line s options column) _ _ q)

@@ -1,6 +1,6 @@
 -- Marks of thematic breaks and list items, case by case, and the loop that counts a mark.
 -- Assumes nothing.
-use mathlib.Core.Path.{◌≡◌, refl, sym, ◌∙◌}
+use mathlib.Core.Path.{ap, ◌≡◌, refl, sym, ◌∙◌}
 use mathlib.Core.Bool.{Bool, true, false}
 use mathlib.Core.Logic.{⊎_elim}
 use mathlib.Core.List.{List, [], ◌∷◌}
@@ -12,15 +12,15 @@ use lib.ListN.{length, get_or, drop, drop_of_length-le}
 use lib.Dec.{leb}
 use lib.Seq.{drop-cons}
 use borrow.Author.Tests.{eq-eqb, ne_eqb, le-leb, lt-leb, leb-true}
+use Rattle.std.specs.Prelude.{eqb, None, Option}
 use Rattle.record.specs.Choice.{choose, and}
 use Rattle.record.proofs.Bools.{and_left, and_right, and_false}
 use Rattle.record.proofs.Chosen.{chosen}
 use Rattle.scan.specs.Run.{or, space_or_tab, digit, leading, every, count, first}
-use Rattle.lines.specs.Item.{break_mark, is_mark, mark_or_blank, marks_only, thematic_break, bullet_mark, ordered_mark, starts_with_one, may_start, ordered_of, marker_of}
+use Rattle.lines.specs.Item.{break_mark, is_mark, mark_or_blank, marks_only, thematic_break, bullet_mark, ordered_mark, starts_with_one, may_start, ordered_of, marker_of, marked}
 use Rattle.lines.specs.declared.container.Kind.{Kind}
 use Rattle.lines.specs.declared.container.Kind.TheVariants.{Bullet, Ordered}
 use Rattle.lines.specs.declared.item.Marker.{Marker}
-use Rattle.lines.specs.declared.item.Marker.TheVariants.{Marked, Unmarked}
 use Rattle.scan.proofs.Leading.{first_of}
 
 and_true : (b : Bool) → and b true ≡ b
@@ -91,11 +91,8 @@ module _ {mark : ℕ} {l : List ℕ} {marks n : ℕ} (i : Marking mark l marks n
   unfolding marked_rest count every
   all_looked h = rw (drop_of_length-le l {i = n} h, add-zero) (sym (and_true (leb 3 marks)))
 
-  pub too_few_marks : length l ≤ n → marks < 3 → false ≡ marks_only mark l
-  too_few_marks h k = sym (lt-leb 3 marks k) ∙ all_looked h ∙ i.rest
-
-  pub enough_marks : length l ≤ n → 3 ≤ marks → true ≡ marks_only mark l
-  enough_marks h k = sym (le-leb 3 marks k) ∙ all_looked h ∙ i.rest
+  pub marks_counted : length l ≤ n → leb 3 marks ≡ marks_only mark l
+  marks_counted h = all_looked h ∙ i.rest
 
 module _ (l : List ℕ) where
   module _ (b : ℕ) (q : b ≡ first l) where
@@ -116,46 +113,42 @@ module _ (l : List ℕ) where
     unfolding may_start starts_with_one or and
     other_count z e h = rw (e, ← k, ne_eqb _ _ h)
 
-    pub other_digit : (z : Bool) → z ≡ true → n ≡ 1 → (first l ≡ 49 → ⊥) → false ≡ may_start z l
+    pub one_digit : (z : Bool) (b : ℕ) → z ≡ true → n ≡ 1 → b ≡ first l → eqb b 49 ≡ may_start z l
     unfolding may_start starts_with_one or and
-    other_digit z e h d = rw (e, ← k, eq-eqb _ _ h, ne_eqb _ _ d)
-
-    pub just_one : (z : Bool) → z ≡ true → n ≡ 1 → first l ≡ 49 → true ≡ may_start z l
-    unfolding may_start starts_with_one or and
-    just_one z e h d = rw (e, ← k, eq-eqb _ _ h, eq-eqb _ _ d)
+    one_digit z b e h d = rw (e, ← k, eq-eqb _ _ h, ← d)
 
     module _ (z : Bool) where
-      pub no_digits : n < 1 → Unmarked ≡ ordered_of z l
+      pub no_digits : n < 1 → None ≡ ordered_of z l
       unfolding ordered_of choose and
       no_digits h = rw (← k, lt-leb _ _ h)
 
-      pub too_many_digits : 1 ≤ n → 9 < n → Unmarked ≡ ordered_of z l
+      pub too_many_digits : 1 ≤ n → 9 < n → None ≡ ordered_of z l
       unfolding ordered_of choose and
       too_many_digits h m = rw (← k, le-leb _ _ h, lt-leb _ _ m)
 
       module _ (h : 1 ≤ n) (m : n ≤ 9) (b : ℕ) (q : b ≡ get_or l n 0) where
-        pub no_ordered_mark : ordered_mark b ≡ false → Unmarked ≡ ordered_of z l
+        pub no_ordered_mark : ordered_mark b ≡ false → None ≡ ordered_of z l
         unfolding ordered_of choose and
         no_ordered_mark e = rw (← k, le-leb _ _ h, le-leb _ _ m, ← q, e)
 
-        pub may_not_start : ordered_mark b ≡ true → may_start z l ≡ false → Unmarked ≡ ordered_of z l
+        pub may_not_start : ordered_mark b ≡ true → may_start z l ≡ false → None ≡ ordered_of z l
         unfolding ordered_of choose and
         may_not_start e f = rw (← k, le-leb _ _ h, le-leb _ _ m, ← q, e, f)
 
-        pub ordered_marker : ordered_mark b ≡ true → may_start z l ≡ true → Marked (Ordered b) (n + 1) ≡ ordered_of z l
+        pub ordered_marker : ordered_mark b ≡ true → may_start z l ≡ true → marked (Ordered b) (n + 1) ≡ ordered_of z l
         unfolding ordered_of choose and
         ordered_marker e f = rw (← k, le-leb _ _ h, le-leb _ _ m, ← q, e, f)
 
   module _ (z : Bool) (b : ℕ) (q : b ≡ first l) where
-    pub no_bullet : bullet_mark b ≡ false → (r : Marker) → r ≡ ordered_of z l → r ≡ marker_of z l
+    pub no_bullet : bullet_mark b ≡ false → (r : Option Marker) → r ≡ ordered_of z l → r ≡ marker_of z l
     unfolding marker_of choose
     no_bullet e r o = rw (← q, e) o
 
-    pub a_break : bullet_mark b ≡ true → thematic_break l ≡ true → Unmarked ≡ marker_of z l
+    pub a_break : bullet_mark b ≡ true → thematic_break l ≡ true → None ≡ marker_of z l
     unfolding marker_of choose
     a_break e t = rw (← q, e, t)
 
-    pub bullet_marker : bullet_mark b ≡ true → thematic_break l ≡ false → Marked (Bullet b) 1 ≡ marker_of z l
+    pub bullet_marker : bullet_mark b ≡ true → thematic_break l ≡ false → marked (Bullet b) 1 ≡ marker_of z l
     unfolding marker_of choose
     bullet_marker e t = rw (← q, e, t)
 
@@ -166,11 +159,13 @@ pub record Told (z : Bool) (l : List ℕ) (width : ℕ) : Type 0 where
   pub fits : width ≤ length l
   pub no_break : thematic_break l ≡ false
 
-pub unmarked_not : (kind : Kind) (width : ℕ) → Marked kind width ≡ Unmarked → ⊥
+pub unmarked_not : (kind : Kind) (width : ℕ) → marked kind width ≡ None → ⊥
 unmarked_not kind width q = let x : ◌≡◌ {A = ℕ} 0 1 = cc in omega arith
 
-pub marked_width : (k₁ k₂ : Kind) (m n : ℕ) → Marked k₁ m ≡ Marked k₂ n → m ≡ n
-marked_width k₁ k₂ m n q = cc
+pub marked_width : (k₁ k₂ : Kind) (m n : ℕ) → marked k₁ m ≡ marked k₂ n → m ≡ n
+marked_width k₁ k₂ m n q =
+    let r : ◌≡◌ {A = Marker} (record { kind = k₁; width = m }) (record { kind = k₂; width = n }) = cc in
+    ap (λ (x : Marker). x.width) r
 
 -- a byte that is not the 0 that stands for nothing is there
 there : (l : List ℕ) (n : ℕ) → (get_or l n 0 ≡ 0 → ⊥) → n < length l
@@ -198,7 +193,7 @@ unfolding thematic_break and
 break_needs l e = rw e
 
 bullet_told : (z : Bool) (l : List ℕ) (kind : Kind) (width : ℕ) → bullet_mark (first l) ≡ true →
-    Marked kind width ≡ choose (thematic_break l) Unmarked (Marked (Bullet (first l)) 1) → Told z l width
+    marked kind width ≡ choose (thematic_break l) None (marked (Bullet (first l)) 1) → Told z l width
 bullet_told z l kind width b q =
     ⊎_elim
     (λ w. absurd (unmarked_not kind width w.1))
@@ -208,7 +203,7 @@ bullet_told z l kind width b q =
     record { some = omega arith; narrow = omega arith; fits = omega arith; no_break = w.0 })
     (chosen _ _ _ _ q)
 
-ordered_told : (z : Bool) (l : List ℕ) (kind : Kind) (width : ℕ) → Marked kind width ≡ ordered_of z l → Told z l width
+ordered_told : (z : Bool) (l : List ℕ) (kind : Kind) (width : ℕ) → marked kind width ≡ ordered_of z l → Told z l width
 unfolding ordered_of
 ordered_told z l kind width q =
     ⊎_elim
@@ -222,7 +217,7 @@ ordered_told z l kind width q =
     (λ w. absurd (unmarked_not kind width w.1))
     (chosen _ _ _ _ q)
 
-pub told : (z : Bool) (l : List ℕ) (kind : Kind) (width : ℕ) → Marked kind width ≡ marker_of z l → Told z l width
+pub told : (z : Bool) (l : List ℕ) (kind : Kind) (width : ℕ) → marked kind width ≡ marker_of z l → Told z l width
 unfolding marker_of
 told z l kind width q =
     ⊎_elim (λ w. bullet_told z l kind width w.0 w.1) (λ w. ordered_told z l kind width w.1) (chosen _ _ _ _ q)

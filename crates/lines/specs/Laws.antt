@@ -1,13 +1,12 @@
 -- What a user reads the promises through: statements about the answers, each proved in proofs/Lawful.antt for every line and all arguments.
 -- Assumes nothing.
-use Rattle.std.specs.Prelude.{ℕ, ◌+◌, ◌≤◌, ◌<◌, ◌≡◌, Bool, true, false, List, length, get_or, drop}
+use Rattle.std.specs.Prelude.{ℕ, ◌+◌, ◌≤◌, ◌<◌, ◌≡◌, Bool, true, false, List, length, get_or, drop, None}
 use Rattle.record.specs.Options.{option_on}
 use Rattle.scan.specs.Columns.{columns, indentation}
 use Rattle.lines.specs.Spaces.{spaces_in}
 use Rattle.lines.specs.Item.{thematic_break, start_in}
 use Rattle.lines.specs.Going.{going_in}
 use Rattle.lines.specs.declared.container.Container.{Container}
-use Rattle.lines.specs.declared.item.Start.TheVariants.{NotItem}
 
 -- n bytes of a line were taken, and `left` columns of a tab are left over: no more bytes than it has, and where columns are left, the next byte is a tab, of
 -- which at most 3 are left. How many is said in `tabs`
@@ -44,7 +43,7 @@ pub record ItemLaws (l : List ℕ) (options column taken left : ℕ) (held : Con
 
 -- with option 32, what is indented by more than three columns starts no item
 abbrev pub TooDeep : Type 0
-TooDeep = (l : List ℕ) (options column : ℕ) (interrupting : Bool) → option_on options 32 ≡ true → 3 < columns column l → start_in l options column interrupting ≡ NotItem
+TooDeep = (l : List ℕ) (options column : ℕ) (interrupting : Bool) → option_on options 32 ≡ true → 3 < columns column l → start_in l options column interrupting ≡ None
 
 -- stops stand every four columns: a line that starts four columns further on is answered alike
 pub record FourFurther (l : List ℕ) (column : ℕ) : Type 0 where

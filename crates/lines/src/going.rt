@@ -6,10 +6,10 @@ ghost use Rattle.lines.specs.Going.{going_in, going_of};
 use crate::container::Container;
 use record::check::Refusal;
 use scan::columns::reached;
-use scan::line::{Checked, check_line};
+use scan::line::check_line;
 use scan::run::{byte_at, is_blank, is_blank_line};
 
-// The bytes taken and the columns left of a cut tab, or the finding "not a continuation", each with the container as it then stands; or a refusal.
+// The bytes taken and the columns left of a cut tab, or the finding "not a continuation", each with the container as it then stands.
 #[derive(Clone, Copy)]
 pub enum Going {
     Goes {
@@ -20,7 +20,6 @@ pub enum Going {
     Stops {
         container: Container,
     },
-    Refused(Refusal),
 }
 
 // Whether a line that starts at a column goes on with a container. The size mostly ends where the line is seen not to be blank.
@@ -54,16 +53,15 @@ pub fn going_in(line: &[u8], column: usize, held: Container) -> Going
     }
 }
 
-// The same of a line as it is lent.
-pub fn continuation(line: &[u8], options: u32, column: usize, container: Container) -> Going
+// The same of a line as it is lent, or a refusal.
+pub fn continuation(
+    line: &[u8],
+    options: u32,
+    column: usize,
+    container: Container,
+) -> Result<Going, Refusal>
     ensures { result ≡ going_of line.now options column container }
 {
-    match check_line(line, options, column) {
-        Checked::Bad(refusal) => {
-            return Going::Refused(refusal);
-        }
-        Checked::Ends(end) => {
-            return going_in(&line[0..end], column, container);
-        }
-    }
+    let end = check_line(line, options, column)?;
+    Ok(going_in(&line[..end], column, container))
 }

@@ -2,7 +2,6 @@ mod Reading
 mod Earliest
 pub mod Added
 pub mod Nesting
-mod Onward
 mod Shapes
 mod Nearest
 mod Notings

@@ -3,65 +3,62 @@
 -- Assumes nothing.
 use mathlib.Core.Path.{◌≡◌, refl, sym, ap, ◌∙◌}
 use mathlib.Core.Bool.{Bool, true, false}
-use mathlib.Core.List.{List, ◌∷◌}
-use Prim.Native.Nat.{ℕ, ◌+◌, ◌-◌, ◌≤◌, ◌<◌}
+use mathlib.Core.List.{List, [], ◌∷◌}
+use Prim.Native.Nat.{ℕ, ◌+◌, ◌-◌, ◌≤◌}
 use native.Mathlib.Omega.{arith}
-use lib.ListN.{get_or}
+use lib.ListN.{length}
 use lib.Dec.{eqb}
 use borrow.Author.Tests.{eq-eqb, ne_eqb}
 use Rattle.record.specs.Choice.{choose}
-use Rattle.record.specs.Form.{place_in}
-use Rattle.record.specs.Event.{event_at}
 use Rattle.record.specs.declared.event.Event.{Event}
-use Rattle.record.specs.declared.form.Form.{Form}
-use Rattle.list.specs.Walk.{onward, passing, nearest, mark_in}
-use Rattle.list.proofs.Onward.{onward_none, onward_some}
+use Rattle.list.specs.Walk.{Placed, passing, nearest, mark_in}
+use Rattle.list.proofs.Shapes.{placed_behind}
 
 -- the loop's invariant
-pub record Seeking (document : List ℕ) (f : Form) (s : List ℕ) (d e i k depth : ℕ) : Type 0 where
-  pub within : k ≤ e
-  pub low : depth ≤ k
-  pub rest : nearest document depth (onward f s d e k) ≡ nearest document 0 (onward f s d e i)
+pub record Seeking (document : List ℕ) (all rest : List Event) (depth : ℕ) : Type 0 where
+  pub low : depth + length rest ≤ length all
+  pub placed : Placed document rest
+  pub same : nearest document depth rest ≡ nearest document 0 all
 
-pub start : (document : List ℕ) (f : Form) (s : List ℕ) (d e i : ℕ) → i ≤ e → Seeking document f s d e i i 0
-start document f s d e i h = record { within = h; low = omega arith; rest = refl }
-
-module _ {document : List ℕ} {f : Form} {s : List ℕ} {d e i k depth : ℕ} (v : Seeking document f s d e i k depth) where
-  pub nothing_left : e ≤ k → 0 ≡ nearest document 0 (onward f s d e i)
+module _ {document : List ℕ} {all rest : List Event} {depth : ℕ} (v : Seeking document all rest depth) where
+  pub nothing_left : rest ≡ [] → 0 ≡ nearest document 0 all
   unfolding nearest
-  nothing_left h = sym (ap (λ es. nearest document depth es) (onward_none f s d e k h)) ∙ v.rest
+  nothing_left h = sym (ap (λ es. nearest document depth es) h) ∙ v.same
 
-  module _ (more : k < e) (at : ℕ) (ea : at ≡ place_in f d k) where
-    here : nearest document depth (event_at s at ∷ onward f s d e (k + 1)) ≡ nearest document 0 (onward f s d e i)
-    here = sym (ap (λ es. nearest document depth es) (onward_some f s d e k more at ea)) ∙ v.rest
+  module _ (e : Event) (es : List Event) (c : rest ≡ e ∷ es) where
+    here : nearest document depth (e ∷ es) ≡ nearest document 0 all
+    here = sym (ap (λ es. nearest document depth es) c) ∙ v.same
 
-    module _ (x : get_or s at 0 ≡ 0 → ⊥) where
-      pub parent_left : depth ≡ 0 → 0 ≡ nearest document 0 (onward f s d e i)
+    pub placed_on : Placed document es
+    placed_on = placed_behind document rest 1 es (rw c refl) v.placed
+
+    module _ (x : e.kind ≡ 0 → ⊥) where
+      pub parent_left : depth ≡ 0 → 0 ≡ nearest document 0 all
       unfolding nearest choose
       parent_left z = rw (ne_eqb _ _ x, eq-eqb _ _ z) at here
 
-      pub pair_left : (depth ≡ 0 → ⊥) → Seeking document f s d e i (k + 1) (depth - 1)
+      pub pair_left : (depth ≡ 0 → ⊥) → Seeking document all es (depth - 1)
       unfolding nearest choose
-      pair_left z = record { within = omega arith; low = omega (arith, v.low); rest = rw (ne_eqb _ _ x, ne_eqb _ _ z) at here }
+      pair_left z = record { low = omega (arith, v.low, ap length c); placed = placed_on; same = rw (ne_eqb _ _ x, ne_eqb _ _ z) at here }
 
-    module _ (x : get_or s at 0 ≡ 0) where
-      module _ (y : get_or s (at + 1) 0 ≡ 15) where
-        pub item_found : depth ≡ 0 → (m : ℕ) → m ≡ mark_in document (onward f s d e (k + 1)) → m ≡ nearest document 0 (onward f s d e i)
+    module _ (x : e.kind ≡ 0) where
+      module _ (y : e.name ≡ 15) where
+        pub item_found : depth ≡ 0 → (m : ℕ) → m ≡ mark_in document es → m ≡ nearest document 0 all
         unfolding nearest choose
         item_found z m em = em ∙ rw (eq-eqb _ _ x, eq-eqb _ _ y, eq-eqb _ _ z) at here
 
-        pub item_inside : (depth ≡ 0 → ⊥) → 0 ≡ nearest document 0 (onward f s d e i)
+        pub item_inside : (depth ≡ 0 → ⊥) → 0 ≡ nearest document 0 all
         unfolding nearest choose
         item_inside z = rw (eq-eqb _ _ x, eq-eqb _ _ y, ne_eqb _ _ z) at here
 
-      module _ (y : get_or s (at + 1) 0 ≡ 15 → ⊥) where
-        pub barred : passing depth (get_or s (at + 1) 0) ≡ false → 0 ≡ nearest document 0 (onward f s d e i)
+      module _ (y : e.name ≡ 15 → ⊥) where
+        pub barred : passing depth e.name ≡ false → 0 ≡ nearest document 0 all
         unfolding nearest choose
         barred q = rw (eq-eqb _ _ x, ne_eqb _ _ y, q) at here
 
-        pub passed : passing depth (get_or s (at + 1) 0) ≡ true → Seeking document f s d e i (k + 1) (depth + 1)
+        pub passed : passing depth e.name ≡ true → Seeking document all es (depth + 1)
         unfolding nearest choose
-        passed q = record { within = omega arith; low = omega (arith, v.low); rest = rw (eq-eqb _ _ x, ne_eqb _ _ y, q) at here }
+        passed q = record { low = omega (arith, v.low, ap length c); placed = placed_on; same = rw (eq-eqb _ _ x, ne_eqb _ _ y, q) at here }
 
 -- a look onward from here, where some pairs that it passes may be open, finds this mark; 0 says nothing
 pub record Found (document : List ℕ) (mark : ℕ) (es : List Event) : Type 0 where

@@ -7,21 +7,22 @@ use mathlib.Core.List.{List, [], ◌∷◌}
 use native.Mathlib.Omega.{arith}
 use lib.ListN.{length, take}
 use lib.Dec.{eqb}
+use Rattle.std.specs.Prelude.{Result, Ok, Err}
 use Rattle.record.specs.Choice.{choose}
 use Rattle.record.specs.Form.{place_in}
 use Rattle.record.specs.Handed.{form_of}
 use Rattle.record.specs.Event.{document_in, events_in, enter, exit}
-use Rattle.record.specs.Good.{GoodIn}
-use Rattle.record.specs.Check.{admitted}
+use Rattle.record.specs.Sound.{sound}
+use Rattle.record.specs.Check.{admitted, accept}
 use Rattle.record.specs.Outcome.{offends, gives, settled, onto}
 use Rattle.record.specs.Partners.{balanced, section_in}
 use Rattle.record.specs.Stack.{outer}
 use Rattle.record.specs.Promise.{Answered}
 use Rattle.record.specs.declared.event.Event.{Event}
 use Rattle.record.specs.declared.form.Form.{Form}
+use Rattle.record.specs.declared.listed.Offender.{Offender}
 use Rattle.record.specs.declared.form.Handed.{Handed}
 use Rattle.record.specs.declared.check.Refusal.{Refusal}
-use Rattle.record.specs.declared.check.Reading.TheVariants as reading
 use Rattle.record.proofs.Output.{onto_none}
 use Rattle.partners.proofs.Laws.{sound_balanced}
 use Rattle.partners.proofs.Settled.{offended, too_short, written as section-written}
@@ -29,24 +30,24 @@ use Rattle.list.proofs.Nesting.{nested}
 use Rattle.list.specs.Tree.{Row, written, tree_of}
 use Rattle.list.proofs.Reading.{tree_written}
 use Rattle.list.specs.Lists.{offenders, listed, settling, lists}
-use Rattle.list.specs.Walk.{onward, offenders_in, mark_in, nearest, top, notes, noted, spliced, added}
+use Rattle.list.specs.Walk.{offenders_in, mark_in, nearest, top, notes, noted, spliced, added}
 use Rattle.list.specs.Noting.{finding, Noted}
 use Rattle.list.specs.Promise.{outcome_of, answer_of}
-use Rattle.list.specs.declared.chain.Findings.{Findings}
-use Rattle.list.specs.declared.chain.Findings.TheVariants.{Added, Offends}
-use Rattle.list.specs.declared.call.Answer.{Answer}
-use Rattle.list.specs.declared.call.Answer.TheVariants.{Resolved, Refused}
-use Rattle.list.proofs.Onward.{onward_whole, onward_long}
 use Rattle.list.proofs.Trees.{ended, offenders_written}
 use Rattle.list.proofs.Earliest.{all_shaped}
 use Rattle.list.proofs.Chains.{walked, listed_walked}
 
 -- what a finding says of the offending items and of the notes
-found_offence : (k : ℕ) (ks ns : List ℕ) → Offends k ≡ finding ks ns → (rest : List ℕ) × (ks ≡ k ∷ rest)
-found_offence k [] ns q = let z : ◌≡◌ {A = ℕ} 0 1 = cc in absurd (omega arith)
-found_offence k (j ∷ ks) ns q = let z : k ≡ j = cc in (ks, ap (λ (m : ℕ). m ∷ ks) (sym z))
+event_in : Result ℕ Offender → ℕ
+event_in (Ok n) = n
+event_in (Err o) = o.event
 
-found_none : (n : ℕ) (ks ns : List ℕ) → Added n ≡ finding ks ns → (ks ≡ []) × (n ≡ added ns)
+found_offence : (k : ℕ) (ks ns : List ℕ) → Err (record { event = k }) ≡ finding ks ns → (rest : List ℕ) × (ks ≡ k ∷ rest)
+unfolding event_in
+found_offence k [] ns q = let z : ◌≡◌ {A = ℕ} 0 1 = cc in absurd (omega arith)
+found_offence k (j ∷ ks) ns q = let z : k ≡ j = ap event_in q in (ks, ap (λ (m : ℕ). m ∷ ks) (sym z))
+
+found_none : (n : ℕ) (ks ns : List ℕ) → Ok n ≡ finding ks ns → (ks ≡ []) × (n ≡ added ns)
 found_none n [] ns q = (refl, cc)
 found_none n (j ∷ ks) ns q = let z : ◌≡◌ {A = ℕ} 0 1 = cc in absurd (omega arith)
 
@@ -96,97 +97,99 @@ nothing_walked : (document : List ℕ) (row : Row) → listed document false row
 unfolding walked spliced notes
 nothing_walked document row = refl
 
-module _ (f : Form) (s : List ℕ) (d e : ℕ) (c : GoodIn f s d e) where
-  tree_whole : written (tree_of (events_in f s d e)) [] ≡ onward f s d e 0
-  tree_whole = tree_written 64 d (events_in f s d e) c.sound_events ∙ sym (onward_whole f s d e)
+module _ (document : List ℕ) (es : List Event) (d : ℕ) (c : sound 64 d es ≡ true) where
+  tree_whole : written (tree_of es) [] ≡ es
+  tree_whole = tree_written 64 d es c
 
-  same_offenders : offenders_in (document_in f s d) 0 false (onward f s d e 0) ≡ offenders (document_in f s d) 0 false (tree_of (events_in f s d e)) []
+  same_offenders : offenders_in document 0 false es ≡ offenders document 0 false (tree_of es) []
   unfolding offenders_in
   same_offenders =
-      sym (ap (λ es. offenders_in (document_in f s d) 0 false es) tree_whole)
-      ∙ offenders_written (document_in f s d) 0 false (tree_of (events_in f s d e)) ended
+      sym (ap (λ ys. offenders_in document 0 false ys) tree_whole)
+      ∙ offenders_written document 0 false (tree_of es) ended
 
   -- an offence is the definition's
-  pub offence_same : (k : ℕ) (ks : List ℕ) → offenders_in (document_in f s d) 0 false (onward f s d e 0) ≡ k ∷ ks → lists (document_in f s d) (events_in f s d e) ≡ offends k
+  pub offence_same : (k : ℕ) (ks : List ℕ) → offenders_in document 0 false es ≡ k ∷ ks → lists document es ≡ offends k
   unfolding lists
   offence_same k ks q =
-      let r : offenders (document_in f s d) 0 false (tree_of (events_in f s d e)) [] ≡ k ∷ ks = sym same_offenders ∙ q in
-      ap (λ (x : List ℕ). settling x (listed (document_in f s d) false (tree_of (events_in f s d e)) [])) r
+      let r : offenders document 0 false (tree_of es) [] ≡ k ∷ ks = sym same_offenders ∙ q in
+      ap (λ (x : List ℕ). settling x (listed document false (tree_of es) [])) r
 
   -- and so is the result
-  pub result_same : offenders_in (document_in f s d) 0 false (onward f s d e 0) ≡ [] →
-      lists (document_in f s d) (events_in f s d e) ≡ gives (spliced (notes (document_in f s d) false [] (onward f s d e 0)) (onward f s d e 0))
+  pub result_same : offenders_in document 0 false es ≡ [] →
+      lists document es ≡ gives (spliced (notes document false [] es) es)
   unfolding lists walked
   result_same q =
-      let t : Row = tree_of (events_in f s d e) in
-      let r : offenders (document_in f s d) 0 false t [] ≡ [] = sym same_offenders ∙ q in
-      let a = all_shaped (document_in f s d) 0 false t [] r in
-      let w : walked (document_in f s d) false [] (written t []) ≡ listed (document_in f s d) false t (walked (document_in f s d) false [] []) =
-      listed_walked (document_in f s d) false [] t ended a.0 (λ x y. absurd (false_not x)) in
-      ap (λ (x : List ℕ). settling x (listed (document_in f s d) false t [])) r
-      ∙ ap gives (sym (nothing_walked (document_in f s d) t) ∙ sym w ∙ ap (λ es. walked (document_in f s d) false [] es) tree_whole)
+      let t : Row = tree_of es in
+      let r : offenders document 0 false t [] ≡ [] = sym same_offenders ∙ q in
+      let a = all_shaped document 0 false t [] r in
+      let w : walked document false [] (written t []) ≡ listed document false t (walked document false [] []) =
+      listed_walked document false [] t ended a.0 (λ x y. absurd (false_not x)) in
+      ap (λ (x : List ℕ). settling x (listed document false t [])) r
+      ∙ ap gives (sym (nothing_walked document t) ∙ sym w ∙ ap (λ ys. walked document false [] ys) tree_whole)
 
   -- what the first pass found, as the definition has it
-  module _ {r : Findings} {w : List ℕ} (n : Noted f s d e r w) where
-    pub noted_offends : (k : ℕ) → r ≡ Offends k → lists (document_in f s d) (events_in f s d e) ≡ offends k
+  module _ {r : Result ℕ Offender} {w : List ℕ} (n : Noted document es r w) where
+    pub noted_offends : (k : ℕ) → r ≡ Err (record { event = k }) → lists document es ≡ offends k
     noted_offends k q =
-        let o = found_offence k (offenders_in (document_in f s d) 0 false (onward f s d e 0)) (notes (document_in f s d) false [] (onward f s d e 0)) (sym q ∙ n.answer) in
+        let o = found_offence k (offenders_in document 0 false es) (notes document false [] es) (sym q ∙ n.answer) in
         offence_same k o.0 o.1
 
-    module _ (m : ℕ) (q : r ≡ Added m) where
-      pub noted_same : spliced (notes (document_in f s d) false [] (onward f s d e 0)) (onward f s d e 0) ≡ spliced w (onward f s d e 0)
+    module _ (m : ℕ) (q : r ≡ Ok m) where
+      pub noted_same : spliced (notes document false [] es) es ≡ spliced w es
       noted_same =
           let k = n.kept m q in
-          sym (ap (λ (l : List ℕ). spliced l (onward f s d e 0)) (ap (λ (j : ℕ). take j w) (onward_long f s d e) ∙ k.0)) ∙ spliced_take w (onward f s d e 0)
+          sym (ap (λ (l : List ℕ). spliced l es) k.0) ∙ spliced_take w es
 
-      found : (offenders_in (document_in f s d) 0 false (onward f s d e 0) ≡ []) × (m ≡ added (notes (document_in f s d) false [] (onward f s d e 0)))
-      found = found_none m (offenders_in (document_in f s d) 0 false (onward f s d e 0)) (notes (document_in f s d) false [] (onward f s d e 0)) (sym q ∙ n.answer)
+      found : (offenders_in document 0 false es ≡ []) × (m ≡ added (notes document false [] es))
+      found = found_none m (offenders_in document 0 false es) (notes document false [] es) (sym q ∙ n.answer)
 
-      pub noted_gives : lists (document_in f s d) (events_in f s d e) ≡ gives (spliced w (onward f s d e 0))
+      pub noted_gives : lists document es ≡ gives (spliced w es)
       noted_gives = result_same found.0 ∙ ap gives noted_same
 
-      pub noted_long : length (spliced w (onward f s d e 0)) ≡ e + m
+      pub noted_long : length (spliced w es) ≡ length es + m
       noted_long =
-          let long : length (spliced (notes (document_in f s d) false [] (onward f s d e 0)) (onward f s d e 0)) ≡ length (onward f s d e 0) + added (notes (document_in f s d) false [] (onward f s d e 0)) =
-          spliced_long (notes (document_in f s d) false [] (onward f s d e 0)) (onward f s d e 0) (notes_long (document_in f s d) false [] (onward f s d e 0)) in
-          omega (arith, ap length noted_same, long, found.1, onward_long f s d e)
+          let long : length (spliced (notes document false [] es) es) ≡ length es + added (notes document false [] es) =
+          spliced_long (notes document false [] es) es (notes_long document false [] es) in
+          omega (arith, ap length noted_same, long, found.1)
 
 -- at most one event is added for each
-pub few_added : (f : Form) (s : List ℕ) (d e : ℕ) → GoodIn f s d e → {r : Findings} {w : List ℕ} → Noted f s d e r w → (m : ℕ) → r ≡ Added m → e + m ≤ 8000
-few_added f s d e c n m q = omega (arith, c.few, (n.kept m q).1)
+pub few_added : (document : List ℕ) (es : List Event) (e : ℕ) → length es ≡ e → e ≤ 2048 → {r : Result ℕ Offender} {w : List ℕ} → Noted document es r w → (m : ℕ) → r ≡ Ok m → e + m ≤ 8000
+few_added document es e le few n m q = omega (arith, (n.kept m q).1)
 
 -- in the result every enter has its exit, as in any that is sound
-pub result_balanced : (f : Form) (s : List ℕ) (d e : ℕ) → GoodIn f s d e → {r : Findings} {w : List ℕ} → Noted f s d e r w → (m : ℕ) → r ≡ Added m →
-    balanced (spliced w (onward f s d e 0)) ≡ true
-result_balanced f s d e c {r} {w} n m q =
-    sound_balanced 128 d (spliced w (onward f s d e 0))
-    (nested d (document_in f s d) (events_in f s d e) (spliced w (onward f s d e 0)) c.sound_events (noted_gives f s d e c n m q))
+pub result_balanced : (document : List ℕ) (es : List Event) (d : ℕ) → sound 64 d es ≡ true → {r : Result ℕ Offender} {w : List ℕ} → Noted document es r w → (m : ℕ) → r ≡ Ok m →
+    balanced (spliced w es) ≡ true
+result_balanced document es d c {r} {w} n m q =
+    sound_balanced 128 d (spliced w es) (nested d document es (spliced w es) c (noted_gives document es d c n m q))
 
--- the ways out of a good record: the answer and the output in each
-module _ (f : Form) (s : List ℕ) (d e : ℕ) (c : GoodIn f s d e) {r : Findings} {w : List ℕ} (n : Noted f s d e r w) (out : List ℕ) where
-  pub shape_broken : (k place : ℕ) → r ≡ Offends k → place ≡ place_in f d k → (a : Answer) → a ≡ Refused (record { number = 6; place = place }) →
-      Answered f (settled f d (lists (document_in f s d) (events_in f s d e)) (length out)) answer_of out a out
-  shape_broken k place q p a ea = offended f d (lists (document_in f s d) (events_in f s d e)) answer_of out a k place (noted_offends f s d e c n k q) p ea
+-- the ways out of a good record of e events: the answer and the output in each
+module _ (f : Form) (document : List ℕ) (es : List Event) (d : ℕ) (c : sound 64 d es ≡ true) {r : Result ℕ Offender} {w : List ℕ} (n : Noted document es r w) (out : List ℕ) where
+  pub shape_broken : (k place : ℕ) → r ≡ Err (record { event = k }) → place ≡ place_in f d k → (a : Result ℕ Refusal) → a ≡ Err (record { number = 6; place = place }) →
+      Answered f (settled f d (lists document es) (length out)) answer_of out a out
+  shape_broken k place q p a ea = offended f d (lists document es) answer_of out a k place (noted_offends document es d c n k q) p ea
 
-  module _ (m : ℕ) (q : r ≡ Added m) where
-    pub output_short : length out < 4 + f.width * (e + m) → (a : Answer) → a ≡ Refused (record { number = 8; place = 0 }) →
-        Answered f (settled f d (lists (document_in f s d) (events_in f s d e)) (length out)) answer_of out a out
+  module _ (m : ℕ) (q : r ≡ Ok m) (e : ℕ) (le : length es ≡ e) (few : e ≤ 2048) where
+    long : length (spliced w es) ≡ e + m
+    long = noted_long document es d c n m q ∙ ap (λ (k : ℕ). k + m) le
+
+    pub output_short : length out < 4 + f.width * (e + m) → (a : Result ℕ Refusal) → a ≡ Err (record { number = 8; place = 0 }) →
+        Answered f (settled f d (lists document es) (length out)) answer_of out a out
     output_short h a ea =
-        too_short f d (lists (document_in f s d) (events_in f s d e)) answer_of out a (spliced w (onward f s d e 0)) (noted_gives f s d e c n m q) (e + m) (noted_long f s d e c n m q) (few_added f s d e c n m q) h ea
+        too_short f d (lists document es) answer_of out a (spliced w es) (noted_gives document es d c n m q) (e + m) long (few_added document es e le few n m q) h ea
 
-    pub resolved : 4 + f.width * (e + m) ≤ length out → {out₁ : List ℕ} → out₁ ≡ onto (section_in f (spliced w (onward f s d e 0))) out →
-        Answered f (settled f d (lists (document_in f s d) (events_in f s d e)) (length out)) answer_of out (Resolved (e + m)) out₁
+    pub resolved : 4 + f.width * (e + m) ≤ length out → {out₁ : List ℕ} → out₁ ≡ onto (section_in f (spliced w es)) out →
+        Answered f (settled f d (lists document es) (length out)) answer_of out (Ok (e + m)) out₁
     resolved h o =
-        section-written f d (lists (document_in f s d) (events_in f s d e)) answer_of out (Resolved (e + m)) (spliced w (onward f s d e 0)) (noted_gives f s d e c n m q) (e + m)
-        (noted_long f s d e c n m q) (few_added f s d e c n m q) h o (ap Resolved (sym (noted_long f s d e c n m q)))
+        section-written f d (lists document es) answer_of out (Ok (e + m)) (spliced w es) (noted_gives document es d c n m q) (e + m)
+        long (few_added document es e le few n m q) h o (ap (λ (k : ℕ). Ok k) (sym long))
 
 -- the check's two ways on
-pub refused_by_check : (h : Handed) (s : List ℕ) (works : ℕ) (out : List ℕ) (r : Refusal) → reading.Refused r ≡ admitted h s works →
-    Answered (form_of h) (outcome_of h s (length out) works) answer_of out (Refused r) out
+pub refused_by_check : (h : Handed) (s : List ℕ) (works : ℕ) (out : List ℕ) (r : Refusal) → Err r ≡ admitted h s works →
+    Answered (form_of h) (outcome_of h s (length out) works) answer_of out (Err r) out
 unfolding outcome_of
 refused_by_check h s works out r q = record { answer = rw (← q); output = rw (← q) (sym (onto_none out)) }
 
-pub good_record : (h : Handed) (s : List ℕ) (works d e : ℕ) (out : List ℕ) (f : Form) {r : Answer} {out' : List ℕ} → reading.Good d e ≡ admitted h s works → f ≡ form_of h →
+pub good_record : (h : Handed) (s : List ℕ) (works d e : ℕ) (out : List ℕ) (f : Form) {r : Result ℕ Refusal} {out' : List ℕ} → accept d e ≡ admitted h s works → f ≡ form_of h →
     Answered f (settled f d (lists (document_in f s d) (events_in f s d e)) (length out)) answer_of out r out' → Answered (form_of h) (outcome_of h s (length out) works) answer_of out r out'
 unfolding outcome_of
 good_record h s works d e out f q g w = rw (← q) (rw g at w)

@@ -3,26 +3,28 @@
 use mathlib.Core.Path.{◌≡◌, refl, sym, ap, ◌∙◌}
 use mathlib.Core.Bool.{Bool, true, false, not}
 use mathlib.Core.List.{List, [], ◌∷◌, ◌++◌, append_assoc, append-nil}
-use Prim.Native.Nat.{ℕ, ◌+◌, ◌*◌, ◌≤◌, ◌<◌}
+use Prim.Native.Nat.{ℕ, suc, ◌+◌, ◌*◌, ◌≤◌, ◌<◌}
 use native.Mathlib.Numerals.{add-one}
 use native.Mathlib.Omega.{arith}
 use lib.ListN.{length, get_or, drop}
 use lib.Seq.{drop-cons}
+use Rattle.std.proofs.lemmas.List.{drop_all}
 use lib.Dec.{eqb}
 use borrow.Author.Tests.{eq-eqb, ne_eqb}
 use Rattle.record.specs.Choice.{choose}
-use Rattle.record.specs.Form.{place_in}
-use Rattle.record.specs.Bytes.{Wrote, u32_at, u32_bytes}
-use Rattle.record.specs.Event.{event, enter, exit, event_at}
+use Rattle.record.specs.Bytes.{Wrote, u32_bytes}
+use Rattle.record.specs.Event.{event, enter, exit}
 use Rattle.record.specs.Outcome.{onto}
 use Rattle.record.specs.Partners.{section_in}
+use Rattle.record.specs.Stack.{nth}
 use Rattle.record.specs.declared.event.Event.{Event}
 use Rattle.record.specs.declared.form.Form.{Form}
-use Rattle.partners.specs.Pen.{At, Fits, Put}
-use Rattle.partners.specs.declared.Pen.{Pen}
-use Rattle.partners.proofs.Pens.{put_none, put_then, fits_first, fits_then, all_fit, all_put, filled, filled_section}
-use Rattle.list.specs.Walk.{onward, noted, spliced}
-use Rattle.list.proofs.Onward.{onward_none, onward_some}
+use Rattle.partners.specs.Pen.{At, Fits}
+use Rattle.partners.specs.Section.{Ready, Puts}
+use Rattle.partners.specs.declared.Section.{Section}
+use Rattle.partners.proofs.Pens.{all_fit, all_put, filled, filled_section}
+use Rattle.partners.proofs.Sections.{puts_none, puts_then, ready_first, ready_then}
+use Rattle.list.specs.Walk.{noted, spliced}
 
 -- the three cases of what a note adds on one side of an event
 module _ (here : Bool) (side n place : ℕ) where
@@ -30,20 +32,20 @@ module _ (here : Bool) (side n place : ℕ) where
   unfolding choose
   one_here h k = rw (ne_eqb _ _ h, k)
 
-  module _ {d : List ℕ} {p : Pen} where
-    pub none_added : n ≡ 0 → Put d p (choose (eqb n 0) [] (choose here (event side n place ∷ []) [])) d p
+  module _ {s : Section} where
+    pub none_added : n ≡ 0 → Puts s (choose (eqb n 0) [] (choose here (event side n place ∷ []) [])) s
     unfolding choose
-    none_added h = rw (eq-eqb _ _ h) (put_none d p)
+    none_added h = rw (eq-eqb _ _ h) (puts_none s)
 
-    pub none_here : (n ≡ 0 → ⊥) → here ≡ false → Put d p (choose (eqb n 0) [] (choose here (event side n place ∷ []) [])) d p
+    pub none_here : (n ≡ 0 → ⊥) → here ≡ false → Puts s (choose (eqb n 0) [] (choose here (event side n place ∷ []) [])) s
     unfolding choose
-    none_here h k = rw (ne_eqb _ _ h, k) (put_none d p)
+    none_here h k = rw (ne_eqb _ _ h, k) (puts_none s)
 
-    pub one_fits : (n ≡ 0 → ⊥) → here ≡ true → Fits d p (choose (eqb n 0) [] (choose here (event side n place ∷ []) [])) → Fits d p (event side n place ∷ [])
+    pub one_fits : (n ≡ 0 → ⊥) → here ≡ true → Ready s (choose (eqb n 0) [] (choose here (event side n place ∷ []) [])) → Ready s (event side n place ∷ [])
     one_fits h k f = rw (one_here h k) at f
 
-    pub one_added : (n ≡ 0 → ⊥) → here ≡ true → {d₁ : List ℕ} {p₁ : Pen} → Put d p (event side n place ∷ []) d₁ p₁ →
-        Put d p (choose (eqb n 0) [] (choose here (event side n place ∷ []) [])) d₁ p₁
+    pub one_added : (n ≡ 0 → ⊥) → here ≡ true → {s₁ : Section} → Puts s (event side n place ∷ []) s₁ →
+        Puts s (choose (eqb n 0) [] (choose here (event side n place ∷ []) [])) s₁
     one_added h k u = rw (one_here h k) u
 
 -- a noted event is what the note adds before it, the event, and what the note adds behind it
@@ -55,36 +57,36 @@ parts_by true k n x = refl
 parts_by false true n x = refl
 parts_by false false n x = refl
 
-module _ (kind name place n : ℕ) where
+module _ (x : Event) (n : ℕ) where
   abbrev before : List Event
-  before = choose (eqb n 0) [] (choose (eqb kind 0) (event 0 n place ∷ []) [])
+  before = choose (eqb n 0) [] (choose (eqb x.kind 0) (event 0 n x.place ∷ []) [])
 
   abbrev behind : List Event
-  behind = choose (eqb n 0) [] (choose (not (eqb kind 0)) (event 1 n place ∷ []) [])
+  behind = choose (eqb n 0) [] (choose (not (eqb x.kind 0)) (event 1 n x.place ∷ []) [])
 
-  parts : noted n (event kind name place) [] ≡ (before ++ (event kind name place ∷ [])) ++ behind
+  parts : noted n x [] ≡ (before ++ (x ∷ [])) ++ behind
   unfolding noted
-  parts = parts_by (eqb n 0) (eqb kind 0) n (event kind name place)
+  parts = parts_by (eqb n 0) (eqb x.kind 0) n x
 
-  module _ {d : List ℕ} {p : Pen} where
-    module _ (f : Fits d p (noted n (event kind name place) [])) where
-      all_parts : Fits d p ((before ++ (event kind name place ∷ [])) ++ behind)
+  module _ {s : Section} where
+    module _ (f : Ready s (noted n x [])) where
+      all_parts : Ready s ((before ++ (x ∷ [])) ++ behind)
       all_parts = rw parts at f
 
-      pub before_fits : Fits d p before
-      before_fits = fits_first before (event kind name place ∷ []) (fits_first (before ++ (event kind name place ∷ [])) behind all_parts)
+      pub before_fits : Ready s before
+      before_fits = ready_first before (x ∷ []) (ready_first (before ++ (x ∷ [])) behind all_parts)
 
-      module _ {d₁ : List ℕ} {p₁ : Pen} (u : Put d p before d₁ p₁) where
-        pub event_fits : Fits d₁ p₁ (event kind name place ∷ [])
-        event_fits = fits_then before (event kind name place ∷ []) u (fits_first (before ++ (event kind name place ∷ [])) behind all_parts)
+      module _ {s₁ : Section} (u : Puts s before s₁) where
+        pub event_fits : Ready s₁ (x ∷ [])
+        event_fits = ready_then before (x ∷ []) u (ready_first (before ++ (x ∷ [])) behind all_parts)
 
-        pub behind_fits : {d₂ : List ℕ} {p₂ : Pen} → Put d₁ p₁ (event kind name place ∷ []) d₂ p₂ → Fits d₂ p₂ behind
-        behind_fits v = fits_then (before ++ (event kind name place ∷ [])) behind (put_then before (event kind name place ∷ []) u v) all_parts
+        pub behind_fits : {s₂ : Section} → Puts s₁ (x ∷ []) s₂ → Ready s₂ behind
+        behind_fits v = ready_then (before ++ (x ∷ [])) behind (puts_then before (x ∷ []) u v) all_parts
 
-    pub noted_put : {d₁ d₂ d₃ : List ℕ} {p₁ p₂ p₃ : Pen} → Put d p before d₁ p₁ → Put d₁ p₁ (event kind name place ∷ []) d₂ p₂ → Put d₂ p₂ behind d₃ p₃ →
-        Put d p (noted n (event kind name place) []) d₃ p₃
+    pub noted_put : {s₁ s₂ s₃ : Section} → Puts s before s₁ → Puts s₁ (x ∷ []) s₂ → Puts s₂ behind s₃ →
+        Puts s (noted n x []) s₃
     noted_put u v w =
-        rw parts (put_then (before ++ (event kind name place ∷ [])) behind (put_then before (event kind name place ∷ []) u v) w)
+        rw parts (puts_then (before ++ (x ∷ [])) behind (puts_then before (x ∷ []) u v) w)
 
 -- what is behind a noted event
 noted_by : (b k : Bool) (n : ℕ) (x : Event) (es : List Event) →
@@ -100,75 +102,65 @@ unfolding noted
 noted_append n x es = noted_by (eqb n 0) (eqb x.kind 0) n x es
 
 -- the loop's invariant: `done` are the events put
-pub record Writing (f : Form) (s : List ℕ) (d e : ℕ) (work out₁ : List ℕ) (pen₁ : Pen) (out : List ℕ) (to : Pen) (i : ℕ) : Type 0 where
-  pub within : i ≤ e
-  pub begun : At f.width out₁ (spliced work (onward f s d e 0)) 0 out₁ pen₁
+pub record Writing (width : ℕ) (es : List Event) (work : List ℕ) (s₁ s : Section) (i : ℕ) : Type 0 where
+  pub begun : At width s₁.out.now (spliced work es) 0 s₁.out.now s₁.pen
   pub done : List Event
-  pub put : Put out₁ pen₁ done out to
-  pub rest : done ++ spliced (drop i work) (onward f s d e i) ≡ spliced work (onward f s d e 0)
+  pub put : Puts s₁ done s
+  pub rest : done ++ spliced (drop i work) (drop i es) ≡ spliced work es
 
-pub before_all : (f : Form) (s : List ℕ) (d e : ℕ) (work : List ℕ) {out₁ : List ℕ} {pen₁ : Pen} →
-    At f.width out₁ (spliced work (onward f s d e 0)) 0 out₁ pen₁ → Writing f s d e work out₁ pen₁ out₁ pen₁ 0
-before_all f s d e work {out₁} {pen₁} a =
-    record { within = omega arith; begun = a; done = []; put = put_none out₁ pen₁; rest = refl }
+pub before_all : (width : ℕ) (es : List Event) (work : List ℕ) (s : Section) (out : List ℕ) → s.out.now ≡ out →
+    At width out (spliced work es) 0 out s.pen → Writing width es work s s 0
+before_all width es work s out o a = record { begun = rw o a; done = []; put = puts_none s; rest = refl }
 
-spliced_some : (ns : List ℕ) (n : ℕ) (ms : List ℕ) (x : Event) (es : List Event) → ns ≡ n ∷ ms → spliced ns (x ∷ es) ≡ noted n x (spliced ms es)
+spliced_some : (ns : List ℕ) (n : ℕ) (ms : List ℕ) (ys : List Event) (x : Event) (xs : List Event) → ns ≡ n ∷ ms → ys ≡ x ∷ xs → spliced ns ys ≡ noted n x (spliced ms xs)
 unfolding spliced
-spliced_some ns n ms x es h = rw h
+spliced_some ns n ms ys x xs h k = rw (h, k)
 
 spliced_none : (ns : List ℕ) → spliced ns [] ≡ []
 unfolding spliced
 spliced_none [] = refl
 spliced_none (n ∷ ns) = refl
 
-module _ {f : Form} {s : List ℕ} {d e : ℕ} {work out₁ : List ℕ} {pen₁ : Pen} {out : List ℕ} {to : Pen} {i : ℕ}
-    (v : Writing f s d e work out₁ pen₁ out to i) where
-  module _ (more : i < e) (at : ℕ) (ea : at ≡ place_in f d i) (room : e ≤ length work) (p : ℕ) (ep : p ≡ u32_at s (at + 4)) where
-    here : spliced (drop i work) (onward f s d e i) ≡ noted (get_or work i 0) (event_at s at) [] ++ spliced (drop (i + 1) work) (onward f s d e (i + 1))
+module _ {width : ℕ} {es : List Event} {work : List ℕ} {s₁ s : Section} {i : ℕ} (v : Writing width es work s₁ s i) where
+  module _ (more : i < length es) (room : length es ≤ length work) (x : Event) (ex : x ≡ nth es i) where
+    here : spliced (drop i work) (drop i es) ≡ noted (get_or work i 0) x [] ++ spliced (drop (i + 1) work) (drop (i + 1) es)
     here =
-        ap (λ es. spliced (drop i work) es) (onward_some f s d e i more at ea)
-        ∙ spliced_some (drop i work) (get_or work i 0) (drop (i + 1) work) (event_at s at) (onward f s d e (i + 1))
-        (drop-cons work i 0 (omega arith) ∙ ap (λ (k : ℕ). get_or work i 0 ∷ drop k work) (sym (add-one i)))
-        ∙ noted_append (get_or work i 0) (event_at s at) (spliced (drop (i + 1) work) (onward f s d e (i + 1)))
-
-    same_event : event (get_or s at 0) (get_or s (at + 1) 0) p ≡ event_at s at
-    same_event = ap (λ (k : ℕ). event (get_or s at 0) (get_or s (at + 1) 0) k) ep
+        rw (ex, add-one i)
+        (spliced_some (drop i work) (get_or work i 0) (drop (suc i) work) (drop i es) (nth es i) (drop (suc i) es) (drop-cons work i 0 (omega arith))
+        (drop-cons es i (record { kind = 0; name = 0; place = 0 }) more)
+        ∙ noted_append (get_or work i 0) (nth es i) (spliced (drop (suc i) work) (drop (suc i) es)))
 
     abbrev next : List Event
-    next = noted (get_or work i 0) (event (get_or s at 0) (get_or s (at + 1) 0) p) []
+    next = noted (get_or work i 0) x []
 
     abbrev later : List Event
-    later = spliced (drop (i + 1) work) (onward f s d e (i + 1))
+    later = spliced (drop (i + 1) work) (drop (i + 1) es)
 
-    rest_next : (v.done ++ next) ++ later ≡ spliced work (onward f s d e 0)
-    rest_next =
-        append_assoc v.done next later
-        ∙ ap (λ (x : Event). v.done ++ (noted (get_or work i 0) x [] ++ later)) same_event
-        ∙ sym (ap (λ (es : List Event). v.done ++ es) here)
-        ∙ v.rest
+    rest_next : (v.done ++ next) ++ later ≡ spliced work es
+    rest_next = append_assoc v.done next later ∙ sym (ap (λ (ys : List Event). v.done ++ ys) here) ∙ v.rest
 
-    pub next_fits : Fits out to next
+    pub next_fits : Ready s next
     next_fits =
-        let a : Fits out₁ pen₁ ((v.done ++ next) ++ later) = rw rest_next (all_fit v.begun) in
-        fits_then v.done next v.put (fits_first (v.done ++ next) later a)
+        let a : Fits s₁.out.now s₁.pen ((v.done ++ next) ++ later) = rw rest_next (all_fit v.begun) in
+        ready_then v.done next v.put (ready_first (v.done ++ next) later (record { fits = a }))
 
-    pub turn : {out' : List ℕ} {to' : Pen} → Put out to next out' to' → Writing f s d e work out₁ pen₁ out' to' (i + 1)
+    pub turn : {s' : Section} → Puts s next s' → Writing width es work s₁ s' (i + 1)
     turn u =
         record {
-          within = omega arith;
           begun = v.begun;
           done = v.done ++ next;
-          put = put_then v.done next v.put u;
+          put = puts_then v.done next v.put u;
           rest = rest_next;
         }
 
-  -- the end
-  pub all_written : {out₀ : List ℕ} → e ≤ i → 8 ≤ f.width → (count : ℕ) → length (spliced work (onward f s d e 0)) ≡ count →
-      4 + f.width * count ≤ length out₀ → Wrote out₀ 0 (u32_bytes count) out₁ → out ≡ onto (section_in f (spliced work (onward f s d e 0))) out₀
-  all_written {out₀} h wide count long room w =
-      let none : spliced (drop i work) (onward f s d e i) ≡ [] = ap (λ es. spliced (drop i work) es) (onward_none f s d e i h) ∙ spliced_none (drop i work) in
-      let all : v.done ≡ spliced work (onward f s d e 0) = sym (append-nil v.done) ∙ sym (ap (λ (es : List Event). v.done ++ es) none) ∙ v.rest in
-      let u : Put out₁ pen₁ (spliced work (onward f s d e 0)) out to = rw all at v.put in
-      let room' : 4 + f.width * length (spliced work (onward f s d e 0)) ≤ length out₀ = rw long room in
-      let w' : Wrote out₀ 0 (u32_bytes (length (spliced work (onward f s d e 0)))) out₁ = rw long w in
-      filled_section f (spliced work (onward f s d e 0)) out₀ out₁ out wide room' w' (filled (all_put v.begun u))
+-- the end
+pub all_written : (f : Form) (es : List Event) {work out₀ out₁ : List ℕ} {s₁ s : Section} {i : ℕ} → Writing f.width es work s₁ s i → s₁.out.now ≡ out₁ →
+    length es ≤ i → 8 ≤ f.width → (count : ℕ) → length (spliced work es) ≡ count →
+    4 + f.width * count ≤ length out₀ → Wrote out₀ 0 (u32_bytes count) out₁ → s.out.now ≡ onto (section_in f (spliced work es)) out₀
+all_written f es {work} {out₀} {out₁} {s₁} {s} {i} v o h wide count long room w =
+    let none : spliced (drop i work) (drop i es) ≡ [] = ap (λ ys. spliced (drop i work) ys) (drop_all i es h) ∙ spliced_none (drop i work) in
+    let all : v.done ≡ spliced work es = sym (append-nil v.done) ∙ sym (ap (λ (ys : List Event). v.done ++ ys) none) ∙ v.rest in
+    let u : Puts s₁ (spliced work es) s = rw all at v.put in
+    let room' : 4 + f.width * length (spliced work es) ≤ length out₀ = rw long room in
+    let w' : Wrote out₀ 0 (u32_bytes (length (spliced work es))) s₁.out.now = rw (long, o) w in
+    filled_section f (spliced work es) out₀ s₁.out.now s.out.now wide room' w' (filled (all_put v.begun u.put))

@@ -1,19 +1,13 @@
 -- The same, read off the events one by one: what the inner functions promise. proofs/Trees.antt shows that over the events of a tree it is
 -- what specs/Lists.antt has.
 -- Assumes nothing.
-use Rattle.std.specs.Prelude.{ℕ, ◌+◌, ◌*◌, ◌-◌, ◌≤◌, ◌≡◌, Bool, true, false, List, [], ◌∷◌, length, get_or, eqb}
+use Rattle.std.specs.Prelude.{ℕ, zero, suc, ◌+◌, ◌-◌, ◌≤◌, ◌<◌, Option, Some, None, Bool, true, false, List, [], ◌∷◌, length, get_or, eqb}
 use Rattle.record.specs.Choice.{choose, and}
-use Rattle.record.specs.Event.{event, enter, exit, events_by}
-use Rattle.record.specs.Stack.{outer}
+use Rattle.record.specs.Event.{event, enter, exit}
+use Rattle.record.specs.Stack.{nth, outer}
 use Rattle.record.specs.declared.event.Event.{Event}
-use Rattle.record.specs.declared.form.Form.{Form}
-use Rattle.list.specs.declared.item.Ahead.{Ahead}
 use Rattle.list.specs.Item.{known}
 use Rattle.list.specs.Lists.{is_item, between, list_name}
-
--- the events of a record of form f from event i on
-unfoldable pub onward : Form → List ℕ → ℕ → ℕ → ℕ → List Event
-onward f s d e i = events_by f.width (e - i) s (8 + f.front + d + f.width * i)
 
 abbrev pub tail : List Event → List Event
 tail [] = []
@@ -23,20 +17,9 @@ abbrev pub head : List Event → Event
 head [] = event 0 0 0
 head (x ∷ es) = x
 
--- the events ahead: as many as are left, from the place of the next on
-unfoldable pub ahead_of : Form → List ℕ → Ahead → List Event
-ahead_of f s a = events_by f.width a.left s a.at
-
--- they have their eight bytes each, and the record ends with them
-pub record InRecord (f : Form) (s : List ℕ) (a : Ahead) : Type 0 where
-  pub wide : 8 ≤ f.width
-  pub whole : a.at + f.width * a.left ≡ length s
-
--- b is where a is or further on, and has the events es ahead
-pub record Further (f : Form) (s : List ℕ) (a b : Ahead) (es : List Event) : Type 0 where
-  pub lies : InRecord f s b
-  pub fewer : b.left ≤ a.left
-  pub events : ahead_of f s b ≡ es
+-- every place that some events name is one of the document, or its end
+pub record Placed (document : List ℕ) (es : List Event) : Type 0 where
+  pub within : (k : ℕ) → k < length es → (nth es k).place ≤ length document
 
 -- whether an event has this kind and name
 abbrev pub has : Event → ℕ → ℕ → Bool
@@ -52,6 +35,11 @@ first_leaf name es = and (first 0 name es) (first 1 name (tail es))
 
 unfoldable pub behind_leaf : ℕ → List Event → List Event
 behind_leaf name es = choose (first_leaf name es) (tail (tail es)) es
+
+-- a mark as the code has it, where these definitions have a number: none for 0
+abbrev pub marked : ℕ → Option ℕ
+marked zero = None
+marked (suc m) = Some (suc m)
 
 -- the mark that a pair at the front lies over, if it is over one byte
 unfoldable pub mark_over : List ℕ → List Event → ℕ

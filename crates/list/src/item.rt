@@ -4,139 +4,94 @@
 //
 // At most ten events are looked at, however many the item holds.
 
-ghost use Rattle.std.specs.Prelude.{◌≡◌, ◌+◌, ◌≤◌, ◌<◌, length};
-ghost use Rattle.record.specs.Event.{event_at, document_in};
-ghost use Rattle.record.specs.Good.{GoodIn};
+ghost use Rattle.std.specs.Prelude.{◌≡◌, ◌≤◌};
+ghost use Rattle.record.specs.EventsOf.{events_of};
 ghost use Rattle.list.specs.Item.{known};
-ghost use Rattle.list.specs.Walk.{onward, ahead_of, InRecord, Further, tail, has, first, first_leaf, behind_leaf, mark_over, mark_in};
+ghost use Rattle.list.specs.Walk.{Placed, has, first, first_leaf, behind_leaf, mark_over, mark_in, marked};
 
-use record::bytes::u32_at;
-use record::form::{Form, place_of};
+use record::event::Event;
 use record::limits::{
     ENTER, EXIT, LIST_ITEM_MARKER, LIST_ITEM_PREFIX, LIST_ITEM_VALUE, SPACE_OR_TAB,
 };
+use record::listed::Events;
 
-// The events ahead: the place of the next, and how many are left. So a step is an addition, whatever the form.
-#[derive(Clone, Copy)]
-pub struct Ahead {
-    pub at: usize,
-    pub left: usize,
-}
-
-// Whether the event at a place has this kind and name.
-fn has(s: &[u8], at: usize, kind: u8, name: u8) -> bool
-    requires { at + 8 ≤ length s.now }
-    ensures { result ≡ has (event_at s.now at) kind name }
+// Whether an event has this kind and name.
+// Kept: `heading::seek::is_of` tests the same, but neither crate stands on the other, and a function below both would be this line and no less.
+#[tactic(auto, unfolding(record::specs::Choice::and))]
+pub fn has(event: Event, kind: u8, name: u8) -> bool
+    ensures { result ≡ has event kind name }
 {
-    if s[at] != kind {
-        return false;
-    }
-    s[at + 1] == name
+    event.kind == kind && event.name == name
 }
 
 // Whether the next event is there and has this kind and name.
-pub fn stands(s: &[u8], form: Form, ahead: Ahead, kind: u8, name: u8) -> bool
-    requires { InRecord form s.now ahead }
-    ensures { result ≡ first kind name (ahead_of form s.now ahead) }
+pub fn stands(ahead: Events, kind: u8, name: u8) -> bool
+    ensures { result ≡ first kind name (events_of ahead.entry) }
 {
-    if ahead.left == 0 {
-        return false;
+    match ahead.split_first() {
+        Some((event, _)) => has(event, kind, name),
+        None => false,
     }
-    has(s, ahead.at, kind, name)
 }
 
 // Whether a leaf pair of this name stands next.
-pub fn leaf(s: &[u8], form: Form, ahead: Ahead, name: u8) -> bool
-    requires { InRecord form s.now ahead }
-    ensures { result ≡ first_leaf name (ahead_of form s.now ahead) }
+pub fn leaf(ahead: Events, name: u8) -> bool
+    ensures { result ≡ first_leaf name (events_of ahead.entry) }
 {
-    if ahead.left < 2 {
-        return false;
-    }
-    if !has(s, ahead.at, ENTER, name) {
-        return false;
-    }
-    has(s, ahead.at + form.width, EXIT, name)
+    stands(ahead, ENTER, name) && stands(ahead.skip(1), EXIT, name)
 }
 
-// Behind the next event. The record is handed over for the contract alone.
-pub fn behind_one(s: &[u8], form: Form, ahead: Ahead) -> Ahead
-    requires { InRecord form s.now ahead × (0 < ahead.left) }
-    ensures { Further form s.now ahead result (tail (ahead_of form s.now ahead)) }
+// The events behind a leaf pair of this name if one stands next, else as they are.
+pub fn past_leaf<'a>(ahead: Events<'a>, name: u8) -> Events<'a>
+    ensures { events_of result ≡ behind_leaf name (events_of ahead.entry) }
 {
-    Ahead {
-        at: ahead.at + form.width,
-        left: ahead.left - 1,
+    if leaf(ahead, name) {
+        ahead.skip(2)
+    } else {
+        ahead
     }
 }
 
-// Behind a leaf pair of this name if one stands next, else where it is.
-pub fn past_leaf(s: &[u8], form: Form, ahead: Ahead, name: u8) -> Ahead
-    requires { InRecord form s.now ahead }
-    ensures { Further form s.now ahead result (behind_leaf name (ahead_of form s.now ahead)) }
+// A byte, if it is a mark.
+#[tactic(auto, unfolding(crate::specs::Item::known, record::specs::Choice::choose))]
+pub fn known_mark(byte: u8) -> Option<u8>
+    ensures { result ≡ marked (known byte) }
 {
-    if leaf(s, form, ahead, name) {
-        return behind_one(s, form, behind_one(s, form, ahead));
+    match byte {
+        b'*' | b'+' | b'-' | b'.' | b')' => Some(byte),
+        _ => None,
     }
-    ahead
 }
 
-// A byte that is a mark, or 0.
-pub fn known_mark(byte: u8) -> u8
-    ensures { result ≡ known byte }
+// The mark that the leaf pair that stands next lies over, if it is over one byte.
+pub fn mark_over(document: &[u8], pair: Events) -> Option<u8>
+    requires { Placed document.now (events_of pair) × (2 ≤ pair.count) }
+    ensures { result ≡ marked (mark_over document.now (events_of pair.entry)) }
 {
-    if byte == b'*' {
-        return byte;
+    let from = pair.event(0).place;
+    let end = pair.event(1).place;
+    if end != from + 1 {
+        return None;
     }
-    if byte == b'+' {
-        return byte;
-    }
-    if byte == b'-' {
-        return byte;
-    }
-    if byte == b'.' {
-        return byte;
-    }
-    if byte == b')' {
-        return byte;
-    }
-    0
+    known_mark(document[from])
 }
 
-// The mark that the leaf pair that stands next lies over, or 0 where it is not over one byte.
-pub fn mark_over(s: &[u8], form: Form, d: usize, e: usize, ahead: Ahead) -> u8
-    requires { GoodIn form s.now d e × InRecord form s.now ahead × (2 ≤ ahead.left) × (ahead.left ≤ e) }
-    ensures { result ≡ mark_over (document_in form s.now d) (ahead_of form s.now ahead) }
+// The mark of an item, of the events behind its enter; none where its shape is broken.
+pub fn item_mark(document: &[u8], inside: Events) -> Option<u8>
+    requires { Placed document.now (events_of inside) }
+    ensures { result ≡ marked (mark_in document.now (events_of inside.entry)) }
 {
-    let at = ahead.at;
-    let place = u32_at(s, at + 4);
-    if u32_at(s, at + form.width + 4) != place + 1 {
-        return 0;
+    let prefix = past_leaf(inside, SPACE_OR_TAB);
+    if !stands(prefix, ENTER, LIST_ITEM_PREFIX) {
+        return None;
     }
-    known_mark(s[4 + form.front + place])
-}
-
-// The mark of the item whose enter is the event before i, or 0 where its shape is broken.
-pub fn item_mark(s: &[u8], form: Form, d: usize, e: usize, i: usize) -> u8
-    requires { GoodIn form s.now d e × (i ≤ e) }
-    ensures { result ≡ mark_in (document_in form s.now d) (onward form s.now d e i) }
-{
-    let ahead = Ahead {
-        at: place_of(form, d, i),
-        left: e - i,
-    };
-    let prefix = past_leaf(s, form, ahead, SPACE_OR_TAB);
-    if !stands(s, form, prefix, ENTER, LIST_ITEM_PREFIX) {
-        return 0;
+    let marker = past_leaf(prefix.skip(1), LIST_ITEM_VALUE);
+    if !leaf(marker, LIST_ITEM_MARKER) {
+        return None;
     }
-    let marker = past_leaf(s, form, behind_one(s, form, prefix), LIST_ITEM_VALUE);
-    if !leaf(s, form, marker, LIST_ITEM_MARKER) {
-        return 0;
+    let end = past_leaf(marker.skip(2), SPACE_OR_TAB);
+    if !stands(end, EXIT, LIST_ITEM_PREFIX) {
+        return None;
     }
-    let behind = behind_one(s, form, behind_one(s, form, marker));
-    let end = past_leaf(s, form, behind, SPACE_OR_TAB);
-    if !stands(s, form, end, EXIT, LIST_ITEM_PREFIX) {
-        return 0;
-    }
-    mark_over(s, form, d, e, marker)
+    mark_over(document, marker)
 }

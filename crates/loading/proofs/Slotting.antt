@@ -6,12 +6,12 @@ use mathlib.Core.List.{List}
 use Prim.Native.Nat.{ℕ, ◌+◌, ◌*◌, ◌≤◌, ◌<◌}
 use native.Mathlib.Omega.{arith}
 use lib.Dec.{eqb}
-use lib.ListN.{length, get_or, set, length-set}
+use lib.ListN.{get_or, set, length-set}
 use lib.Seq.{get_or-set_same, get_or-set_other}
 use Rattle.slots.specs.Words.{get16}
-use Rattle.slots.specs.Layout.{Room, chain_of, with_whole, with_left, with_marker, with_opens, with_closes, with_chain, with_first_group, with_latest_group, with_link}
+use Rattle.slots.specs.Layout.{Room, chain_of, with_whole, with_left, with_marker, with_opens, with_closes, with_chain, with_first_group, with_latest_group, with_link, bit}
 use Rattle.slots.proofs.Laws.{length_put, get_put_same, get_put_other, byte_put_other, get_set_other}
-use Rattle.loading.specs.Filling.{bit, Keeps, Filled}
+use Rattle.loading.specs.Filling.{Keeps, Filled}
 
 -- a flag's byte is read back as the flag
 pub bit_flag : (b : Bool) → not (eqb (bit b) 0) ≡ b
@@ -30,9 +30,6 @@ opening w n size m o = with_opens (marked w n size m) n o
 
 abbrev pub filled : List ℕ → ℕ → ℕ → ℕ → ℕ → ℕ → ℕ → List ℕ
 filled w n size m o c k = with_latest_group (with_first_group (with_link (with_chain (with_closes (opening w n size m o) n c) n k) n 0) n 0) n 0
-
-pub length_filled : (w : List ℕ) (n size m o c k : ℕ) → length (filled w n size m o c k) ≡ length w
-length_filled w n size m o c k = simp (length_put, length-set)
 
 byte_set_other : (s : List ℕ) (at v b : ℕ) → (b ≡ at → ⊥) → get_or (set s at v) b 0 ≡ get_or s b 0
 byte_set_other s at v b n = get_or-set_other s at b v 0 n
@@ -144,9 +141,9 @@ module _ (w : List ℕ) (n size m o c k : ℕ) where
         }
 
 -- the calls that write a slot, one after the other
-pub written : {w w₁ w₂ w₃ w₄ w₅ : List ℕ} {n size m k : ℕ} {p q : Bool} → n < 1024 → k < 6147 → Room w →
-    w₁ ≡ with_whole w n size → w₂ ≡ with_left w₁ n size → w₃ ≡ with_marker w₂ n m → w₄ ≡ with_closes (with_opens w₃ n (bit p)) n (bit q) →
-    w₅ ≡ with_latest_group (with_first_group (with_link (with_chain w₄ n k) n 0) n 0) n 0 → Filled w n size m p q k w₅
-written {w} {w₁} {w₂} {w₃} {w₄} {w₅} {n} {size} {m} {k} {p} {q} slot known room e₁ e₂ e₃ e₄ e₅ =
-    let e : w₅ ≡ filled w n size m (bit p) (bit q) k = cc in
+pub written : {w w₁ w₂ w₃ w₄ w₅ w₆ : List ℕ} {n size m k : ℕ} {p q : Bool} → n < 1024 → k < 6147 → Room w →
+    w₁ ≡ with_whole w n size → w₂ ≡ with_left w₁ n size → w₃ ≡ with_marker w₂ n m → w₄ ≡ with_opens w₃ n (bit p) → w₅ ≡ with_closes w₄ n (bit q) →
+    w₆ ≡ with_latest_group (with_first_group (with_link (with_chain w₅ n k) n 0) n 0) n 0 → Filled w n size m p q k w₆
+written {w} {w₁} {w₂} {w₃} {w₄} {w₅} {w₆} {n} {size} {m} {k} {p} {q} slot known room e₁ e₂ e₃ e₄ e₅ e₆ =
+    let e : w₆ ≡ filled w n size m (bit p) (bit q) k = cc in
     rw e (holds_now w n size m (bit p) (bit q) k slot known room p q (bit_flag p) (bit_flag q))

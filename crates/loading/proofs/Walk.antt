@@ -7,9 +7,12 @@ use mathlib.Core.Option.{some}
 use Prim.Native.Nat.{ℕ, zero, suc, ◌+◌, ◌-◌, ◌*◌, ◌≤◌, ◌<◌}
 use native.Mathlib.Omega.{arith}
 use lib.Dec.{eqb}
-use lib.ListN.{length, get_or, set, length-set, length-map, length-append}
+use lib.ListN.{length, get_or, set, take, length-set, length-map, length-append}
 use lib.Seq.{get_or-set_same, get_or-set_other}
 use borrow.Author.Tests.{eqb-true, eqb-false}
+use Rattle.std.specs.Prelude.{Result, Ok, Err, Option, Some, None, slice_get}
+use Rattle.std.proofs.lemmas.Option.{none-some, slice_get-get_or}
+use Rattle.std.proofs.lemmas.List.{length-take-le, get_or-take}
 use Rattle.record.specs.Bytes.{u32_at}
 use Rattle.record.specs.Form.{place_in}
 use Rattle.record.specs.Event.{document_in, event_at, events_by, events_in}
@@ -26,11 +29,9 @@ use Rattle.runs.specs.Chains.{container_number}
 use Rattle.runs.specs.Pieces.{standing}
 use Rattle.slots.specs.Layout.{Room}
 use Rattle.loading.specs.Held.{Slotted, Holds}
-use Rattle.loading.specs.Filling.{Keeps, Settling, Settled}
-use Rattle.loading.specs.Promise.{Ready, Loads, Passes}
-use Rattle.loading.specs.declared.pass.Loaded.{Loaded}
-use Rattle.loading.specs.declared.pass.Loaded.TheVariants.{Runs, Offends}
-use Rattle.loading.specs.declared.pass.Pass.TheVariants.{Done, Wide}
+use Rattle.loading.specs.Filling.{numbered, Keeps, Settling, Settled}
+use Rattle.loading.specs.Promise.{Ready, Loads, Passes, at_event}
+use Rattle.loading.specs.declared.pass.Offender.{Offender}
 use Rattle.loading.proofs.Steps.{Reached, Shape, enters, no_enter, other_enter, none_left, all_found, standing_here, passed, followed, next_inside, offends, run_entered, next_alone, shape_tells}
 
 -- one run more at the end of a list
@@ -66,6 +67,11 @@ module _ (f : Run → Standing) where
           let below : j < length done = omega arith in
           let m : length (map f done) ≡ length done = length-map done f in
           rw (at_old done r j below) (k.others j (omega arith) ne (at (map f done) j) (q.slots j (omega arith)))
+
+ok_err : {n : ℕ} {o : Offender} → ◌≡◌ {A = Result ℕ Offender} (Ok n) (Err o) → ⊥
+ok_err {n} {o} q =
+    let z : ◌≡◌ {A = ℕ} 0 1 = cc in
+    omega arith
 
 -- where a turn begins
 pub record Walking (profile : Profile) (f : Form) (s : List ℕ) (d e options : ℕ) (w₀ w numbers : List ℕ) (depth i n : ℕ) : Type 0 where
@@ -128,16 +134,33 @@ module _ {profile : Profile} {f : Form} {s : List ℕ} {d e options : ℕ} {w₀
         holds = rw a at v.holds;
       }
 
-  pub container_none : depth ≤ 0 → Container numbers depth 0
+  container_none : depth ≤ 0 → Container numbers depth 0
   container_none h =
       let z : depth ≡ 0 = omega arith in
       record { number = rw (empty depth numbers z); known = omega arith }
 
-  pub container_top : 0 < depth → Container numbers depth (get_or numbers (depth - 1) 0 + 1)
+  container_top : 0 < depth → Container numbers depth (get_or numbers (depth - 1) 0 + 1)
   container_top h =
       let l : get_or numbers (depth - 1) 0 < e = v.low (depth - 1) (omega arith) in
       let p : e ≤ 2048 = v.good.few in
       record { number = rw (popped depth numbers h); known = omega arith }
+
+  -- it is the last of the numbers that are open
+  pub innermost : {r : Option ℕ} → depth < 64 → r ≡ slice_get (take depth numbers) (length (take depth numbers) - 1) → Container numbers depth (numbered r)
+  innermost {r} h e = go depth refl
+    where
+      whole : length (take depth numbers) ≡ depth
+      whole = length-take-le depth numbers (omega (arith, v.array))
+
+      go : (k : ℕ) → depth ≡ k → Container numbers depth (numbered r)
+      go zero z =
+          let none : r ≡ None = e ∙ rw z in
+          rw none (container_none (omega arith))
+      go (suc k) z =
+          let top : slice_get (take depth numbers) (depth - 1) ≡ Some (get_or numbers (depth - 1) 0) =
+          slice_get-get_or (take depth numbers) (depth - 1) 0 (omega (arith, whole)) ∙ ap (λ (x : ℕ). Some x) (get_or-take depth numbers (depth - 1) 0 (omega arith)) in
+          let some : r ≡ Some (get_or numbers (depth - 1) 0) = e ∙ ap (λ (i : ℕ). slice_get (take depth numbers) (i - 1)) whole ∙ top in
+          rw some (container_top (omega arith))
 
   pub document_whole : 4 + f.front + d ≤ length s
   document_whole =
@@ -342,58 +365,39 @@ module _ {profile : Profile} {f : Form} {s : List ℕ} {d e options : ℕ} {w₀
               }
 
   -- the two answers
-  pub answers_broken : offender (document_in f s d) options (events_in f s d e) ≡ some i → Loads profile f s d e options w₀ (Offends i) w
+  pub answers_broken : offender (document_in f s d) options (events_in f s d e) ≡ some i → Loads profile f s d e options w₀ (Err (at_event i)) w
   answers_broken h =
       record {
         offends = λ k q.
-            let z : i ≡ k = cc in
-            rw z at h;
-        runs = λ m q.
-            let z : ◌≡◌ {A = ℕ} 0 1 = cc in
-            absurd (omega arith);
+            let z : at_event i ≡ at_event k = cc in
+            rw (ap (λ (o : Offender). o.event) z) at h;
+        runs = λ m q. absurd (ok_err (sym q));
         same_length = v.same_length;
       }
 
-  pub answers_runs : e ≤ i → Loads profile f s d e options w₀ (Runs n) w
+  pub answers_runs : e ≤ i → Loads profile f s d e options w₀ (Ok n) w
   answers_runs h =
       let r : Ready profile (document_in f s d) (events_in f s d e) options n w = finished h in
       record {
-        offends = λ k q.
-            let z : ◌≡◌ {A = ℕ} 0 1 = cc in
-            absurd (omega arith);
+        offends = λ k q. absurd (ok_err q);
         runs = λ m q.
             let z : n ≡ m = cc in
             rw z at r;
         same_length = v.same_length;
       }
 
--- a pass that is done, and one that lacks the ranges
-pub pass_done : {profile : Profile} {marks : List ℕ} {f : Form} {s : List ℕ} {d e options : ℕ} {w : List ℕ} {l : Loaded} {w' : List ℕ} →
+-- a pass that has an answer, and one that lacks the ranges
+pub pass_done : {profile : Profile} {marks : List ℕ} {f : Form} {s : List ℕ} {d e options : ℕ} {w : List ℕ} {l : Result ℕ Offender} {w' : List ℕ} →
     Loads profile f s d e options w l w' →
-    Passes profile marks f s d e options w (Done l) w'
+    Passes profile marks f s d e options w (Some l) w'
 pass_done {profile} {marks} {f} {s} {d} {e} {options} {w} {l} {w'} p =
     record {
-      done = λ k q. subst (λ (x : Loaded). Loads profile f s d e options w x w') (same_done l k q) p;
-      undone = λ q. absurd (not_wide l q);
+      done = λ k q.
+          let z : l ≡ k = cc in
+          subst (λ (x : Result ℕ Offender). Loads profile f s d e options w x w') z p;
+      undone = λ q. absurd (none-some _ (sym q));
     }
-  where
-    same_done : (x y : Loaded) → Done x ≡ Done y → x ≡ y
-    same_done x y q = cc
-
-    not_wide : (x : Loaded) → Done x ≡ Wide → ⊥
-    not_wide x q =
-        let z : ◌≡◌ {A = ℕ} 0 1 = cc in
-        omega arith
 
 pub pass_wide : {profile : Profile} {marks : List ℕ} {f : Form} {s : List ℕ} {d e options : ℕ} {w w' : List ℕ} → length marks ≡ 0 →
-    Passes profile marks f s d e options w Wide w'
-pass_wide n =
-    record {
-      done = λ k q. absurd (wide_not k q);
-      undone = λ _. n;
-    }
-  where
-    wide_not : (x : Loaded) → Wide ≡ Done x → ⊥
-    wide_not x q =
-        let z : ◌≡◌ {A = ℕ} 0 1 = cc in
-        omega arith
+    Passes profile marks f s d e options w None w'
+pass_wide n = record { done = λ k q. absurd (none-some _ q); undone = λ _. n }

@@ -1,6 +1,6 @@
 -- What the small calls that fill a slot promise each other: a slot written, a run put into it, and that no other slot changed.
 -- Assumes nothing.
-use Rattle.std.specs.Prelude.{ℕ, ◌+◌, ◌≤◌, ◌<◌, ◌≡◌, Bool, true, false, List, ◌∷◌, length, get_or}
+use Rattle.std.specs.Prelude.{ℕ, ◌+◌, ◌≤◌, ◌<◌, ◌≡◌, Bool, true, List, ◌∷◌, length, get_or, Option, Some, None, ⊤}
 use Rattle.record.specs.Bytes.{u32_at}
 use Rattle.record.specs.Event.{document_in, event_at}
 use Rattle.record.specs.declared.event.Event.{Event}
@@ -13,10 +13,10 @@ use Rattle.runs.specs.Pieces.{standing}
 use Rattle.slots.specs.Layout.{Room, whole_of, left_of, marker_of, opens_of, closes_of, chain_of, first_group_of, latest_group_of, link_of}
 use Rattle.loading.specs.Held.{Slotted}
 
--- a flag as a byte
-abbrev pub bit : Bool → ℕ
-bit true = 1
-bit false = 0
+-- a container as a number: that of its enter event plus 1, or 0 for none
+abbrev pub numbered : Option ℕ → ℕ
+numbered None = 0
+numbered (Some k) = k + 1
 
 -- what slots held before and hold still
 pub record Keeps (w : List ℕ) (n : ℕ) (w' : List ℕ) : Type 0 where
@@ -54,7 +54,7 @@ pub record Settled (profile : Profile) (f : Form) (s : List ℕ) (d options at c
       Slotted w' n (standing profile options (run_of (document_in f s d) (event_at s at) (event_at s (at + f.width) ∷ es) i held))
   pub kept : Keeps w n w'
 
--- either that is done, or it is not, for want of the ranges
-pub record SettledOr (marks : List ℕ) (r : Bool) (Done : Type 0) : Type 0 where
-  pub done : r ≡ true → Done
-  pub undone : r ≡ false → length marks ≡ 0
+-- either that is done, or there is no answer, for want of the ranges
+pub record SettledOr (marks : List ℕ) (r : Option ⊤) (Done : Type 0) : Type 0 where
+  pub done : r ≡ Some tt → Done
+  pub undone : r ≡ None → length marks ≡ 0

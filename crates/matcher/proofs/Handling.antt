@@ -12,6 +12,7 @@ use native.Mathlib.Omega.{arith}
 use lib.Dec.{eqb}
 use lib.ListN.{length, length-append}
 use borrow.Author.Tests.{eqb-true, eqb-false}
+use Rattle.std.specs.Prelude.{Result, Ok, Err}
 use Rattle.runs.specs.declared.Next.{Next}
 use Rattle.runs.specs.declared.Next.TheVariants.{Match, Done}
 use Rattle.runs.specs.Rule.{Rule}
@@ -20,9 +21,9 @@ use Rattle.chains.specs.Walk.{onward, Sound}
 use Rattle.chains.specs.Step.{matched_at, Takable}
 use Rattle.matcher.specs.State.{Ready, InOrder}
 use Rattle.matcher.specs.Closer.{finish, closer_from}
-use Rattle.matcher.specs.Along.{closer_by}
-use Rattle.matcher.specs.declared.closers.Step.{Step}
-use Rattle.matcher.specs.declared.closers.Step.TheVariants.{Closed, Full}
+use Rattle.matcher.specs.Along.{closer_by, closed_at, too_many}
+use Rattle.matcher.specs.declared.closers.Closed.{Closed}
+use Rattle.matcher.specs.declared.closers.TooMany.{TooMany}
 use Rattle.matcher.specs.Promise.{Begun, Handled}
 use Rattle.matcher.proofs.Ways.{done_way, full_way, again_way}
 use Rattle.matcher.proofs.Chained.{Went, onward_went, reach}
@@ -96,7 +97,7 @@ module _ {rule : Rule} {w₀ : List ℕ} {height n from groups tried : ℕ} {w :
     pub keeps_done_few : {u : ℕ} → x ≡ Done u → u ≤ 1048576
     keeps_done_few d = walk_done_few rule k.order k.upto k.within e d
 
-    pub keeps_done : {u : ℕ} → x ≡ Done u → (Closed until h₁ made (count + u), w₁) ≡ closer_by rule w₀ height from n groups tried
+    pub keeps_done : {u : ℕ} → x ≡ Done u → (Ok (closed_at until h₁ made (count + u)), w₁) ≡ closer_by rule w₀ height from n groups tried
     keeps_done d = sym (k.way ∙ done_way rule w held at until made count e d)
 
     module _ {o c u : ℕ} (d : x ≡ Match o c u) where
@@ -106,7 +107,7 @@ module _ {rule : Rule} {w₀ : List ℕ} {height n from groups tried : ℕ} {w :
       pub keeps_below : c < 1024
       keeps_below = omega (arith, walk_below rule k.order k.upto k.within e d, k.order.sound.few)
 
-      pub keeps_full : made ≡ 1000 → (Full, w₁) ≡ closer_by rule w₀ height from n groups tried
+      pub keeps_full : made ≡ 1000 → (Err too_many, w₁) ≡ closer_by rule w₀ height from n groups tried
       keeps_full m = sym (k.way ∙ full_way rule w held at until made count e d m)
 
       module _ (m : made ≡ 1000 → ⊥) where
@@ -162,7 +163,7 @@ module _ {rule : Rule} {rs : List Standing} {gs : List Group} {n from tried : �
       none : forth rule (until - at) g.runs at 0 ≡ Done u
       none = sym went.next ∙ d
 
-      going_done : length rs ≡ n → Handled rule rs gs n from tried (Closed until h₁ made (count + u)) w₁
+      going_done : length rs ≡ n → Handled rule rs gs n from tried (Ok (closed_at until h₁ made (count + u))) w₁
       unfolding closer_from
       going_done en =
           rw (en, g.same, finish_done rule (total g.runs) g.runs at until g.groups count u none)
@@ -222,7 +223,7 @@ module _ {rule : Rule} {rs : List Standing} {gs : List Group} {n from tried : �
             }
 
 -- what going along the chains comes to, turn by turn
-module _ (rule : Rule) (rs : List Standing) (gs : List Group) (n from tried : ℕ) (long : length rs ≡ n) (step : Step) (w' : List ℕ) where
+module _ (rule : Rule) (rs : List Standing) (gs : List Group) (n from tried : ℕ) (long : length rs ≡ n) (step : Result Closed TooMany) (w' : List ℕ) where
   abbrev Goal : Type 0
   Goal = Handled rule rs gs n from tried step w'
 
@@ -230,18 +231,18 @@ module _ (rule : Rule) (rs : List Standing) (gs : List Group) (n from tried : �
       → ((made ≡ 1000 → ⊥) → (v : List ℕ) (c h u : ℕ) → Going rule rs gs n from tried v c (c + 1) h (made + 1) u → (step, w') ≡ closer_by rule v h c (c + 1) (made + 1) u → Goal) → Goal
   turn {w} {at} {until} {held} {made} {count} g q on = go (onward (until - at) rule w held at 0) refl
     where
-      is : (s : Step) (v : List ℕ) → closer_by rule w held at until made count ≡ (s, v) → Handled rule rs gs n from tried s v → Goal
+      is : (s : Result Closed TooMany) (v : List ℕ) → closer_by rule w held at until made count ≡ (s, v) → Handled rule rs gs n from tried s v → Goal
       is s v f h =
           let a : step ≡ s = ap (λ y. y.0) (q ∙ f) in
           let b : w' ≡ v = ap (λ y. y.1) (q ∙ f) in
           rw (a, b) h
 
       go : (y : Next × (List ℕ × ℕ)) → onward (until - at) rule w held at 0 ≡ y → Goal
-      go (Done u, (v, h)) e = is (Closed until h made (count + u)) v (done_way rule w held at until made count (sym e) refl) (going_done g (sym e) refl long)
+      go (Done u, (v, h)) e = is (Ok (closed_at until h made (count + u))) v (done_way rule w held at until made count (sym e) refl) (going_done g (sym e) refl long)
       go (Match o c u, (v, h)) e = room (eqb made 1000) refl
         where
           room : (z : Bool) → eqb made 1000 ≡ z → Goal
-          room true z = let m : made ≡ 1000 = eqb-true made 1000 z in is Full v (full_way rule w held at until made count (sym e) refl m) (going_full g (sym e) refl m long)
+          room true z = let m : made ≡ 1000 = eqb-true made 1000 z in is (Err too_many) v (full_way rule w held at until made count (sym e) refl m) (going_full g (sym e) refl m long)
           room false z =
               let m : made ≡ 1000 → ⊥ = eqb-false made 1000 z in
               let t = matched_at v h o c made in
@@ -252,7 +253,7 @@ module _ (rule : Rule) (rs : List Standing) (gs : List Group) (n from tried : �
   handled (suc j) w at until held made count z g q = turn g q (λ m v c h u g' q'. handled j v c (c + 1) h (made + 1) u (omega arith) g' q')
 
 -- on memory that is ready for some runs
-pub handled_by_closer_by : (rule : Rule) {w : List ℕ} {height n from groups tried : ℕ} (step : Step) (w' : List ℕ) → Begun w height n from groups tried → (step, w') ≡ closer_by rule w height from n groups tried
+pub handled_by_closer_by : (rule : Rule) {w : List ℕ} {height n from groups tried : ℕ} (step : Result Closed TooMany) (w' : List ℕ) → Begun w height n from groups tried → (step, w') ≡ closer_by rule w height from n groups tried
     → (rs : List Standing) (gs : List Group) → Ready w height rs gs n from → length gs ≡ groups → Handled rule rs gs n from tried step w'
 handled_by_closer_by rule {w} {height} {n} {from} {groups} {tried} step w' b q rs gs r e =
     handled rule rs gs n from tried r.reads.len step w' (1000 - groups) w from n height groups tried refl

@@ -5,6 +5,7 @@ use mathlib.Core.Path.{◌≡◌, refl, ◌∙◌, sym, ap}
 use mathlib.Core.List.{List}
 use mathlib.Core.Bool.{Bool, true, false}
 use native.Mathlib.Omega.{arith}
+use Rattle.std.specs.Prelude.{Ok}
 use Rattle.runs.specs.declared.Next.TheVariants.{Done}
 use Rattle.runs.specs.Rule.{Rule}
 use Rattle.runs.specs.Plain.{miss}
@@ -12,7 +13,7 @@ use Rattle.slots.specs.Layout.{head_of, chain_of}
 use Rattle.chains.specs.Walk.{seek, closing, passed, raised, onward}
 use Rattle.chains.proofs.Steps.{down_zero, seek_closing, seek_not, onward_miss, onward_end}
 use Rattle.matcher.specs.OffChains.{EmptyIsInOrder, EmptyMayBegin, EmptyTakesNone}
-use Rattle.matcher.specs.declared.closers.Step.TheVariants.{Closed}
+use Rattle.matcher.specs.Along.{closed_at}
 use Rattle.matcher.proofs.Ways.{done_way}
 
 pub empty_is_in_order : EmptyIsInOrder
@@ -46,4 +47,4 @@ module _ (rule : Rule) (w : List ℕ) (height from : ℕ) (e : head_of w (chain_
 pub empty_takes_none : EmptyTakesNone
 empty_takes_none rule w height from groups tried e =
     let z : tried + 0 ≡ tried = omega arith in
-    done_way rule w height from (from + 1) groups tried (sym (past rule w height from e)) refl ∙ ap (λ y. (Closed (from + 1) (raised w height from) groups y, passed w height from)) z
+    done_way rule w height from (from + 1) groups tried (sym (past rule w height from e)) refl ∙ ap (λ y. (Ok (closed_at (from + 1) (raised w height from) groups y), passed w height from)) z

@@ -6,16 +6,16 @@ use mathlib.Core.Path.{◌≡◌, refl, ◌∙◌, sym}
 use mathlib.Core.List.{List, []}
 use native.Mathlib.Omega.{arith}
 use lib.ListN.{length}
+use Rattle.std.specs.Prelude.{Result, Ok, Err}
 use Rattle.runs.specs.Rule.{Rule}
 use Rattle.runs.specs.Plain.{Standing, Group, rounds, total, plain}
-use Rattle.matcher.specs.declared.closers.Step.{Step}
-use Rattle.matcher.specs.declared.closers.Step.TheVariants.{Closed, Full}
-use Rattle.matcher.specs.declared.closers.Found.TheVariants.{Groups}
+use Rattle.matcher.specs.declared.closers.Closed.{Closed}
+use Rattle.matcher.specs.declared.closers.TooMany.{TooMany}
 use Rattle.matcher.specs.Chains.{latest, openers}
 use Rattle.matcher.specs.Groups.{first_closed, last_opened}
 use Rattle.matcher.specs.State.{Fresh, Ready}
 use Rattle.matcher.specs.Closer.{Finish, closer_from}
-use Rattle.matcher.specs.Along.{along, chained}
+use Rattle.matcher.specs.Along.{along, chained, groups_at}
 use Rattle.matcher.specs.Promise.{Begun, ClosedAs, Handles, Loaded, Answered}
 use Rattle.matcher.proofs.Order.{ready_order}
 use Rattle.matcher.proofs.Rounds.{rounds_finish, rounds_longer, rounds_end}
@@ -83,23 +83,23 @@ module _ {rule : Rule} {rs : List Standing} {n : ℕ} {w : List ℕ} {from heigh
   unfolding closer_from
   on = g.same ∙ rounds_finish rule (total g.runs + 1) g.runs from (length g.runs) g.made tried (omega (arith, long, g.ready.within)) (omega arith) (omega arith)
 
-  module _ {step : Step} {w₁ : List ℕ} (s : Handles rule w height n from groups tried step w₁) where
-    pub resolve_full : step ≡ Full → 1000 < length (plain rule rs).groups
+  module _ {step : Result Closed TooMany} {w₁ : List ℕ} (s : Handles rule w height n from groups tried step w₁) where
+    pub resolve_full : {x : TooMany} → step ≡ Err x → 1000 < length (plain rule rs).groups
     resolve_full e =
         let a : 1000 < length f.groups = rw e at (s.of g.runs g.made g.ready g.size) in
         rw on (omega (arith, rounds_longer rule (total f.runs + 1) f.runs f.next f.groups f.tried))
 
-    module _ {next held made count : ℕ} (e : step ≡ Closed next held made count) where
-      closed : ClosedAs f n from next held made count w₁
+    module _ {c : Closed} (e : step ≡ Ok c) where
+      closed : ClosedAs f n from c.next c.height c.groups c.tried w₁
       closed = rw e at (s.of g.runs g.made g.ready g.size)
 
-      pub resolve_on : from < next
+      pub resolve_on : from < c.next
       resolve_on = omega (arith, closed.onward, closed.at)
 
-      pub resolve_within : next ≤ n
+      pub resolve_within : c.next ≤ n
       resolve_within = omega (arith, closed.ready.within, closed.at)
 
-      pub resolve_again : Resolving rule rs n w₁ next held made count
+      pub resolve_again : Resolving rule rs n w₁ c.next c.height c.groups c.tried
       resolve_again =
           record {
             runs = f.runs;
@@ -110,7 +110,7 @@ module _ {rule : Rule} {rs : List Standing} {n : ℕ} {w : List ℕ} {from heigh
             few = closed.few;
           }
 
-  pub resolve_end : n ≤ from → Answered rule rs n (Groups groups tried) w
+  pub resolve_end : n ≤ from → Answered rule rs n (Ok (groups_at groups tried)) w
   resolve_end h =
       rw (g.same ∙ rounds_end rule (total g.runs) g.runs from g.made tried (omega (arith, long)))
       (record { made = sym g.size; count = refl; grouped = g.ready.grouped; reads = g.ready.reads; fits = g.ready.grouped.fits })

@@ -5,24 +5,24 @@ use mathlib.Core.Path.{◌≡◌, refl}
 use mathlib.Core.List.{List}
 use native.Mathlib.Omega.{arith}
 use borrow.Author.Tests.{eq-eqb, ne_eqb, lt-ltb, le-ltb}
+use Rattle.std.specs.Prelude.{Result, Ok, Err}
 use Rattle.record.specs.Choice.{choose}
 use Rattle.runs.specs.Rule.{Rule}
 use Rattle.runs.specs.declared.Next.{Next}
 use Rattle.runs.specs.declared.Next.TheVariants.{Match, Done}
 use Rattle.chains.specs.Walk.{onward}
 use Rattle.chains.specs.Step.{matched_at}
-use Rattle.matcher.specs.Along.{closer_along, closer_by, along}
-use Rattle.matcher.specs.declared.closers.Step.{Step}
-use Rattle.matcher.specs.declared.closers.Step.TheVariants.{Closed, Full}
-use Rattle.matcher.specs.declared.closers.Found.TheVariants.{Groups, TooMany}
+use Rattle.matcher.specs.Along.{closer_along, closer_by, along, closed_at, groups_at, too_many}
+use Rattle.matcher.specs.declared.closers.Closed.{Closed}
+use Rattle.matcher.specs.declared.closers.TooMany.{TooMany}
 
 -- one turn for one closer
 module _ (rule : Rule) (w : List ℕ) (held at until made count : ℕ) {x : Next} {w₁ : List ℕ} {h₁ : ℕ} (e : (x, (w₁, h₁)) ≡ onward (until - at) rule w held at 0) where
-  pub done_way : {u : ℕ} → x ≡ Done u → closer_by rule w held at until made count ≡ (Closed until h₁ made (count + u), w₁)
+  pub done_way : {u : ℕ} → x ≡ Done u → closer_by rule w held at until made count ≡ (Ok (closed_at until h₁ made (count + u)), w₁)
   unfolding closer_along
   done_way d = rw (← e, d)
 
-  pub full_way : {o c u : ℕ} → x ≡ Match o c u → made ≡ 1000 → closer_by rule w held at until made count ≡ (Full, w₁)
+  pub full_way : {o c u : ℕ} → x ≡ Match o c u → made ≡ 1000 → closer_by rule w held at until made count ≡ (Err too_many, w₁)
   unfolding closer_along choose
   full_way d m = rw (← e, d, eq-eqb made 1000 m)
 
@@ -35,19 +35,19 @@ module _ (rule : Rule) (w : List ℕ) (held at until made count : ℕ) {x : Next
 
 -- one turn over the closers
 module _ (rule : Rule) (w : List ℕ) (height n from made count : ℕ) where
-  pub end_way : (k : ℕ) → n ≤ from → along k rule w height n from made count ≡ (Groups made count, w)
+  pub end_way : (k : ℕ) → n ≤ from → along k rule w height n from made count ≡ (Ok (groups_at made count), w)
   unfolding along choose
   end_way zero h = refl
   end_way (suc k) h = rw (le-ltb from n h)
 
-  module _ {step : Step} {w₁ : List ℕ} (e : (step, w₁) ≡ closer_by rule w height from n made count) (h : from < n) where
-    pub full_all : (k : ℕ) → n - from < k → step ≡ Full → along k rule w height n from made count ≡ (TooMany, w₁)
+  module _ {step : Result Closed TooMany} {w₁ : List ℕ} (e : (step, w₁) ≡ closer_by rule w height from n made count) (h : from < n) where
+    pub full_all : (k : ℕ) {x : TooMany} → n - from < k → step ≡ Err x → along k rule w height n from made count ≡ (Err x, w₁)
     unfolding along choose
     full_all zero l d = absurd (omega arith)
     full_all (suc k) l d = rw (lt-ltb from n h, ← e, d)
 
-    pub again_all : (k : ℕ) {next h' made' count' : ℕ} → n - from < k → step ≡ Closed next h' made' count' →
-        along k rule w height n from made count ≡ along (k - 1) rule w₁ h' n next made' count'
+    pub again_all : (k : ℕ) {c : Closed} → n - from < k → step ≡ Ok c →
+        along k rule w height n from made count ≡ along (k - 1) rule w₁ c.height n c.next c.groups c.tried
     unfolding along choose
     again_all zero l d = absurd (omega arith)
     again_all (suc k) l d =

@@ -5,17 +5,26 @@
 -- closers together are asked of memory whose chains are empty and are equal to `chained`; these chains are the matcher's own, and a search over all
 -- runs would come to the same.
 -- Assumes nothing.
-use Rattle.std.specs.Prelude.{ℕ, zero, suc, ◌+◌, ◌-◌, List, eqb, ltb}
+use Rattle.std.specs.Prelude.{ℕ, zero, suc, ◌+◌, ◌-◌, List, eqb, ltb, Result, Ok, Err}
 use Rattle.record.specs.Choice.{choose}
 use Rattle.runs.specs.Rule.{Rule}
 use Rattle.runs.specs.declared.Next.{Next}
 use Rattle.runs.specs.declared.Next.TheVariants.{Match, Done}
 use Rattle.chains.specs.Walk.{onward}
 use Rattle.chains.specs.Step.{matched_at}
-use Rattle.matcher.specs.declared.closers.Step.{Step}
-use Rattle.matcher.specs.declared.closers.Step.TheVariants.{Closed, Full}
-use Rattle.matcher.specs.declared.closers.Found.{Found}
-use Rattle.matcher.specs.declared.closers.Found.TheVariants.{Groups, TooMany}
+use Rattle.matcher.specs.declared.closers.Closed.{Closed}
+use Rattle.matcher.specs.declared.closers.TooMany.{TooMany}
+use Rattle.matcher.specs.declared.closers.Groups.{Groups}
+
+-- where a closer leaves things, what all matches come to, and that there are more groups than a result can hold
+abbrev pub closed_at : ℕ → ℕ → ℕ → ℕ → Closed
+closed_at next height groups tried = record { next = next; height = height; groups = groups; tried = tried }
+
+abbrev pub groups_at : ℕ → ℕ → Groups
+groups_at groups tried = record { groups = groups; tried = tried }
+
+abbrev pub too_many : TooMany
+too_many = record {}
 
 -- a walk has found nothing, or a match
 abbrev pub walked : {A : Type 0} → Next × (List ℕ × ℕ) → (ℕ → List ℕ → ℕ → A) → (ℕ → ℕ → ℕ → List ℕ → ℕ → A) → A
@@ -24,31 +33,31 @@ walked (Match o c u, (w, h)) done found = found o c u w h
 
 -- one closer to its end, at most k matches: from the run `at` up to the run `until`, where `made` groups are made and `count` candidates tried; once
 -- a closer is found only that closer is tried again
-unfoldable pub closer_along : ℕ → Rule → List ℕ → ℕ → ℕ → ℕ → ℕ → ℕ → Step × List ℕ
-closer_along zero rule w height at until made count = (Full, w)
+unfoldable pub closer_along : ℕ → Rule → List ℕ → ℕ → ℕ → ℕ → ℕ → ℕ → Result Closed TooMany × List ℕ
+closer_along zero rule w height at until made count = (Err too_many, w)
 closer_along (suc k) rule w height at until made count =
     walked (onward (until - at) rule w height at 0)
-    (λ u v h. (Closed until h made (count + u), v))
+    (λ u v h. (Ok (closed_at until h made (count + u)), v))
     (λ o c u v h.
     let m = matched_at v h o c made in
-    choose (eqb made 1000) (Full, v) (closer_along k rule m.0 m.1 c (c + 1) (made + 1) (count + u)))
+    choose (eqb made 1000) (Err too_many, v) (closer_along k rule m.0 m.1 c (c + 1) (made + 1) (count + u)))
 
 -- there is room for 1,000 groups
-abbrev pub closer_by : Rule → List ℕ → ℕ → ℕ → ℕ → ℕ → ℕ → Step × List ℕ
+abbrev pub closer_by : Rule → List ℕ → ℕ → ℕ → ℕ → ℕ → ℕ → Result Closed TooMany × List ℕ
 closer_by rule w height at until made count = closer_along (suc (1000 - made)) rule w height at until made count
 
 -- a closer is finished, or there was no room
-abbrev pub stepped : Step × List ℕ → (ℕ → ℕ → ℕ → ℕ → List ℕ → Found × List ℕ) → Found × List ℕ
-stepped (Closed next h made count, w) on = on next h made count w
-stepped (Full, w) on = (TooMany, w)
+abbrev pub stepped : Result Closed TooMany × List ℕ → (ℕ → ℕ → ℕ → ℕ → List ℕ → Result Groups TooMany × List ℕ) → Result Groups TooMany × List ℕ
+stepped (Ok c, w) on = on c.next c.height c.groups c.tried w
+stepped (Err e, w) on = (Err e, w)
 
 -- closer by closer, at most k of them
-unfoldable pub along : ℕ → Rule → List ℕ → ℕ → ℕ → ℕ → ℕ → ℕ → Found × List ℕ
-along zero rule w height n from made count = (Groups made count, w)
+unfoldable pub along : ℕ → Rule → List ℕ → ℕ → ℕ → ℕ → ℕ → ℕ → Result Groups TooMany × List ℕ
+along zero rule w height n from made count = (Ok (groups_at made count), w)
 along (suc k) rule w height n from made count =
     let rest = stepped (closer_by rule w height from n made count) (λ next h made' count' v. along k rule v h n next made' count') in
-    choose (ltb from n) rest (Groups made count, w)
+    choose (ltb from n) rest (Ok (groups_at made count), w)
 
 -- all of them, among n runs
-unfoldable pub chained : Rule → List ℕ → ℕ → Found × List ℕ
+unfoldable pub chained : Rule → List ℕ → ℕ → Result Groups TooMany × List ℕ
 chained rule w n = along (n + 1) rule w 0 n 0 0 0

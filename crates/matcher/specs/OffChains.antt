@@ -2,14 +2,13 @@
 -- container. So a step that searched all earlier runs would not keep the promise.
 -- These are the statements; proofs/OffChains.antt proves each under the name in small letters.
 -- Assumes nothing.
-use Rattle.std.specs.Prelude.{ℕ, ◌+◌, ◌*◌, ◌<◌, ◌≤◌, ◌≡◌, List}
+use Rattle.std.specs.Prelude.{ℕ, ◌+◌, ◌*◌, ◌<◌, ◌≤◌, ◌≡◌, List, Ok}
 use Rattle.runs.specs.Rule.{Rule}
 use Rattle.slots.specs.Layout.{Room, link_of, head_of, chain_of}
 use Rattle.chains.specs.Walk.{passed, raised}
 use Rattle.matcher.specs.State.{InOrder}
-use Rattle.matcher.specs.Along.{closer_by}
+use Rattle.matcher.specs.Along.{closer_by, closed_at}
 use Rattle.matcher.specs.Promise.{Begun}
-use Rattle.matcher.specs.declared.closers.Step.TheVariants.{Closed}
 
 -- memory whose chains are empty and in which no run is open is in order at any run: all that is asked of the slots is that links fall and numbers
 -- are in range
@@ -29,4 +28,4 @@ EmptyMayBegin =
 abbrev pub EmptyTakesNone : Type 0
 EmptyTakesNone =
     (rule : Rule) (w : List ℕ) (height from groups tried : ℕ) → head_of w (chain_of w from) ≡ 0 →
-    closer_by rule w height from (from + 1) groups tried ≡ (Closed (from + 1) (raised w height from) groups tried, passed w height from)
+    closer_by rule w height from (from + 1) groups tried ≡ (Ok (closed_at (from + 1) (raised w height from) groups tried), passed w height from)

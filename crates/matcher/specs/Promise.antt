@@ -2,13 +2,12 @@
 -- Document 01: "After each closer the chains .. list exactly the runs up to it with markers left that can still open, latest first, as the
 -- plain rule has them on finishing that closer; the step that handles one closer promises this at its exit."
 -- Assumes nothing.
-use Rattle.std.specs.Prelude.{ℕ, ◌+◌, ◌*◌, ◌<◌, ◌≤◌, ◌≡◌, List, length}
+use Rattle.std.specs.Prelude.{ℕ, ◌+◌, ◌*◌, ◌<◌, ◌≤◌, ◌≡◌, List, length, Result, Ok, Err}
 use Rattle.runs.specs.Rule.{Rule}
 use Rattle.runs.specs.Plain.{Standing, Group, Outcome, plain}
-use Rattle.matcher.specs.declared.closers.Step.{Step}
-use Rattle.matcher.specs.declared.closers.Step.TheVariants.{Closed, Full}
-use Rattle.matcher.specs.declared.closers.Found.{Found}
-use Rattle.matcher.specs.declared.closers.Found.TheVariants.{Groups, TooMany}
+use Rattle.matcher.specs.declared.closers.Closed.{Closed}
+use Rattle.matcher.specs.declared.closers.TooMany.{TooMany}
+use Rattle.matcher.specs.declared.closers.Groups.{Groups}
 use Rattle.matcher.specs.Chains.{Reads}
 use Rattle.matcher.specs.Groups.{Grouped}
 use Rattle.matcher.specs.State.{Fresh, Ready, InOrder}
@@ -33,13 +32,13 @@ pub record ClosedAs (f : Finish) (n from next height groups tried : ℕ) (w : Li
   pub onward : from < f.next
   pub few : tried ≤ (groups + next) * 1048576
 
-abbrev pub Handled : Rule → List Standing → List Group → ℕ → ℕ → ℕ → Step → List ℕ → Type 0
-Handled rule rs gs n from t (Closed next height groups tried) w = ClosedAs (closer_from rule rs from gs t) n from next height groups tried w
-Handled rule rs gs n from t Full w = 1000 < length (closer_from rule rs from gs t).groups
+abbrev pub Handled : Rule → List Standing → List Group → ℕ → ℕ → ℕ → Result Closed TooMany → List ℕ → Type 0
+Handled rule rs gs n from t (Ok c) w = ClosedAs (closer_from rule rs from gs t) n from c.next c.height c.groups c.tried w
+Handled rule rs gs n from t (Err e) w = 1000 < length (closer_from rule rs from gs t).groups
 
 -- this, for all runs and groups that the memory had, if it had any; and, on all memory that is as asked, step and memory are what going along the
 -- chains comes to
-pub record Handles (rule : Rule) (w : List ℕ) (height n from groups tried : ℕ) (step : Step) (w' : List ℕ) : Type 0 where
+pub record Handles (rule : Rule) (w : List ℕ) (height n from groups tried : ℕ) (step : Result Closed TooMany) (w' : List ℕ) : Type 0 where
   pub of : (rs : List Standing) (gs : List Group) → Ready w height rs gs n from → length gs ≡ groups → Handled rule rs gs n from tried step w'
   pub along : (step, w') ≡ closer_by rule w height from n groups tried
 
@@ -56,11 +55,11 @@ pub record GroupsOf (out : Outcome) (n groups tried : ℕ) (w : List ℕ) : Type
   pub reads : Reads w out.runs n
   pub fits : length out.groups ≤ 1000
 
-abbrev pub Answered : Rule → List Standing → ℕ → Found → List ℕ → Type 0
-Answered rule rs n (Groups groups tried) w = GroupsOf (plain rule rs) n groups tried w
-Answered rule rs n TooMany w = 1000 < length (plain rule rs).groups
+abbrev pub Answered : Rule → List Standing → ℕ → Result Groups TooMany → List ℕ → Type 0
+Answered rule rs n (Ok g) w = GroupsOf (plain rule rs) n g.groups g.tried w
+Answered rule rs n (Err e) w = 1000 < length (plain rule rs).groups
 
 -- this, for all runs that the memory had; and answer and memory are what the chained matcher comes to
-pub record Answers (rule : Rule) (w : List ℕ) (n : ℕ) (found : Found) (w' : List ℕ) : Type 0 where
+pub record Answers (rule : Rule) (w : List ℕ) (n : ℕ) (found : Result Groups TooMany) (w' : List ℕ) : Type 0 where
   pub of : (rs : List Standing) → Fresh w rs n → Answered rule rs n found w'
   pub along : (found, w') ≡ chained rule w n

@@ -8,7 +8,7 @@ use Prim.Native.Nat.{ℕ, ◌+◌, ◌*◌, ◌≤◌, ◌<◌}
 use native.Mathlib.Omega.{arith}
 use lib.ListN.{length}
 use borrow.Author.Tests.{lt-ltb, le-ltb, ltb-true}
-use Rattle.record.specs.Check.{first_return}
+use Rattle.record.specs.Check.{first_return, Reading}
 use Rattle.record.specs.Choice.{choose, and}
 use Rattle.record.specs.Event.{document_in, events_in}
 use Rattle.record.specs.Form.{old, second}
@@ -18,7 +18,6 @@ use Rattle.record.specs.Partners.{record_in}
 use Rattle.record.specs.ReadsBack.{Holdable}
 use Rattle.record.specs.Sound.{placed}
 use Rattle.record.specs.Stack.{none, fits_open, after}
-use Rattle.record.specs.declared.check.Reading.{Reading}
 use Rattle.record.specs.declared.event.Event.{Event}
 use Rattle.record.specs.declared.form.Form.{Form}
 use Rattle.record.specs.declared.form.Handed.{Handed}

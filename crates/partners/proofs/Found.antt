@@ -11,7 +11,7 @@ use native.Mathlib.Omega.{arith}
 use lib.ListN.{length, get_or}
 use lib.Dec.{ltb, eqb}
 use borrow.Author.Tests.{eq-eqb, ne_eqb, ltb-true, ltb-false}
-use Rattle.record.specs.Check.{refuse, first_return, formed, paired, truly, judge, inside_of, end_of, event_count_of, checked_in, fronted, admitted}
+use Rattle.record.specs.Check.{refuse, first_return, formed, paired, truly, judge, inside_of, end_of, event_count_of, checked_in, fronted, admitted, Reading, accept}
 use Rattle.record.specs.Choice.{choose, and}
 use Rattle.record.specs.Event.{Stored, stored_at, all_stored_at}
 use Rattle.record.specs.Form.{second, place_in, mate_in}
@@ -20,8 +20,6 @@ use Rattle.record.specs.Partners.{closing, partners_from, front_in, record_in}
 use Rattle.record.specs.ReadsBack.{stored}
 use Rattle.record.specs.Sound.{placed}
 use Rattle.record.specs.Stack.{innermost, innermost_of, none, outer, fits_open, after, nth}
-use Rattle.record.specs.declared.check.Reading.{Reading}
-use Rattle.record.specs.declared.check.Reading.TheVariants.{Good}
 use Rattle.record.specs.declared.event.Event.{Event}
 use Rattle.record.specs.declared.form.Form.{Form}
 use Rattle.record.specs.declared.form.Handed.{Handed}
@@ -144,11 +142,11 @@ judged : (f : Form) (s : List ℕ) (mates : ℕ → ℕ) (d n : ℕ) (es : List 
     ((j : ℕ) → j < length es → stored_at s (at + f.width * j) ≡ stored (nth es j)) →
     (12 ≤ f.width → (j : ℕ) → j < length es → mates (k + j) ≡ get_or (partners_from es k opens) j 0) →
     (12 ≤ f.width → Owed mates es k 0 opens) → length opens ≡ length held →
-    judge f.width mates (all_stored_at f.width (length es) s at) d k at last held opens (Good d n) ≡ answer_in f d n (broken_from d k last held es)
+    judge f.width mates (all_stored_at f.width (length es) s at) d k at last held opens (accept d n) ≡ answer_in f d n (broken_from d k last held es)
 unfolding judge all_stored_at broken_from
 judged f s mates d n [] k at last held opens a c each m o l =
     let y : place_in f d k ≡ place_in f d n = ap (λ (x : ℕ). place_in f d x) (omega arith) in
-    ap (λ (x : ℕ). choose (none held) (Good d n) (refuse 5 x)) (a ∙ y) ∙ sym (answer_choice f d n (none held) nothing left_open)
+    ap (λ (x : ℕ). choose (none held) (accept d n) (refuse 5 x)) (a ∙ y) ∙ sym (answer_choice f d n (none held) nothing left_open)
 judged f s mates d n (e ∷ es) k at last held opens a c each m o l =
     let y : at + f.width * 0 ≡ at = omega arith in
     let v : stored_at s at ≡ stored e = rw y at (each 0 (omega arith)) in
@@ -156,7 +154,7 @@ judged f s mates d n (e ∷ es) k at last held opens a c each m o l =
     λ g. let x : k + 0 ≡ k = omega arith in rw x at (m g 0 (omega arith)) in
     let later : Reading =
     judge f.width mates (all_stored_at f.width (length es) s (at + f.width)) d (k + 1) (at + f.width) e.place (after e e.name held)
-    (after e k opens) (Good d n) in
+    (after e k opens) (accept d n) in
     let further : Finding = broken_from d (k + 1) e.place (after e e.name held) es in
     let rest : later ≡ answer_in f d n further =
     judged f s mates d n es (k + 1) (at + f.width) e.place (after e e.name held) (after e k opens)
@@ -169,7 +167,7 @@ judged f s mates d n (e ∷ es) k at last held opens a c each m o l =
     ap (λ (b : Bool). and b (and (fits_open 64 e held) (truly f.width mates e k opens))) (stored_formed e d last)
     ∙ same_test (placed e d last) (fits_open 64 e held) (truly f.width mates e k opens)
     (λ q. truly_so f.width mates e es k held opens q l own o) in
-    ap (λ (x : Stored). judge f.width mates (x ∷ all_stored_at f.width (length es) s (at + f.width)) d k at last held opens (Good d n)) v
+    ap (λ (x : Stored). judge f.width mates (x ∷ all_stored_at f.width (length es) s (at + f.width)) d k at last held opens (accept d n)) v
     ∙ ap (λ (b : Bool). choose b later (refuse 5 at)) test
     ∙ ap (λ (r : Reading). choose (and (placed e d last) (fits_open 64 e held)) r (refuse 5 at)) rest
     ∙ ap (λ (x : ℕ). choose (and (placed e d last) (fits_open 64 e held)) (answer_in f d n further) (refuse 5 x)) a
@@ -239,7 +237,7 @@ module _ {f : Form} {s document : List ℕ} {es : List Event} (l : Laid f s docu
       (λ k h. let x : 0 + k ≡ k = omega arith in rw x (sym (document_byte f s (length document) k h) ∙ ap (λ (t : List ℕ). get_or t k 0) l.its_document))
 
   judge_found : judge f.width (mate_in f s (length document)) (all_stored_at f.width (length es) s (8 + f.front + length document)) (length document) 0
-      (8 + f.front + length document) 0 [] [] (Good (length document) (length es))
+      (8 + f.front + length document) 0 [] [] (accept (length document) (length es))
       ≡ answer_in f (length document) (length es) (broken_from (length document) 0 0 [] es)
   judge_found =
       let at : 4 + f.front + length document + 4 ≡ 8 + f.front + length document = omega arith in

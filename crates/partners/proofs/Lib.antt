@@ -16,3 +16,4 @@ pub mod Pens
 pub mod Putting
 pub mod Copying
 pub mod Settled
+pub mod Sections

@@ -2,14 +2,13 @@
 -- Assumes nothing.
 use Rattle.std.specs.Prelude.{◌≡◌, refl, List, [], ◌∷◌, ◌++◌, ℕ}
 use Rattle.record.specs.Bytes.{u32_bytes}
-use Rattle.record.specs.Check.{refuse, count_at, first_return, formed, paired, truly, judge, inside_of, end_of, event_count_of, checked_in, fronted, admitted}
+use Rattle.record.specs.Check.{refuse, count_at, first_return, formed, paired, truly, judge, inside_of, end_of, event_count_of, checked_in, fronted, admitted, accept}
 use Rattle.record.specs.Choice.{choose, and}
 use Rattle.record.specs.Event.{enter, exit, flat, section_bytes, all_stored_at}
 use Rattle.record.specs.Form.{old, second}
 use Rattle.record.specs.Sound.{placed}
 use Rattle.record.specs.Stack.{fits_open, after}
 use Rattle.record.specs.Partners.{closing, partners_from, partners, flat_with, flat_linked, section_in, front_in, record_in}
-use Rattle.record.specs.declared.check.Reading.TheVariants.{Good}
 use Rattle.record.specs.declared.form.Handed.TheVariants.{Second}
 
 -- two pairs side by side in a third: `+2 +0 -0 +0 -0 -2`
@@ -48,6 +47,6 @@ unfolding closing partners_from flat_with flat_linked section_in front_in record
 record_second options = refl
 
 -- it is good, and with an untrue number refused at the exit, event 1: 13 + 1 + 12
-checked_second : (admitted Second (one_record 5 0) 65536 ≡ Good 1 2) × (admitted Second (one_record 5 1) 65536 ≡ refuse 5 26)
+checked_second : (admitted Second (one_record 5 0) 65536 ≡ accept 1 2) × (admitted Second (one_record 5 1) 65536 ≡ refuse 5 26)
 unfolding admitted fronted checked_in count_at event_count_of end_of inside_of first_return all_stored_at judge paired truly formed placed fits_open after choose and
 checked_second = (refl, refl)

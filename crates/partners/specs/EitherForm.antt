@@ -7,7 +7,7 @@
 -- proofs/Found.antt, proofs/Holdable.antt and proofs/EitherForm.antt prove it.
 -- Assumes nothing.
 use Rattle.std.specs.Prelude.{ℕ, ◌+◌, ◌*◌, ◌≤◌, ◌<◌, ◌≡◌, List, [], ◌∷◌, length, ltb}
-use Rattle.record.specs.Check.{refuse, first_return, admitted}
+use Rattle.record.specs.Check.{refuse, first_return, admitted, Reading, accept}
 use Rattle.record.specs.Choice.{choose, and}
 use Rattle.record.specs.Event.{document_in, events_in}
 use Rattle.record.specs.Form.{old, second, place_in}
@@ -17,8 +17,6 @@ use Rattle.record.specs.Partners.{section_in, record_in}
 use Rattle.record.specs.ReadsBack.{Storable, Holdable}
 use Rattle.record.specs.Sound.{placed}
 use Rattle.record.specs.Stack.{none, fits_open, after}
-use Rattle.record.specs.declared.check.Reading.{Reading}
-use Rattle.record.specs.declared.check.Reading.TheVariants.{Good}
 use Rattle.record.specs.declared.event.Event.{Event}
 use Rattle.record.specs.declared.form.Form.{Form}
 use Rattle.record.specs.declared.form.Handed.{Handed}
@@ -63,7 +61,7 @@ answer_in f d e events_over = refuse 3 (4 + f.front + d)
 answer_in f d e (return_at k) = refuse 4 (4 + f.front + k)
 answer_in f d e (broken k) = refuse 5 (place_in f d k)
 answer_in f d e left_open = refuse 5 (place_in f d e)
-answer_in f d e nothing = Good d e
+answer_in f d e nothing = accept d e
 
 -- a document and events whose counts and places four bytes hold: a record can be written of them, good or not. Kinds, names and options may be any numbers;
 -- in lent memory they are bytes
@@ -87,7 +85,7 @@ NothingFound =
 
 -- the answers of a check in the old form and in the second, of a document of d bytes and e events: both good, or one number, at the places of one thing
 pub data Alike (d e : ℕ) : Reading → Reading → Type 0 where
-  both_good : Alike d e (Good d e) (Good d e)
+  both_good : Alike d e (accept d e) (accept d e)
   the_memory : Alike d e (refuse 1 0) (refuse 1 0)
   the_options : Alike d e (refuse 2 0) (refuse 2 0)
   the_document_count : Alike d e (refuse 3 0) (refuse 3 5)

@@ -4,3 +4,4 @@ pub mod Records
 pub mod EitherForm
 pub mod Pen
 pub mod Cases
+pub mod Section

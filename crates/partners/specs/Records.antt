@@ -4,14 +4,13 @@
 -- Assumes nothing.
 use Rattle.std.specs.Prelude.{ℕ, ◌+◌, ◌*◌, ◌≤◌, ◌<◌, ◌≡◌, ◌⊎◌, List, ◌++◌, length, take}
 use Rattle.record.specs.Bytes.{u32_at}
-use Rattle.record.specs.Check.{checked_in, fronted}
+use Rattle.record.specs.Check.{checked_in, fronted, accept}
 use Rattle.record.specs.Event.{stored_at, section_at_in, record_bytes, document_in, events_in}
 use Rattle.record.specs.Form.{old}
 use Rattle.record.specs.Handed.{form_of, options_of}
 use Rattle.record.specs.Partners.{section_in, record_in}
 use Rattle.record.specs.ReadsBack.{stored, Storable, Holdable, AreBytes}
 use Rattle.record.specs.Stack.{nth}
-use Rattle.record.specs.declared.check.Reading.TheVariants.{Good}
 use Rattle.record.specs.declared.event.Event.{Event}
 use Rattle.record.specs.declared.form.Form.{Form}
 use Rattle.record.specs.declared.form.Handed.{Handed}
@@ -43,7 +42,7 @@ pub data With : Handed → ℕ → Type 0 where
 
 -- a record that is good, and what is read from it
 pub record RecordThere (h : Handed) (options : ℕ) (s document : List ℕ) (es : List Event) : Type 0 where
-  pub good : fronted h s (checked_in (form_of h) s) ≡ Good (length document) (length es)
+  pub good : fronted h s (checked_in (form_of h) s) ≡ accept (length document) (length es)
   pub its_options : options_of h s ≡ options
   pub its_document : document_in (form_of h) s (length document) ≡ document
   pub its_events : events_in (form_of h) s (length document) (length es) ≡ es
@@ -73,4 +72,4 @@ pub record Rewritten (h : Handed) (s : List ℕ) (d e : ℕ) : Type 0 where
       take (4 + (form_of h).front + d) s ++ section_in (form_of h) es ≡ record_in (form_of h) (options_of h s) (document_in (form_of h) s d) es
 
 abbrev pub GoodIsRewritten : Type 0
-GoodIsRewritten = (h : Handed) (s : List ℕ) (d e : ℕ) → AreBytes s → fronted h s (checked_in (form_of h) s) ≡ Good d e → Rewritten h s d e
+GoodIsRewritten = (h : Handed) (s : List ℕ) (d e : ℕ) → AreBytes s → fronted h s (checked_in (form_of h) s) ≡ accept d e → Rewritten h s d e

@@ -12,8 +12,8 @@ use borrow.Author.Tests.{le-leb, lt-leb, leb-true, leb-false, lt-ltb, le-ltb}
 use Rattle.record.specs.Choice.{choose}
 use Rattle.record.specs.Bytes.{u32_at}
 use Rattle.record.specs.Event.{event_at}
-use Rattle.reader.specs.Read.{found_of, found_at, within, past_events, first_event, standing_at, count_of, event_number}
-use Rattle.reader.specs.declared.Found.TheVariants.{End}
+use Rattle.reader.specs.Read.{found_at, within, past_events, first_event, standing_at, count_of, event_number}
+use Rattle.std.specs.Prelude.{Some, None}
 
 pub within_record : (s : List ℕ) (at : ℕ) → at ≤ length s → within s at ≡ at
 unfolding within choose
@@ -23,11 +23,11 @@ pub within_end : (s : List ℕ) (at : ℕ) → length s < at → within s at ≡
 unfolding within choose
 within_end s at h = rw (lt-leb at (length s) h)
 
-pub found_event : (s : List ℕ) (at : ℕ) → at + 8 ≤ length s → found_at s at ≡ found_of (event_at s at)
+pub found_event : (s : List ℕ) (at : ℕ) → at + 8 ≤ length s → found_at s at ≡ Some (event_at s at)
 unfolding found_at choose
 found_event s at h = rw (le-leb (at + 8) (length s) h)
 
-pub found_end : (s : List ℕ) (at : ℕ) → length s < at + 8 → found_at s at ≡ End
+pub found_end : (s : List ℕ) (at : ℕ) → length s < at + 8 → found_at s at ≡ None
 unfolding found_at choose
 found_end s at h = rw (lt-leb (at + 8) (length s) h)
 
@@ -87,6 +87,6 @@ pub number_counted : (s : List ℕ) (k : ℕ) → k < count_of s → event_numbe
 unfolding event_number choose
 number_counted s k h = rw (lt-ltb k (count_of s) h)
 
-pub number_past : (s : List ℕ) (k : ℕ) → count_of s ≤ k → event_number s k ≡ End
+pub number_past : (s : List ℕ) (k : ℕ) → count_of s ≤ k → event_number s k ≡ None
 unfolding event_number choose
 number_past s k h = rw (le-ltb k (count_of s) h)

@@ -14,9 +14,7 @@ use Rattle.record.specs.Bytes.{u32_at}
 use Rattle.record.specs.Form.{form, mate_in}
 use Rattle.record.specs.Event.{stored_at, all_stored_at}
 use Rattle.record.specs.Stack.{up_to, none, fits_open, after}
-use Rattle.record.specs.Check.{formed, paired, truly, judge, refuse}
-use Rattle.record.specs.declared.check.Reading.{Reading}
-use Rattle.record.specs.declared.check.Reading.TheVariants.{Good}
+use Rattle.record.specs.Check.{formed, paired, truly, judge, refuse, Reading, accept}
 use Rattle.record.proofs.Bools.{and_both, and_false}
 use Rattle.record.proofs.Parts.{less, further, spread_out}
 use Rattle.record.proofs.Names.{up_to_length, pushed, popped, empty, some}
@@ -65,14 +63,14 @@ pub record Judging (s : List ℕ) (b w d e : ℕ) (names numbers : List ℕ) (de
   pub array : length names ≡ 64
   pub array2 : length numbers ≡ 64
   pub lower : (j : ℕ) → j < depth → get_or numbers j 0 < number
-  pub rest : judge_at w (mate_in (form b w) s d) left s d number at last (up_to depth names) (up_to depth numbers) (Good d e)
-      ≡ judge_at w (mate_in (form b w) s d) e s d 0 (8 + b + d) 0 [] [] (Good d e)
+  pub rest : judge_at w (mate_in (form b w) s d) left s d number at last (up_to depth names) (up_to depth numbers) (accept d e)
+      ≡ judge_at w (mate_in (form b w) s d) e s d 0 (8 + b + d) 0 [] [] (accept d e)
 
 -- the judgement of the whole, as the contract has it
 abbrev pub whole : List ℕ → ℕ → ℕ → ℕ → ℕ → Reading
-whole s b w d e = judge w (mate_in (form b w) s d) (all_stored_at w e s (8 + b + d)) d 0 (8 + b + d) 0 [] [] (Good d e)
+whole s b w d e = judge w (mate_in (form b w) s d) (all_stored_at w e s (8 + b + d)) d 0 (8 + b + d) 0 [] [] (accept d e)
 
-same_whole : (s : List ℕ) (b w d e : ℕ) → judge_at w (mate_in (form b w) s d) e s d 0 (8 + b + d) 0 [] [] (Good d e) ≡ whole s b w d e
+same_whole : (s : List ℕ) (b w d e : ℕ) → judge_at w (mate_in (form b w) s d) e s d 0 (8 + b + d) 0 [] [] (accept d e) ≡ whole s b w d e
 unfolding judge_at
 same_whole s b w d e = refl
 
@@ -120,15 +118,15 @@ lower_set numbers depth number h f j g = go (split_lt j depth g)
     go (inr e) = rw (e, get_or-set_same numbers depth number 0 h) (omega arith)
 
 module _ {s : List ℕ} {b w d e : ℕ} {names numbers : List ℕ} {depth first at number last left : ℕ} (i : Judging s b w d e names numbers depth first at number last left) where
-  pub finished : left ≤ 0 → depth ≡ 0 → Good d e ≡ whole s b w d e
+  pub finished : left ≤ 0 → depth ≡ 0 → accept d e ≡ whole s b w d e
   finished h k =
-      sym (step_none w (mate_in (form b w) s d) left s d number at last (up_to depth names) (up_to depth numbers) (Good d e) (omega arith) (empty depth names k))
+      sym (step_none w (mate_in (form b w) s d) left s d number at last (up_to depth names) (up_to depth numbers) (accept d e) (omega arith) (empty depth names k))
       ∙ i.rest
       ∙ same_whole s b w d e
 
   pub unclosed : left ≤ 0 → (depth ≡ 0 → ⊥) → refuse 5 at ≡ whole s b w d e
   unclosed h k =
-      sym (step_left w (mate_in (form b w) s d) left s d number at last (up_to depth names) (up_to depth numbers) (Good d e) (omega arith) (some depth names k))
+      sym (step_left w (mate_in (form b w) s d) left s d number at last (up_to depth names) (up_to depth numbers) (accept d e) (omega arith) (some depth names k))
       ∙ i.rest
       ∙ same_whole s b w d e
 
@@ -150,7 +148,7 @@ module _ {s : List ℕ} {b w d e : ℕ} {names numbers : List ℕ} {depth first 
     broken : and (formed (stored_at s at) d last) (and (fits_open 64 (stored_at s at).what (up_to depth names)) (truly w (mate_in (form b w) s d) (stored_at s at).what number (up_to depth numbers))) ≡ false →
         refuse 5 at ≡ whole s b w d e
     broken k =
-        sym (step_bad w (mate_in (form b w) s d) left s d number at last (up_to depth names) (up_to depth numbers) (Good d e) more k) ∙ i.rest ∙ same_whole s b w d e
+        sym (step_bad w (mate_in (form b w) s d) left s d number at last (up_to depth names) (up_to depth numbers) (accept d e) more k) ∙ i.rest ∙ same_whole s b w d e
 
     pub ill_formed : formed (stored_at s at) d last ≡ false → refuse 5 at ≡ whole s b w d e
     unfolding and
@@ -207,7 +205,7 @@ module _ {s : List ℕ} {b w d e : ℕ} {names numbers : List ℕ} {depth first 
             lower = rw en (lower_set numbers depth number (omega (arith, i.array2)) i.lower);
             rest =
                 rw (la, ← next, ← next2)
-                (sym (step_good w (mate_in (form b w) s d) left (left - 1) s d number at last (up_to depth names) (up_to depth numbers) (Good d e) (omega arith) (and_both _ _ good (and_both _ _ fit right))) ∙ i.rest);
+                (sym (step_good w (mate_in (form b w) s d) left (left - 1) s d number at last (up_to depth names) (up_to depth numbers) (accept d e) (omega arith) (and_both _ _ good (and_both _ _ fit right))) ∙ i.rest);
           }
 
       pub left_one : (there mate : ℕ) → (get_or s at 0 ≡ 0 → ⊥) → 0 < depth → get_or names (depth - 1) 0 ≡ get_or s (at + 1) 0 → mate ≡ get_or numbers (depth - 1) 0 → there ≡ first + w * mate →
@@ -233,5 +231,5 @@ module _ {s : List ℕ} {b w d e : ℕ} {names numbers : List ℕ} {depth first 
             lower = λ j g. let x : get_or numbers j 0 < number = i.lower j (omega arith) in omega arith;
             rest =
                 rw (la, ← next, ← next2)
-                (sym (step_good w (mate_in (form b w) s d) left (left - 1) s d number at last (up_to depth names) (up_to depth numbers) (Good d e) (omega arith) (and_both _ _ good (and_both _ _ fit right))) ∙ i.rest);
+                (sym (step_good w (mate_in (form b w) s d) left (left - 1) s d number at last (up_to depth names) (up_to depth numbers) (accept d e) (omega arith) (and_both _ _ good (and_both _ _ fit right))) ∙ i.rest);
           }

@@ -1,6 +1,7 @@
 -- The table's "given exactly when": the check refuses with n at p just where (n, p) is the least row that holds, and is good where none does.
 -- Proved by going through the check's own tests, each of which says that a row holds or that it holds nowhere.
 -- Assumes nothing.
+use Rattle.std.specs.Prelude.{Some, None, Option}
 use mathlib.Core.Path.{◌≡◌, refl, sym, ap, ◌∙◌}
 use mathlib.Core.Bool.{Bool, true, false}
 use mathlib.Core.Logic.{◌⊎◌, inl, inr, ⊎_elim}
@@ -18,16 +19,13 @@ use Rattle.record.specs.Handed.{form_of}
 use Rattle.record.specs.declared.form.Form.{Form}
 use Rattle.record.specs.Event.{all_stored_at}
 use Rattle.record.specs.Stack.{none}
-use Rattle.record.specs.Check.{refuse, count_at, fitting, first_return, judge, inside_of, end_of, event_count_of, checked_in, fronted, admitted}
+use Rattle.record.specs.Check.{refuse, count_at, fitting, first_return, judge, inside_of, end_of, event_count_of, checked_in, fronted, admitted, Reading, accept}
 use Rattle.record.specs.Order.{rank, Least}
 use Rattle.record.specs.Rows.{document_count_in, event_count_in, Section, the_document, the_events, Misfits, no_room, over, past, follow, Returns, open_names, open_numbers, place_before, Broken, Unsound, an_event, left_open, Inner, in_3, in_4, in_5, OptionsRow, row_2, FirstSectionRow, other_count, over_options, no_count, runs_past, FrontRow, Row, row_1, front, inner, Exactly}
 use Rattle.record.specs.declared.form.Handed.{Handed}
 use Rattle.record.specs.declared.form.Handed.TheVariants.{Old, Second}
-use Rattle.record.specs.declared.check.Count.{Count}
-use Rattle.record.specs.declared.check.Count.TheVariants.{Fits, Misfit}
 use Rattle.record.specs.declared.check.Refusal.{Refusal}
-use Rattle.record.specs.declared.check.Reading.{Reading}
-use Rattle.record.specs.declared.check.Reading.TheVariants.{Good}
+use Rattle.record.proofs.Good.{same_counts}
 use Rattle.record.proofs.Bools.{and_split, clash}
 use Rattle.record.proofs.Counts.{Fitted, fitted}
 use Rattle.record.proofs.Order.{lower_first, least_only}
@@ -36,15 +34,15 @@ use Rattle.record.proofs.Verdict.{Verdict, all_good, one_bad, some_left, verdict
 -- what a check comes to, of the rows R
 pub data Found (fm : Form) (R : ℕ → ℕ → Type 0) (s : List ℕ) (r : Reading) : Type 0 where
   least_row : (n p : ℕ) → r ≡ refuse n p → Least R n p → Found fm R s r
-  no_row : r ≡ Good (document_count_in fm s) (event_count_in fm s) → ((n p : ℕ) → R n p → ⊥) → Found fm R s r
+  no_row : r ≡ accept (document_count_in fm s) (event_count_in fm s) → ((n p : ℕ) → R n p → ⊥) → Found fm R s r
 
-misfit_test : (b : Bool) (m : ℕ) → choose b (Fits m) Misfit ≡ Misfit → b ≡ false
+misfit_test : (b : Bool) (m : ℕ) → choose b (Some m) None ≡ None → b ≡ false
 unfolding choose
 misfit_test true m q = let z : ◌≡◌ {A = ℕ} 0 1 = cc in absurd (omega arith)
 misfit_test false m q = refl
 
 -- a count that is a misfit is one by row 3
-misfits : (fm : Form) (s : List ℕ) (at limit width : ℕ) → Section fm s at limit width → count_at s at limit width ≡ Misfit → Misfits fm s at
+misfits : (fm : Form) (s : List ℕ) (at limit width : ℕ) → Section fm s at limit width → count_at s at limit width ≡ None → Misfits fm s at
 unfolding count_at and
 misfits fm s at limit width sec q = go (leb (at + 4) (length s)) refl (misfit_test _ _ q)
   where
@@ -184,7 +182,7 @@ module _ (fm : Form) (s : List ℕ) where
 
       -- row 5, where the record ends with its events
       module _ (ends : length s ≡ place_in fm (document_count_in fm s) (event_count_in fm s)) where
-        by_verdict : {r : Reading} → Verdict fm s (document_count_in fm s) 0 (event_count_in fm s) (Good (document_count_in fm s) (event_count_in fm s)) r → Found fm (Inner fm s) s r
+        by_verdict : {r : Reading} → Verdict fm s (document_count_in fm s) 0 (event_count_in fm s) (accept (document_count_in fm s) (event_count_in fm s)) r → Found fm (Inner fm s) s r
         by_verdict (all_good q f o) =
             let all : 0 + event_count_in fm s ≡ event_count_in fm s = omega arith in
             no_row q (no_rows (λ p u. clash (rw all at o) (none_broken fm s f p u).1))
@@ -196,11 +194,11 @@ module _ (fm : Form) (s : List ℕ) where
             (at_5 _ (left_open (rw all at o) refl) (λ p u. let e = (none_broken fm s f p u).0 in omega arith))
 
         found_events : Found fm (Inner fm s) s
-            (judge fm.width (mate_in fm s (document_count_in fm s)) (all_stored_at fm.width (event_count_in fm s) s (8 + fm.front + document_count_in fm s)) (document_count_in fm s) 0 (8 + fm.front + document_count_in fm s) 0 [] [] (Good (document_count_in fm s) (event_count_in fm s)))
+            (judge fm.width (mate_in fm s (document_count_in fm s)) (all_stored_at fm.width (event_count_in fm s) s (8 + fm.front + document_count_in fm s)) (document_count_in fm s) 0 (8 + fm.front + document_count_in fm s) 0 [] [] (accept (document_count_in fm s) (event_count_in fm s)))
         unfolding open_names open_numbers place_before
         found_events =
             let start : place_in fm (document_count_in fm s) 0 ≡ 8 + fm.front + document_count_in fm s = omega arith in
-            by_verdict (rw start at (verdict fm (event_count_in fm s) s (document_count_in fm s) 0 (Good (document_count_in fm s) (event_count_in fm s))))
+            by_verdict (rw start at (verdict fm (event_count_in fm s) s (document_count_in fm s) 0 (accept (document_count_in fm s) (event_count_in fm s))))
 
   -- row 4 and then row 5, where both counts fit and nothing follows
   module _ (fd : Fitted s fm.front 16384 1 (document_count_in fm s)) (fe : Fitted s (4 + fm.front + document_count_in fm s) 2048 fm.width (event_count_in fm s)) where
@@ -228,7 +226,7 @@ module _ (fm : Form) (s : List ℕ) where
         where
           go : (z : Bool) → ltb (first_return (document_count_in fm s) s (4 + fm.front)) (4 + fm.front + document_count_in fm s) ≡ z →
               Found fm (Inner fm s) s (choose z (refuse 4 (first_return (document_count_in fm s) s (4 + fm.front)))
-              (judge fm.width (mate_in fm s (document_count_in fm s)) (all_stored_at fm.width (event_count_in fm s) s (8 + fm.front + document_count_in fm s)) (document_count_in fm s) 0 (8 + fm.front + document_count_in fm s) 0 [] [] (Good (document_count_in fm s) (event_count_in fm s))))
+              (judge fm.width (mate_in fm s (document_count_in fm s)) (all_stored_at fm.width (event_count_in fm s) s (8 + fm.front + document_count_in fm s)) (document_count_in fm s) 0 (8 + fm.front + document_count_in fm s) 0 [] [] (accept (document_count_in fm s) (event_count_in fm s))))
           go true e =
               let h : first_return (document_count_in fm s) s (4 + fm.front) < 4 + fm.front + document_count_in fm s = ltb-true _ _ e in
               least_row 4 (first_return (document_count_in fm s) s (4 + fm.front)) refl
@@ -261,13 +259,13 @@ module _ (fm : Form) (s : List ℕ) where
       before q (at_events e i) = omega arith
       before q (at_end e h) = omega arith
 
-      go : (c : Count) → count_at s (4 + fm.front + document_count_in fm s) 2048 fm.width ≡ c →
+      go : (c : Option ℕ) → count_at s (4 + fm.front + document_count_in fm s) 2048 fm.width ≡ c →
           Found fm (Inner fm s) s (fitting c (refuse 3 (4 + fm.front + document_count_in fm s)) (λ e. end_of fm s (document_count_in fm s) e))
-      go (Fits e) x =
+      go (Some e) x =
           let f = fitted _ _ _ _ _ x in
           let y : e ≡ event_count_in fm s = sym f.count in
           rw y (found_end fd (rw y at f))
-      go Misfit x =
+      go None x =
           least_row 3 _ refl (at_3 _ (misfits fm s (4 + fm.front + document_count_in fm s) 2048 fm.width (the_events there refl refl refl) x) (λ q m. before q (where_is fm s q m)))
 
   -- the document's count
@@ -280,12 +278,12 @@ module _ (fm : Form) (s : List ℕ) where
       before q (at_events e i) = omega arith
       before q (at_end e h) = omega arith
 
-      go : (c : Count) → count_at s fm.front 16384 1 ≡ c → Found fm (Inner fm s) s (fitting c (refuse 3 fm.front) (λ d. event_count_of fm s d))
-      go (Fits d) x =
+      go : (c : Option ℕ) → count_at s fm.front 16384 1 ≡ c → Found fm (Inner fm s) s (fitting c (refuse 3 fm.front) (λ d. event_count_of fm s d))
+      go (Some d) x =
           let f = fitted _ _ _ _ _ x in
           let y : d ≡ document_count_in fm s = sym f.count in
           rw y (found_second (rw y at f))
-      go Misfit x = least_row 3 _ refl (at_3 _ (misfits fm s fm.front 16384 1 (the_document refl refl refl) x) (λ q m. before q (where_is fm s q m)))
+      go None x = least_row 3 _ refl (at_3 _ (misfits fm s fm.front 16384 1 (the_document refl refl refl) x) (λ q m. before q (where_is fm s q m)))
 
 -- the rows that follow the front have numbers from 3 to 5, those of the front 2 and 3
 inner_low : {fm : Form} {s : List ℕ} {n p : ℕ} → Inner fm s n p → (3 ≤ n) × (n ≤ 5)
@@ -433,11 +431,8 @@ same_refusal n p m q e =
     let r : ◌≡◌ {A = Refusal} (record { number = n; place = p }) (record { number = m; place = q }) = cc in
     (ap (λ (x : Refusal). x.number) r, ap (λ (x : Refusal). x.place) r)
 
-pub apart : (n p d e : ℕ) → refuse n p ≡ Good d e → ⊥
+pub apart : (n p d e : ℕ) → refuse n p ≡ accept d e → ⊥
 apart n p d e q = let z : ◌≡◌ {A = ℕ} 0 1 = cc in omega arith
-
-pub same_good : (d e m n : ℕ) → Good d e ≡ Good m n → (d ≡ m) × (e ≡ n)
-same_good d e m n q = (cc, cc)
 
 -- "Given exactly when"
 pub exactly : (h : Handed) (s : List ℕ) (works : ℕ) → Exactly h s works
@@ -455,6 +450,6 @@ exactly h s works = by (found h s works)
         record {
           refused = λ m q e. absurd (apart m q (document_count_in (form_of h) s) (event_count_in (form_of h) s) (sym e ∙ r));
           given = λ m q k. absurd (f m q k.holds);
-          good = λ d e q. let x = same_good d e (document_count_in (form_of h) s) (event_count_in (form_of h) s) (sym q ∙ r) in (x.0, x.1, f);
+          good = λ d e q. let x = same_counts d e (document_count_in (form_of h) s) (event_count_in (form_of h) s) (sym q ∙ r) in (x.0, x.1, f);
           accepted = λ g. r;
         }

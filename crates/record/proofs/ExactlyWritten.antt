@@ -11,7 +11,7 @@ use lib.ListN.{length}
 use lib.Dec.{ltb}
 use borrow.Author.Tests.{ltb-true, ltb-false}
 use Rattle.record.specs.Choice.{choose}
-use Rattle.record.specs.Check.{admitted}
+use Rattle.record.specs.Check.{admitted, accept}
 use Rattle.record.specs.Form.{place_in}
 use Rattle.record.specs.Handed.{form_of}
 use Rattle.record.specs.Order.{rank, Least}
@@ -21,7 +21,6 @@ use Rattle.record.specs.Written.{Judges, WrittenRow, by_check, row_6, row_7, row
 use Rattle.record.specs.declared.event.Event.{Event}
 use Rattle.record.specs.declared.form.Handed.{Handed}
 use Rattle.record.specs.declared.check.Refusal.{Refusal}
-use Rattle.record.specs.declared.check.Reading.TheVariants.{Good}
 use Rattle.record.proofs.Order.{lower_first, least_only}
 use Rattle.record.proofs.Exactly.{Found, least_row, no_row, found, row_low}
 
@@ -88,7 +87,7 @@ module _ (h : Handed) (s : List ℕ) (works : ℕ) (none : (n p : ℕ) → Row h
   came_settled (gives es) j = came_gives es j
 
 came : (h : Handed) (s : List ℕ) (works : ℕ) (Offends : ℕ → Type 0) (resolve : ℕ → ℕ → Resolution) (outs : ℕ) →
-    (admitted h s works ≡ Good (document_count_in (form_of h) s) (event_count_in (form_of h) s) → Judges Offends (resolve (document_count_in (form_of h) s) (event_count_in (form_of h) s))) →
+    (admitted h s works ≡ accept (document_count_in (form_of h) s) (event_count_in (form_of h) s) → Judges Offends (resolve (document_count_in (form_of h) s) (event_count_in (form_of h) s))) →
     Came (WrittenRow h s works Offends (resolve (document_count_in (form_of h) s) (event_count_in (form_of h) s)) outs) (resolve (document_count_in (form_of h) s) (event_count_in (form_of h) s)) (outcome (form_of h) (admitted h s works) resolve outs)
 came h s works Offends resolve outs j = by (found h s works)
   where
@@ -118,7 +117,7 @@ same_accepted es fs q = cc
 
 -- "Given exactly when"
 pub exactly_written : (h : Handed) (s : List ℕ) (works : ℕ) (Offends : ℕ → Type 0) (resolve : ℕ → ℕ → Resolution) (outs : ℕ) →
-    (admitted h s works ≡ Good (document_count_in (form_of h) s) (event_count_in (form_of h) s) → Judges Offends (resolve (document_count_in (form_of h) s) (event_count_in (form_of h) s))) →
+    (admitted h s works ≡ accept (document_count_in (form_of h) s) (event_count_in (form_of h) s) → Judges Offends (resolve (document_count_in (form_of h) s) (event_count_in (form_of h) s))) →
     ExactlyWritten h s works Offends resolve outs
 exactly_written h s works Offends resolve outs j = by (came h s works Offends resolve outs j)
   where

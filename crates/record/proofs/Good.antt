@@ -1,5 +1,6 @@
--- What an answer `Good` tells of a record: for the crates above, which never see a body.
+-- What an answer that accepts tells of a record: for the crates above, which never see a body.
 -- Assumes nothing.
+use Rattle.std.specs.Prelude.{Some, None, Option}
 use mathlib.Core.Path.{◌≡◌, refl, sym, ap, ◌∙◌}
 use mathlib.Core.Bool.{Bool, true, false}
 use mathlib.Core.List.{List, [], ◌∷◌}
@@ -16,45 +17,48 @@ use Rattle.record.specs.Event.{Stored, stored_at, all_stored_at, event_at, event
 use Rattle.record.specs.Stack.{innermost_of, after, open_after, open_at}
 use Rattle.record.specs.Sound.{sound_from}
 use Rattle.record.specs.Good.{GoodIn}
-use Rattle.record.specs.Check.{refuse, count_at, fitting, first_return, formed, paired, truly, judge, inside_of, end_of, event_count_of, checked_in, fronted, admitted}
+use Rattle.record.specs.Check.{refuse, count_at, fitting, first_return, formed, paired, truly, judge, inside_of, end_of, event_count_of, checked_in, fronted, admitted, Reading, accept}
+use Rattle.record.specs.declared.check.Counts.{Counts}
 use Rattle.record.specs.declared.event.Event.{Event}
 use Rattle.record.specs.declared.form.Form.{Form}
 use Rattle.record.specs.declared.form.Handed.{Handed}
 use Rattle.record.specs.declared.form.Handed.TheVariants.{Old, Second}
-use Rattle.record.specs.declared.check.Count.{Count}
-use Rattle.record.specs.declared.check.Count.TheVariants.{Fits, Misfit}
-use Rattle.record.specs.declared.check.Reading.{Reading}
-use Rattle.record.specs.declared.check.Reading.TheVariants.{Good}
 use Rattle.record.proofs.Bools.{and_left, and_right, and_both}
 use Rattle.record.proofs.Counts.{Fitted, fitted}
 
-never : (n p d e : ℕ) → refuse n p ≡ Good d e → ⊥
+-- two answers that accept are of the same counts
+pub same_counts : (d e m n : ℕ) → accept d e ≡ accept m n → (d ≡ m) × (e ≡ n)
+same_counts d e m n q =
+    let c : ◌≡◌ {A = Counts} (record { document = d; events = e }) (record { document = m; events = n }) = cc in
+    (ap (λ (x : Counts). x.document) c, ap (λ (x : Counts). x.events) c)
+
+never : (n p d e : ℕ) → refuse n p ≡ accept d e → ⊥
 never n p d e q = let z : ◌≡◌ {A = ℕ} 0 1 = cc in omega arith
 
--- a choice that is `Good`, with a refusal as its other side, is its first side, and its test held
-pub held_test : (b : Bool) (x : Reading) (n p d e : ℕ) → choose b x (refuse n p) ≡ Good d e → b ≡ true
+-- a choice that is `accept`, with a refusal as its other side, is its first side, and its test held
+pub held_test : (b : Bool) (x : Reading) (n p d e : ℕ) → choose b x (refuse n p) ≡ accept d e → b ≡ true
 unfolding choose
 held_test true x n p d e q = refl
 held_test false x n p d e q = absurd (never n p d e q)
 
-pub held_side : (b : Bool) (x : Reading) (n p d e : ℕ) → choose b x (refuse n p) ≡ Good d e → x ≡ Good d e
+pub held_side : (b : Bool) (x : Reading) (n p d e : ℕ) → choose b x (refuse n p) ≡ accept d e → x ≡ accept d e
 unfolding choose
 held_side true x n p d e q = q
 held_side false x n p d e q = absurd (never n p d e q)
 
 -- the other way round: the refusal is the first side
-other_test : (b : Bool) (x : Reading) (n p d e : ℕ) → choose b (refuse n p) x ≡ Good d e → b ≡ false
+other_test : (b : Bool) (x : Reading) (n p d e : ℕ) → choose b (refuse n p) x ≡ accept d e → b ≡ false
 unfolding choose
 other_test true x n p d e q = absurd (never n p d e q)
 other_test false x n p d e q = refl
 
-other_side : (b : Bool) (x : Reading) (n p d e : ℕ) → choose b (refuse n p) x ≡ Good d e → x ≡ Good d e
+other_side : (b : Bool) (x : Reading) (n p d e : ℕ) → choose b (refuse n p) x ≡ accept d e → x ≡ accept d e
 unfolding choose
 other_side true x n p d e q = absurd (never n p d e q)
 other_side false x n p d e q = q
 
 -- the judgement, where it is good, gives the answer that it was handed
-same_good : (w : ℕ) (mates : ℕ → ℕ) (vs : List Stored) (d k at last : ℕ) (held opens : List ℕ) (good : Reading) (a b : ℕ) → judge w mates vs d k at last held opens good ≡ Good a b → good ≡ Good a b
+same_good : (w : ℕ) (mates : ℕ → ℕ) (vs : List Stored) (d k at last : ℕ) (held opens : List ℕ) (good : Reading) (a b : ℕ) → judge w mates vs d k at last held opens good ≡ accept a b → good ≡ accept a b
 unfolding judge
 same_good w mates [] d k at last held opens good a b q = held_side _ _ _ _ _ _ q
 same_good w mates (v ∷ vs) d k at last held opens good a b q =
@@ -62,7 +66,7 @@ same_good w mates (v ∷ vs) d k at last held opens good a b q =
 
 -- and then the events are sound
 judged_sound : (w : ℕ) (mates : ℕ → ℕ) (n : ℕ) (s : List ℕ) (d k at last : ℕ) (held opens : List ℕ) (good : Reading) (a b : ℕ) →
-    judge w mates (all_stored_at w n s at) d k at last held opens good ≡ Good a b → sound_from 64 d last held (events_by w n s at) ≡ true
+    judge w mates (all_stored_at w n s at) d k at last held opens good ≡ accept a b → sound_from 64 d last held (events_by w n s at) ≡ true
 unfolding judge all_stored_at events_by sound_from formed
 judged_sound w mates zero s d k at last held opens good a b q = held_test _ _ _ _ _ _ q
 judged_sound w mates (suc n) s d k at last held opens good a b q =
@@ -73,7 +77,7 @@ judged_sound w mates (suc n) s d k at last held opens good a b q =
 
 -- and each event's two bytes are zero
 judged_zeros : (w : ℕ) (mates : ℕ → ℕ) (n : ℕ) (s : List ℕ) (d i at last : ℕ) (held opens : List ℕ) (good : Reading) (a b : ℕ) →
-    judge w mates (all_stored_at w n s at) d i at last held opens good ≡ Good a b → (k : ℕ) → k < n → (stored_at s (at + w * k)).zeros ≡ 0
+    judge w mates (all_stored_at w n s at) d i at last held opens good ≡ accept a b → (k : ℕ) → k < n → (stored_at s (at + w * k)).zeros ≡ 0
 unfolding judge all_stored_at formed
 judged_zeros w mates zero s d i at last held opens good a b q k h = absurd (omega arith)
 judged_zeros w mates (suc n) s d i at last held opens good a b q zero h =
@@ -97,7 +101,7 @@ unfolding truly choose
 truly_mates w mates e k opens q h z = true_mates w (mates k) (mates (innermost_of opens)) (innermost_of opens) k (rw (ne_eqb e.kind 0 z) at q) h
 
 judged_pairs : (w : ℕ) (mates : ℕ → ℕ) (n : ℕ) (s : List ℕ) (d i at last : ℕ) (held opens : List ℕ) (good : Reading) (a b : ℕ) →
-    judge w mates (all_stored_at w n s at) d i at last held opens good ≡ Good a b → 12 ≤ w → (k : ℕ) → k < n → ((event_at s (at + w * k)).kind ≡ 0 → ⊥) →
+    judge w mates (all_stored_at w n s at) d i at last held opens good ≡ accept a b → 12 ≤ w → (k : ℕ) → k < n → ((event_at s (at + w * k)).kind ≡ 0 → ⊥) →
     (mates (i + k) ≡ innermost_of (open_after (take k (events_by w n s at)) i opens)) × (mates (innermost_of (open_after (take k (events_by w n s at)) i opens)) ≡ i + k)
 unfolding judge all_stored_at events_by open_after
 judged_pairs w mates zero s d i at last held opens good a b q h k l z = absurd (omega arith)
@@ -142,14 +146,15 @@ passes_all (suc n) s at f =
     λ k h q. let y : at + suc k ≡ at + 1 + k = omega arith in f (suc k) (omega arith) (ap (λ (m : ℕ). get_or s m 0) y ∙ q) in
     rw (ne_eqb _ _ no) (passes_all n s (at + 1) more ∙ there)
 
-good_end : (f : Form) (s : List ℕ) (d' e' d e : ℕ) → Fitted s f.front 16384 1 d' → Fitted s (4 + f.front + d') 2048 f.width e' → end_of f s d' e' ≡ Good d e → Known f → GoodIn f s d e
+good_end : (f : Form) (s : List ℕ) (d' e' d e : ℕ) → Fitted s f.front 16384 1 d' → Fitted s (4 + f.front + d') 2048 f.width e' → end_of f s d' e' ≡ accept d e → Known f → GoodIn f s d e
 unfolding end_of inside_of events_in
 good_end f s d' e' d e fd fe q k =
     let r₁ = held_side _ _ _ _ _ _ q in
     let r₂ = other_side _ _ _ _ _ _ r₁ in
-    let g : Good d' e' ≡ Good d e = same_good _ _ _ _ _ _ _ _ _ _ _ _ r₂ in
-    let gd : d' ≡ d = cc in
-    let ge : e' ≡ e = cc in
+    let g : accept d' e' ≡ accept d e = same_good _ _ _ _ _ _ _ _ _ _ _ _ r₂ in
+    let same = same_counts d' e' d e g in
+    let gd : d' ≡ d = same.0 in
+    let ge : e' ≡ e = same.1 in
     let whole' : length s ≡ place_in f d' e' = eqb-true _ _ (held_test _ _ _ _ _ _ q) in
     let none' : 4 + f.front + d' ≤ first_return d' s (4 + f.front) = ltb-false _ _ (other_test _ _ _ _ _ _ r₁) in
     let sound' : sound_from 64 d' 0 [] (events_by f.width e' s (8 + f.front + d')) ≡ true = judged_sound _ _ _ _ _ _ _ _ _ _ _ _ _ r₂ in
@@ -157,7 +162,7 @@ good_end f s d' e' d e fd fe q k =
     let pairs' : 12 ≤ f.width → (k : ℕ) → k < e' → ((event_at s (place_in f d' k)).kind ≡ 0 → ⊥) →
     (mate_in f s d' k ≡ innermost_of (open_at (events_by f.width e' s (8 + f.front + d')) k))
     × (mate_in f s d' (innermost_of (open_at (events_by f.width e' s (8 + f.front + d')) k)) ≡ k) =
-    λ h k l z. let x : 0 + k ≡ k = omega arith in rw x at (judged_pairs f.width (mate_in f s d') e' s d' 0 (8 + f.front + d') 0 [] [] (Good d' e') d e r₂ h k l z) in
+    λ h k l z. let x : 0 + k ≡ k = omega arith in rw x at (judged_pairs f.width (mate_in f s d') e' s d' 0 (8 + f.front + d') 0 [] [] (accept d' e') d e r₂ h k l z) in
     let count_d : u32_at s f.front ≡ d' = fd.count in
     let count_e : u32_at s (4 + f.front + d') ≡ e' = fe.count in
     let small' : d' ≤ 16384 = fd.within in
@@ -176,11 +181,11 @@ good_end f s d' e' d e fd fe q k =
     }
 
 -- which count it was
-fitting_fits : (c : Count) (x : Reading) (f : ℕ → Reading) (n p d e : ℕ) → x ≡ refuse n p → fitting c x f ≡ Good d e → (m : ℕ) × (c ≡ Fits m) × (f m ≡ Good d e)
-fitting_fits (Fits m) x f n p d e r q = (m, refl, q)
-fitting_fits Misfit x f n p d e r q = absurd (never n p d e (sym r ∙ q))
+fitting_fits : (c : Option ℕ) (x : Reading) (f : ℕ → Reading) (n p d e : ℕ) → x ≡ refuse n p → fitting c x f ≡ accept d e → (m : ℕ) × (c ≡ Some m) × (f m ≡ accept d e)
+fitting_fits (Some m) x f n p d e r q = (m, refl, q)
+fitting_fits None x f n p d e r q = absurd (never n p d e (sym r ∙ q))
 
-pub good_record : (f : Form) (s : List ℕ) (d e : ℕ) → Known f → checked_in f s ≡ Good d e → GoodIn f s d e
+pub good_record : (f : Form) (s : List ℕ) (d e : ℕ) → Known f → checked_in f s ≡ accept d e → GoodIn f s d e
 unfolding checked_in event_count_of
 good_record f s d e k q =
     let a = fitting_fits (count_at s f.front 16384 1) (refuse 3 f.front) (λ n. event_count_of f s n) 3 f.front d e refl q in
@@ -203,7 +208,7 @@ abbrev pub FrontGood : Handed → List ℕ → Type 0
 FrontGood (Old options) s = options ≤ 63
 FrontGood Second s = (5 ≤ length s) × (u32_at s 0 ≡ 1) × (get_or s 4 0 ≤ 63)
 
-front_good : (h : Handed) (s : List ℕ) (rest : Reading) (d e : ℕ) → fronted h s rest ≡ Good d e → FrontGood h s × (rest ≡ Good d e)
+front_good : (h : Handed) (s : List ℕ) (rest : Reading) (d e : ℕ) → fronted h s rest ≡ accept d e → FrontGood h s × (rest ≡ accept d e)
 unfolding fronted
 front_good (Old options) s rest d e q = (ltb-false _ _ (other_test _ _ _ _ _ _ q), other_side _ _ _ _ _ _ q)
 front_good Second s rest d e q =
@@ -223,7 +228,7 @@ pub record Admitted (h : Handed) (s : List ℕ) (works d e : ℕ) : Type 0 where
   pub options_known : options_of h s ≤ 63
   pub good : GoodIn (form_of h) s d e
 
-pub admission : (h : Handed) (s : List ℕ) (works d e : ℕ) → admitted h s works ≡ Good d e → Admitted h s works d e
+pub admission : (h : Handed) (s : List ℕ) (works d e : ℕ) → admitted h s works ≡ accept d e → Admitted h s works d e
 unfolding admitted
 admission h s works d e q =
     let r = front_good h s (checked_in (form_of h) s) d e (other_side _ _ _ _ _ _ q) in
@@ -235,5 +240,5 @@ admission h s works d e q =
     }
 
 -- the record that a call goes on with
-pub admitted_good : (h : Handed) (s : List ℕ) (works d e : ℕ) (f : Form) → f ≡ form_of h → admitted h s works ≡ Good d e → GoodIn f s d e
+pub admitted_good : (h : Handed) (s : List ℕ) (works d e : ℕ) (f : Form) → f ≡ form_of h → admitted h s works ≡ accept d e → GoodIn f s d e
 admitted_good h s works d e f g q = rw g (admission h s works d e q).good

@@ -23,3 +23,4 @@ pub mod Exactly
 pub mod ExactlyWritten
 pub mod ReadsBack
 pub mod Rewritten
+pub mod ListedEvents

@@ -10,14 +10,12 @@ use lib.ListN.{length, get_or}
 use lib.Dec.{eqb}
 use borrow.Author.Tests.{eq-eqb, ne_eqb, eqb-false}
 use Rattle.record.specs.Bytes.{u32_at}
-use Rattle.record.specs.Check.{refuse, formed, paired, truly, judge, checked_in, admitted}
+use Rattle.record.specs.Check.{refuse, formed, paired, truly, judge, checked_in, admitted, Reading, accept}
 use Rattle.record.specs.Choice.{choose, and}
 use Rattle.record.specs.Event.{Stored, all_stored_at}
 use Rattle.record.specs.Form.{second, mate_in}
 use Rattle.record.specs.Stack.{innermost_of, fits_open, after}
 use Rattle.record.specs.Untrue.{UntrueIsRefused}
-use Rattle.record.specs.declared.check.Reading.{Reading}
-use Rattle.record.specs.declared.check.Reading.TheVariants.{Good}
 use Rattle.record.specs.declared.event.Event.{Event}
 use Rattle.record.specs.declared.form.Handed.TheVariants.{Second}
 use Rattle.record.proofs.Bools.{and_left, and_right, and_both, and_false}
@@ -82,7 +80,7 @@ module _ (mates true_ones : ℕ → ℕ) where
           rw z (kept_pair e k opens q x (p x))
 
   refused_at : (j : ℕ) (vs : List Stored) (d k at last : ℕ) (held opens : List ℕ) (good : Reading) (a b : ℕ) →
-      judge 12 true_ones vs d k at last held opens good ≡ Good a b → (kind_at vs j ≡ 0 → ⊥) → (Kept (k + j) → ⊥) →
+      judge 12 true_ones vs d k at last held opens good ≡ accept a b → (kind_at vs j ≡ 0 → ⊥) → (Kept (k + j) → ⊥) →
       ((i : ℕ) → i < j → (kind_at vs i ≡ 0 → ⊥) → Kept (k + i)) → judge 12 mates vs d k at last held opens good ≡ refuse 5 (at + 12 * j)
   unfolding judge kind_at
   refused_at j [] d k at last held opens good a b q x n f = absurd (x refl)
@@ -112,7 +110,7 @@ module _ (mates true_ones : ℕ → ℕ) where
 -- the check comes to the events
 reached : (s : List ℕ) (d e : ℕ) → u32_at s 5 ≡ d → u32_at s (9 + d) ≡ e → d ≤ 16384 → e ≤ 2048 → length s ≡ 13 + d + 12 * e →
     ((k : ℕ) → k < d → get_or s (9 + k) 0 ≡ 13 → ⊥) →
-    judge 12 (mate_in second s d) (all_stored_at 12 e s (13 + d)) d 0 (13 + d) 0 [] [] (Good d e) ≡ checked_in second s
+    judge 12 (mate_in second s d) (all_stored_at 12 e s (13 + d)) d 0 (13 + d) 0 [] [] (accept d e) ≡ checked_in second s
 reached s d e ed ee ld le whole none =
     inside second s d e (9 + d) (sym (passes_all d s 9 none)) (omega arith)
     ∙ ends second s d e whole
@@ -150,10 +148,10 @@ untrue_is_refused t s works d e k q r u =
     let front : checked_in second s ≡ admitted Second s works =
     rest_checked s (checked_in second s) (omega arith) (u32_at s 0) refl (number 0 (omega arith) ∙ a.front.1) long (rw (← same 4 (omega arith)) at a.front.2)
     ∙ enough_work Second s works a.memory in
-    let there : judge 12 (mate_in second s d) (all_stored_at 12 e s (13 + d)) d 0 (13 + d) 0 [] [] (Good d e) ≡ checked_in second s =
+    let there : judge 12 (mate_in second s d) (all_stored_at 12 e s (13 + d)) d 0 (13 + d) 0 [] [] (accept d e) ≡ checked_in second s =
     reached s d e (number 5 (omega arith) ∙ g.document_count) (number (9 + d) (omega arith) ∙ g.event_count) g.small g.few (r.as_long ∙ g.whole)
     (λ i h z. g.no_return i h (sym (same (9 + i) (omega arith)) ∙ z)) in
-    let good : judge 12 (mate_in second t d) (all_stored_at 12 e t (13 + d)) d 0 (13 + d) 0 [] [] (Good d e) ≡ Good d e =
+    let good : judge 12 (mate_in second t d) (all_stored_at 12 e t (13 + d)) d 0 (13 + d) 0 [] [] (accept d e) ≡ accept d e =
     reached t d e g.document_count g.event_count g.small g.few g.whole g.no_return
     ∙ rest_checked t (checked_in second t) (omega (arith, a.front.0)) (u32_at t 0) refl a.front.1 a.front.0 a.front.2
     ∙ enough_work Second t works a.memory
@@ -161,8 +159,8 @@ untrue_is_refused t s works d e k q r u =
     let stored : all_stored_at 12 e s (13 + d) ≡ all_stored_at 12 e t (13 + d) =
     same_stored s t e (13 + d) (λ m i h l. r.else_same (13 + d + 12 * m + i) (λ n j x y z. omega arith)) in
     sym (there ∙ front)
-    ∙ ap (λ (vs : List Stored). judge 12 (mate_in second s d) vs d 0 (13 + d) 0 [] [] (Good d e)) stored
-    ∙ refused_at (mate_in second s d) (mate_in second t d) k (all_stored_at 12 e t (13 + d)) d 0 (13 + d) 0 [] [] (Good d e) d e good
+    ∙ ap (λ (vs : List Stored). judge 12 (mate_in second s d) vs d 0 (13 + d) 0 [] [] (accept d e)) stored
+    ∙ refused_at (mate_in second s d) (mate_in second t d) k (all_stored_at 12 e t (13 + d)) d 0 (13 + d) 0 [] [] (accept d e) d e good
     (λ z. u.exits (sym (kind_there t e (13 + d) k u.inside) ∙ z))
     (λ p. u.untrue (rw (zero-add k) at p))
     (λ i h x. rw (zero-add i) (u.earlier i h (λ z. x (kind_there t e (13 + d) i (omega (arith, u.inside)) ∙ z))))

@@ -16,9 +16,8 @@ use Rattle.record.specs.declared.form.Form.{Form}
 use Rattle.record.specs.Event.{stored_at, all_stored_at, event_at}
 use Rattle.record.specs.Stack.{innermost, innermost_of, none, fits_open}
 use Rattle.record.specs.Sound.{placed}
-use Rattle.record.specs.Check.{refuse, formed, paired, truly, judge}
+use Rattle.record.specs.Check.{refuse, formed, paired, truly, judge, Reading}
 use Rattle.record.specs.Rows.{open_names, open_numbers, place_before, Broken, bad_kind, bad_name, bad_zeros, past_document, below_last, no_enter, too_deep, untrue_exit, untrue_enter}
-use Rattle.record.specs.declared.check.Reading.{Reading}
 use Rattle.record.proofs.Bools.{and_left, and_right, and_split, clash}
 use Rattle.record.proofs.Soundness.{fits_room, fits_partner}
 

@@ -1,5 +1,6 @@
 -- The check of a whole record, case by case.
 -- Assumes nothing.
+use Rattle.std.specs.Prelude.{Some, None}
 use mathlib.Core.Path.{◌≡◌, sym}
 use mathlib.Core.List.{List, []}
 use Prim.Native.Nat.{ℕ, ◌+◌, ◌≤◌, ◌<◌}
@@ -12,27 +13,24 @@ use Rattle.record.specs.Form.{old, second, place_in, mate_in}
 use Rattle.record.specs.Handed.{form_of, options_of}
 use Rattle.record.specs.declared.form.Form.{Form}
 use Rattle.record.specs.Event.{all_stored_at}
-use Rattle.record.specs.Check.{refuse, count_at, first_return, judge, inside_of, end_of, event_count_of, checked_in, fronted, admitted}
-use Rattle.record.specs.declared.check.Count.TheVariants.{Fits, Misfit}
+use Rattle.record.specs.Check.{refuse, count_at, first_return, judge, inside_of, end_of, event_count_of, checked_in, fronted, admitted, Reading, accept}
 use Rattle.record.specs.declared.form.Handed.{Handed}
 use Rattle.record.specs.declared.form.Handed.TheVariants.{Old, Second}
-use Rattle.record.specs.declared.check.Reading.{Reading}
-use Rattle.record.specs.declared.check.Reading.TheVariants.{Good}
 
 module _ (f : Form) (s : List ℕ) where
-  pub document_misfit : Misfit ≡ count_at s f.front 16384 1 → refuse 3 f.front ≡ checked_in f s
+  pub document_misfit : None ≡ count_at s f.front 16384 1 → refuse 3 f.front ≡ checked_in f s
   unfolding checked_in
   document_misfit q = rw (← q)
 
-  pub document_fits : (d : ℕ) → Fits d ≡ count_at s f.front 16384 1 → event_count_of f s d ≡ checked_in f s
+  pub document_fits : (d : ℕ) → Some d ≡ count_at s f.front 16384 1 → event_count_of f s d ≡ checked_in f s
   unfolding checked_in
   document_fits d q = rw (← q)
 
-  pub events_misfit : (d : ℕ) → Misfit ≡ count_at s (4 + f.front + d) 2048 f.width → refuse 3 (4 + f.front + d) ≡ event_count_of f s d
+  pub events_misfit : (d : ℕ) → None ≡ count_at s (4 + f.front + d) 2048 f.width → refuse 3 (4 + f.front + d) ≡ event_count_of f s d
   unfolding event_count_of
   events_misfit d q = rw (← q)
 
-  pub events_fit : (d e : ℕ) → Fits e ≡ count_at s (4 + f.front + d) 2048 f.width → end_of f s d e ≡ event_count_of f s d
+  pub events_fit : (d e : ℕ) → Some e ≡ count_at s (4 + f.front + d) 2048 f.width → end_of f s d e ≡ event_count_of f s d
   unfolding event_count_of
   events_fit d e q = rw (← q)
 
@@ -49,7 +47,7 @@ module _ (f : Form) (s : List ℕ) where
     unfolding inside_of choose
     returned r k h = rw (← k, lt-ltb _ _ h)
 
-    pub inside : (r : ℕ) → r ≡ first_return d s (4 + f.front) → 4 + f.front + d ≤ r → judge f.width (mate_in f s d) (all_stored_at f.width e s (8 + f.front + d)) d 0 (8 + f.front + d) 0 [] [] (Good d e) ≡ inside_of f s d e
+    pub inside : (r : ℕ) → r ≡ first_return d s (4 + f.front) → 4 + f.front + d ≤ r → judge f.width (mate_in f s d) (all_stored_at f.width e s (8 + f.front + d)) d 0 (8 + f.front + d) 0 [] [] (accept d e) ≡ inside_of f s d e
     unfolding inside_of choose
     inside r k h = rw (← k, le-ltb _ _ h)
 

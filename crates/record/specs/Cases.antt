@@ -8,11 +8,9 @@ use Rattle.record.specs.Event.{stored_at, enter, exit, flat, all_stored_at}
 use Rattle.record.specs.Partners.{flat_with}
 use Rattle.record.specs.Stack.{fits_open, after}
 use Rattle.record.specs.Sound.{placed}
-use Rattle.record.specs.Check.{refuse, count_at, first_return, formed, paired, truly, judge, inside_of, end_of, event_count_of, checked_in, fronted, admitted}
+use Rattle.record.specs.Check.{refuse, count_at, first_return, formed, paired, truly, judge, inside_of, end_of, event_count_of, checked_in, fronted, admitted, Reading, accept}
 use Rattle.record.specs.declared.event.Event.{Event}
 use Rattle.record.specs.declared.form.Handed.TheVariants.{Second}
-use Rattle.record.specs.declared.check.Reading.{Reading}
-use Rattle.record.specs.declared.check.Reading.TheVariants.{Good}
 
 -- "u32 little endian": four bytes that differ, each in its place. With the laws of specs/ReadsBack.antt this fixes the writer's too
 lowest_first : (u32_at (1 ∷ 2 ∷ 3 ∷ 4 ∷ []) 0 ≡ 67305985) × (u32_bytes 67305985 ≡ 1 ∷ 2 ∷ 3 ∷ 4 ∷ [])
@@ -39,7 +37,7 @@ case s r = record { bytes = s; found = r }
 unfoldable pub cases : List Case
 cases =
     -- `*a*` with +1@0, -1@1, +0@1, -0@2, +1@2, -1@3
-    case (u32_bytes 3 ++ (42 ∷ 97 ∷ 42 ∷ u32_bytes 6) ++ flat (enter 1 0 ∷ exit 1 1 ∷ enter 0 1 ∷ exit 0 2 ∷ enter 1 2 ∷ exit 1 3 ∷ [])) (Good 3 6)
+    case (u32_bytes 3 ++ (42 ∷ 97 ∷ 42 ∷ u32_bytes 6) ++ flat (enter 1 0 ∷ exit 1 1 ∷ enter 0 1 ∷ exit 0 2 ∷ enter 1 2 ∷ exit 1 3 ∷ [])) (accept 3 6)
     -- three bytes; a document that runs past by one; no second count; counts as large as can be; a byte too many
     ∷ case (0 ∷ 0 ∷ 0 ∷ []) (refuse 3 0)
     ∷ case (u32_bytes 5 ++ (97 ∷ 98 ∷ 99 ∷ 100 ∷ [])) (refuse 3 0)
@@ -79,7 +77,7 @@ fronts =
     ∷ case (u32_bytes 1 ++ (0 ∷ u32_bytes 0)) (refuse 3 9)
     ∷ case (u32_bytes 1 ++ (0 ∷ u32_bytes 0 ++ u32_bytes 0 ++ (0 ∷ []))) (refuse 3 13)
     -- a pair that is true; the enter's number untrue; the exit's; an enter left open, whatever its number
-    ∷ case (carrying (enter 0 0 ∷ exit 0 0 ∷ []) (1 ∷ 0 ∷ [])) (Good 0 2)
+    ∷ case (carrying (enter 0 0 ∷ exit 0 0 ∷ []) (1 ∷ 0 ∷ [])) (accept 0 2)
     ∷ case (carrying (enter 0 0 ∷ exit 0 0 ∷ []) (0 ∷ 0 ∷ [])) (refuse 5 25)
     ∷ case (carrying (enter 0 0 ∷ exit 0 0 ∷ []) (1 ∷ 1 ∷ [])) (refuse 5 25)
     ∷ case (carrying (enter 0 0 ∷ []) (0 ∷ [])) (refuse 5 25)

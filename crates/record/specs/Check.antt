@@ -1,6 +1,6 @@
 -- What a check of a record finds: document 01's numbers 1 to 5 in their order. specs/Rows.antt says the same as the table has it, row by row.
 -- Assumes nothing.
-use Rattle.std.specs.Prelude.{ℕ, zero, suc, ◌+◌, ◌*◌, Bool, true, List, [], ◌∷◌, length, get_or, leb, ltb, eqb}
+use Rattle.std.specs.Prelude.{ℕ, zero, suc, ◌+◌, ◌*◌, Bool, true, List, [], ◌∷◌, length, get_or, leb, ltb, eqb, Option, Some, None, Result, Ok, Err}
 use Rattle.record.specs.Choice.{choose, and}
 use Rattle.record.specs.Bytes.{u32_at}
 use Rattle.record.specs.Form.{place_in, mate_in}
@@ -12,26 +12,31 @@ use Rattle.record.specs.Sound.{placed}
 use Rattle.record.specs.declared.event.Event.{Event}
 use Rattle.record.specs.declared.form.Handed.{Handed}
 use Rattle.record.specs.declared.form.Handed.TheVariants.{Old, Second}
-use Rattle.record.specs.declared.check.Count.{Count}
-use Rattle.record.specs.declared.check.Count.TheVariants.{Fits, Misfit}
-use Rattle.record.specs.declared.check.Reading.{Reading}
-use Rattle.record.specs.declared.check.Reading.TheVariants.{Good, Refused}
+use Rattle.record.specs.declared.check.Counts.{Counts}
+use Rattle.record.specs.declared.check.Refusal.{Refusal}
+
+-- what a check finds: the two counts of a good record, or the refusal, which has document 01's number and its place
+abbrev pub Reading : Type 0
+Reading = Result Counts Refusal
+
+abbrev pub accept : ℕ → ℕ → Reading
+accept document events = Ok (record { document = document; events = events })
 
 abbrev pub refuse : ℕ → ℕ → Reading
-refuse number place = Refused (record { number = number; place = place })
+refuse number place = Err (record { number = number; place = place })
 
 -- "a count doesn't fit, is over its limit or runs past the record": a section's count fits if its four bytes are there, it is within its
 -- limit, and its entries, each of `width` bytes, end within the record
-unfoldable pub count_at : List ℕ → ℕ → ℕ → ℕ → Count
+unfoldable pub count_at : List ℕ → ℕ → ℕ → ℕ → Option ℕ
 count_at s at limit width =
     choose
     (and (leb (at + 4) (length s)) (and (leb (u32_at s at) limit) (leb (at + 4 + width * u32_at s at) (length s))))
-    (Fits (u32_at s at))
-    Misfit
+    (Some (u32_at s at))
+    None
 
-abbrev pub fitting : Count → Reading → (ℕ → Reading) → Reading
-fitting (Fits n) misfit fits = fits n
-fitting Misfit misfit fits = misfit
+abbrev pub fitting : Option ℕ → Reading → (ℕ → Reading) → Reading
+fitting (Some n) misfit fits = fits n
+fitting None misfit fits = misfit
 
 -- "a carriage return in the document": the place of the first among the n bytes at a place, or the place after them
 unfoldable pub first_return : ℕ → List ℕ → ℕ → ℕ
@@ -65,7 +70,7 @@ unfoldable pub inside_of : Form → List ℕ → ℕ → ℕ → Reading
 inside_of f s d e =
     choose (ltb (first_return d s (4 + f.front)) (4 + f.front + d))
     (refuse 4 (first_return d s (4 + f.front)))
-    (judge f.width (mate_in f s d) (all_stored_at f.width e s (8 + f.front + d)) d 0 (8 + f.front + d) 0 [] [] (Good d e))
+    (judge f.width (mate_in f s d) (all_stored_at f.width e s (8 + f.front + d)) d 0 (8 + f.front + d) 0 [] [] (accept d e))
 
 -- "bytes follow the last section"
 unfoldable pub end_of : Form → List ℕ → ℕ → ℕ → Reading

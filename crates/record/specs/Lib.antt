@@ -5,6 +5,7 @@ pub mod Stretch
 pub mod Form
 pub mod Handed
 pub mod Event
+pub mod EventsOf
 pub mod Stack
 pub mod Partners
 pub mod Sound

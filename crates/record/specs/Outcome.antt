@@ -1,14 +1,13 @@
 -- What a call that writes a section comes to: document 01's numbers 6, 7 and 8 on top of the check, and what the output then holds. Said once,
 -- over whatever a resolver makes of a good record, and over the record's form.
 -- Assumes nothing.
-use Rattle.std.specs.Prelude.{ℕ, ◌+◌, ◌*◌, List, [], ◌++◌, length, drop, ltb}
+use Rattle.std.specs.Prelude.{ℕ, ◌+◌, ◌*◌, List, [], ◌++◌, length, drop, ltb, Ok, Err}
 use Rattle.record.specs.Choice.{choose}
+use Rattle.record.specs.Check.{Reading}
 use Rattle.record.specs.Form.{place_in}
 use Rattle.record.specs.Partners.{section_in}
 use Rattle.record.specs.declared.event.Event.{Event}
 use Rattle.record.specs.declared.form.Form.{Form}
-use Rattle.record.specs.declared.check.Reading.{Reading}
-use Rattle.record.specs.declared.check.Reading.TheVariants.{Good, Refused}
 use Rattle.record.specs.declared.check.Refusal.{Refusal}
 
 -- what a resolver makes of a good record: the number of the enter event that offends against its shape rule, or the events of its result
@@ -39,8 +38,8 @@ settled f d (gives es) outs = sized f es outs
 
 -- the check first; a good record is what `resolve` makes of it, of its two counts
 abbrev pub outcome : Form → Reading → (ℕ → ℕ → Resolution) → ℕ → Outcome
-outcome f (Refused r) resolve outs = refused r
-outcome f (Good d e) resolve outs = settled f d (resolve d e) outs
+outcome f (Err r) resolve outs = refused r
+outcome f (Ok c) resolve outs = settled f c.document (resolve c.document c.events) outs
 
 -- what an output holds that begins with bs and is else as it was
 unfoldable pub onto : List ℕ → List ℕ → List ℕ

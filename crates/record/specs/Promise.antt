@@ -1,13 +1,11 @@
 -- What public calls promise. `read` has its promise here; every call that writes a section has the other, once for all. What follows from them
 -- alone, that any two results are equal and that nothing a buffer held shows, is said of the exported calls (crates/claims).
 -- Assumes nothing.
-use Rattle.std.specs.Prelude.{ℕ, ◌≡◌, List, length, replicate}
-use Rattle.record.specs.Check.{admitted}
+use Rattle.std.specs.Prelude.{ℕ, ◌≡◌, List, length, replicate, Ok, Err}
+use Rattle.record.specs.Check.{Reading, admitted}
 use Rattle.record.specs.Outcome.{Outcome, bytes_written, onto}
 use Rattle.record.specs.declared.form.Form.{Form}
 use Rattle.record.specs.declared.form.Handed.{Handed}
-use Rattle.record.specs.declared.check.Reading.{Reading}
-use Rattle.record.specs.declared.check.Reading.TheVariants.{Good, Refused}
 
 -- document 01's numbers of an answer of `read`: "A refusal returns its number and place, all else zero"
 pub record ReadNumbers : Type 0 where
@@ -17,8 +15,8 @@ pub record ReadNumbers : Type 0 where
   pub events : ℕ
 
 abbrev pub numbers_of : Reading → ReadNumbers
-numbers_of (Good d e) = record { number = 0; place = 0; document = d; events = e }
-numbers_of (Refused r) = record { number = r.number; place = r.place; document = 0; events = 0 }
+numbers_of (Ok c) = record { number = 0; place = 0; document = c.document; events = c.events }
+numbers_of (Err r) = record { number = r.number; place = r.place; document = 0; events = 0 }
 
 -- and those of an answer that tells of a section only how many events it has
 pub record SectionNumbers : Type 0 where

@@ -8,11 +8,10 @@ use Rattle.record.specs.Handed.{form_of}
 use Rattle.record.specs.declared.form.Form.{Form}
 use Rattle.record.specs.Event.{stored_at, event_at}
 use Rattle.record.specs.Stack.{innermost_of, none, after}
-use Rattle.record.specs.Check.{refuse, admitted}
+use Rattle.record.specs.Check.{refuse, admitted, accept}
 use Rattle.record.specs.Order.{Least}
 use Rattle.record.specs.declared.form.Handed.{Handed}
 use Rattle.record.specs.declared.form.Handed.TheVariants.{Old, Second}
-use Rattle.record.specs.declared.check.Reading.TheVariants.{Good}
 
 -- D and E, wherever the record has them
 abbrev pub document_count_in : Form → List ℕ → ℕ
@@ -101,6 +100,6 @@ pub data Row (h : Handed) (s : List ℕ) (works n p : ℕ) : Type 0 where
 pub record Exactly (h : Handed) (s : List ℕ) (works : ℕ) : Type 0 where
   pub refused : (n p : ℕ) → admitted h s works ≡ refuse n p → Least (Row h s works) n p
   pub given : (n p : ℕ) → Least (Row h s works) n p → admitted h s works ≡ refuse n p
-  pub good : (d e : ℕ) → admitted h s works ≡ Good d e →
+  pub good : (d e : ℕ) → admitted h s works ≡ accept d e →
       (d ≡ document_count_in (form_of h) s) × (e ≡ event_count_in (form_of h) s) × ((n p : ℕ) → Row h s works n p → ⊥)
-  pub accepted : ((n p : ℕ) → Row h s works n p → ⊥) → admitted h s works ≡ Good (document_count_in (form_of h) s) (event_count_in (form_of h) s)
+  pub accepted : ((n p : ℕ) → Row h s works n p → ⊥) → admitted h s works ≡ accept (document_count_in (form_of h) s) (event_count_in (form_of h) s)

@@ -4,8 +4,7 @@
 -- Assumes nothing.
 use Rattle.std.specs.Prelude.{ℕ, ◌+◌, ◌*◌, ◌<◌, ◌≡◌, List, length, get_or}
 use Rattle.record.specs.Bytes.{u32_at}
-use Rattle.record.specs.Check.{refuse, admitted}
-use Rattle.record.specs.declared.check.Reading.TheVariants.{Good}
+use Rattle.record.specs.Check.{refuse, admitted, accept}
 use Rattle.record.specs.declared.form.Handed.TheVariants.{Second}
 
 -- behind a document of d bytes: the kind of event k, and the number that it carries behind its eight bytes
@@ -33,5 +32,5 @@ pub record FirstUntrue (d e : ℕ) (t s : List ℕ) (k : ℕ) : Type 0 where
 
 abbrev pub UntrueIsRefused : Type 0
 UntrueIsRefused =
-    (t s : List ℕ) (works d e k : ℕ) → admitted Second t works ≡ Good d e → Renumbered d e t s → FirstUntrue d e t s k →
+    (t s : List ℕ) (works d e k : ℕ) → admitted Second t works ≡ accept d e → Renumbered d e t s → FirstUntrue d e t s k →
     admitted Second s works ≡ refuse 5 (13 + d + 12 * k)

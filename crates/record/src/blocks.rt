@@ -8,11 +8,11 @@ ghost use Rattle.record.specs.Stretch.{of_kind, is_not, Tells, Passed};
 
 // The widths of blocks: one for what is long, one for a line's length, and one so that no more than seven bytes are left. No answer depends on
 // them; none is 0.
-pub const WIDE: usize = 128;
+const WIDE: usize = 128;
 
-pub const MIDDLE: usize = 32;
+const MIDDLE: usize = 32;
 
-pub const NARROW: usize = 8;
+const NARROW: usize = 8;
 
 // A kind of byte: either of two, where `within` is set, else neither of them.
 #[derive(Clone, Copy)]
@@ -28,12 +28,10 @@ pub fn block_is(s: &[u8], at: usize, width: usize, kind: ByteKind) -> bool
     ensures { Tells (of_kind kind) s.now at (at + width) result }
 {
     let mut all = true;
-    let mut k = 0;
-    while k < width {
+    for k in 0..width {
         let byte = s[at + k];
         let either = (byte == kind.one) | (byte == kind.other);
         all = all & (either == kind.within);
-        k += 1;
     }
     all
 }
@@ -44,6 +42,7 @@ pub fn pass_blocks(s: &[u8], from: usize, end: usize, width: usize, kind: ByteKi
     ensures { Passed (of_kind kind) s.now from end width result }
 {
     let mut at = from;
+    // Kept: a step is a block and not a byte, and the answer is the place; over `chunks_exact` that would be counted beside.
     while end - at >= width {
         if !block_is(s, at, width, kind) {
             return at;
@@ -51,6 +50,19 @@ pub fn pass_blocks(s: &[u8], from: usize, end: usize, width: usize, kind: ByteKi
         at += width;
     }
     at
+}
+
+// The same to the end, or to the first byte of another kind: where wide blocks end narrower ones go on, at last by the byte. It is put into its callers, so that
+// the kind is known where the blocks are looked at: a kind that is a value costs twice the time.
+#[inline(always)]
+pub fn pass(s: &[u8], from: usize, end: usize, kind: ByteKind) -> usize
+    requires { (from ≤ end) × (end ≤ length s.now) }
+    ensures { Passed (of_kind kind) s.now from end 1 result }
+{
+    let wide = pass_blocks(s, from, end, WIDE, kind);
+    let middle = pass_blocks(s, wide, end, MIDDLE, kind);
+    let narrow = pass_blocks(s, middle, end, NARROW, kind);
+    pass_blocks(s, narrow, end, 1, kind)
 }
 
 // Every byte but one.
@@ -69,9 +81,5 @@ pub fn find(s: &[u8], from: usize, end: usize, what: u8) -> usize
     requires { (from ≤ end) × (end ≤ length s.now) }
     ensures { Passed (is_not what) s.now from end 1 result }
 {
-    let kind = all_but(what);
-    let wide = pass_blocks(s, from, end, WIDE, kind);
-    let middle = pass_blocks(s, wide, end, MIDDLE, kind);
-    let narrow = pass_blocks(s, middle, end, NARROW, kind);
-    pass_blocks(s, narrow, end, 1, kind)
+    pass(s, from, end, all_but(what))
 }

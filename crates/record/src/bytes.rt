@@ -33,9 +33,5 @@ pub fn put_u32(out: &mut [u8], at: usize, x: usize)
 pub fn wipe(work: &mut [u8])
     ensures { work.new ≡ replicate (length work.old) 0 }
 {
-    let mut i = 0;
-    while i < work.len() {
-        work[i] = 0;
-        i += 1;
-    }
+    work.fill(0);
 }

@@ -1,10 +1,10 @@
 // The check of a record: document 01's numbers 1 to 5, the lowest first and at the earliest place.
 
-ghost use Rattle.std.specs.Prelude.{◌≡◌, [], ◌+◌, ◌*◌, ◌≤◌, length};
+ghost use Rattle.std.specs.Prelude.{◌≡◌, [], ◌+◌, ◌*◌, ◌≤◌, length, Err};
 ghost use Rattle.record.specs.Form.{form, old, second, mate_in};
 ghost use Rattle.record.specs.Bytes.{u32_at};
 ghost use Rattle.record.specs.Event.{stored_at, all_stored_at};
-ghost use Rattle.record.specs.Check.{count_at, first_return, formed, paired, judge, fronted, checked_in, admitted};
+ghost use Rattle.record.specs.Check.{accept, count_at, first_return, formed, paired, judge, fronted, checked_in, admitted};
 
 use crate::blocks::find;
 use crate::bytes::{u32_at, wide};
@@ -15,50 +15,44 @@ use crate::limits::{
 use crate::stack::Open;
 
 // A refusal: document 01's number, and the place that it names.
-#[derive(Clone, Copy)]
+// Kept: the number is a number, since C hands it on and specs/Rows.antt and specs/Order.antt rank it as one.
+#[derive(Clone, Copy, PartialEq, Eq)]
 pub struct Refusal {
     pub number: usize,
     pub place: usize,
 }
 
-// What a check finds: the two counts of a good record, or the refusal.
-#[derive(Clone, Copy)]
-pub enum Reading {
-    Good { document: usize, events: usize },
-    Refused(Refusal),
+// What a check finds of a good record: the bytes of its document, and how many events it has.
+#[derive(Clone, Copy, PartialEq, Eq)]
+pub struct Counts {
+    pub document: usize,
+    pub events: usize,
 }
 
-// A section's count, where it fits.
-#[derive(Clone, Copy)]
-pub enum Count {
-    Fits(usize),
-    Misfit,
-}
-
-// A refusal with its number and place.
-pub fn refused(number: usize, place: usize) -> Reading
-    ensures { result ≡ Reading.Refused (record { number = number; place = place }) }
+// A refusal with its number and place, whatever would be answered else.
+pub fn refused<T>(number: usize, place: usize) -> Result<T, Refusal>
+    ensures { result ≡ Err (record { number = number; place = place }) }
 {
-    Reading::Refused(Refusal { number, place })
+    Err(Refusal { number, place })
 }
 
-// The count at a place, of a section of at most `limit` entries of `width` bytes. It is read only where its four bytes are there.
-pub fn count_at(s: &[u8], at: usize, limit: usize, width: usize) -> Count
+// The count at a place, of a section of at most `limit` entries of `width` bytes, where it fits. It is read only where its four bytes are there.
+pub fn count_at(s: &[u8], at: usize, limit: usize, width: usize) -> Option<usize>
     requires { (at ≤ length s.now) × (limit ≤ 16384) × (width ≤ 256) }
     ensures { result ≡ count_at s.now at limit width }
 {
     let left = s.len() - at;
     if left < 4 {
-        return Count::Misfit;
+        return None;
     }
     let count = u32_at(s, at);
     if count > limit {
-        return Count::Misfit;
+        return None;
     }
     if left - 4 < width * count {
-        return Count::Misfit;
+        return None;
     }
-    Count::Fits(count)
+    Some(count)
 }
 
 // The place of the first carriage return among the n bytes from a place on, or the place after them.
@@ -119,17 +113,21 @@ pub fn pair_true(
 }
 
 // Number 5: the e events of `width` bytes after a document of d bytes, each by itself and against the names that are open.
-pub fn check_events(s: &[u8], front: usize, width: usize, d: usize, e: usize) -> Reading
+pub fn check_events(
+    s: &[u8],
+    front: usize,
+    width: usize,
+    d: usize,
+    e: usize,
+) -> Result<Counts, Refusal>
     requires { (8 ≤ width) × (width ≤ 256) × (8 + front + d + width * e ≤ length s.now) }
-    ensures { result ≡ judge width (mate_in (form front width) s.now d) (all_stored_at width e s.now (8 + front + d)) d 0 (8 + front + d) 0 [] [] (Reading.Good d e) }
+    ensures { result ≡ judge width (mate_in (form front width) s.now d) (all_stored_at width e s.now (8 + front + d)) d 0 (8 + front + d) 0 [] [] (accept d e) }
 {
     let mut held = Open::new();
     let first = 8 + front + d;
     let mut at = first;
-    let mut number = 0;
     let mut last = 0;
-    let mut left = e;
-    while left > 0 {
+    for number in 0..e {
         if !well_formed(s, d, last, at) {
             return refused(5, at);
         }
@@ -158,27 +156,25 @@ pub fn check_events(s: &[u8], front: usize, width: usize, d: usize, e: usize) ->
         }
         last = u32_at(s, at + 4);
         at += width;
-        number += 1;
-        left -= 1;
     }
     if held.depth != 0 {
         return refused(5, at);
     }
-    Reading::Good {
+    Ok(Counts {
         document: d,
         events: e,
-    }
+    })
 }
 
 // Numbers 3, 4 and 5, of a record with `front` bytes before the document's count and events of `width` bytes.
-pub fn check(s: &[u8], front: usize, width: usize) -> Reading
+pub fn check(s: &[u8], front: usize, width: usize) -> Result<Counts, Refusal>
     requires { (front ≤ length s.now) × (8 ≤ width) × (width ≤ 256) }
     ensures { result ≡ checked_in (form front width) s.now }
 {
-    let Count::Fits(d) = count_at(s, front, MAX_DOCUMENT, 1) else {
+    let Some(d) = count_at(s, front, MAX_DOCUMENT, 1) else {
         return refused(3, front);
     };
-    let Count::Fits(e) = count_at(s, 4 + front + d, MAX_EVENTS, width) else {
+    let Some(e) = count_at(s, 4 + front + d, MAX_EVENTS, width) else {
         return refused(3, 4 + front + d);
     };
     let end = 8 + front + d + width * e;
@@ -193,7 +189,7 @@ pub fn check(s: &[u8], front: usize, width: usize) -> Reading
 }
 
 // Of a record in the old form, once the memory is found long enough: the options beside it, and the record.
-fn admit_old(s: &[u8], options: u32) -> Reading
+fn admit_old(s: &[u8], options: u32) -> Result<Counts, Refusal>
     ensures { result ≡ fronted (Handed.Old options) s.now (checked_in old s.now) }
 {
     if options > MAX_OPTIONS {
@@ -203,7 +199,7 @@ fn admit_old(s: &[u8], options: u32) -> Reading
 }
 
 // Of a record in form 2: its first section, and the rest.
-fn admit_second(s: &[u8]) -> Reading
+fn admit_second(s: &[u8]) -> Result<Counts, Refusal>
     ensures { result ≡ fronted Handed.Second s.now (checked_in second s.now) }
 {
     if s.len() < 4 {
@@ -223,7 +219,7 @@ fn admit_second(s: &[u8]) -> Reading
 }
 
 // Numbers 1 to 5: what every call on a record begins with. Of the work memory only its length matters.
-pub fn admit(handed: Handed, s: &[u8], works: usize) -> Reading
+pub fn admit(handed: Handed, s: &[u8], works: usize) -> Result<Counts, Refusal>
     ensures { result ≡ admitted handed s.now works }
 {
     if works < MIN_WORK {

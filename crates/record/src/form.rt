@@ -54,21 +54,11 @@ pub fn form_of(handed: Handed) -> Form
     }
 }
 
-// A byte as a number of 32 bits.
-fn small(byte: u8) -> u32
-    ensures { result ≡ byte }
-{
-    byte as u32
-}
-
 // The option byte of a record of form 2; 0 where there is none.
 fn option_byte(s: &[u8]) -> u32
     ensures { result ≡ get_or s.now 4 0 }
 {
-    if s.len() < 5 {
-        return 0;
-    }
-    small(s[4])
+    s.get(4).map_or(0, |byte| u32::from(*byte))
 }
 
 // The options: those beside the record, or its own.

@@ -10,6 +10,7 @@ pub mod bytes; // numbers of four bytes, wiping
 pub mod blocks; // bytes of one kind, passed in blocks
 pub mod form; // the forms of a record
 pub mod event; // one event read, one event written
+pub mod listed; // events, gone over as a list
 pub mod stack; // the open events
 pub mod check; // numbers 1 to 5, refusals
 pub mod call; // the public call `read`

@@ -10,6 +10,8 @@ pub const MAX_RESULT: usize = 8000;
 
 pub const MIN_WORK: usize = 65536;
 
+// Kept: kinds and names are bytes of a record, which may hold any until it is checked; specs/Event.antt and specs/Rows.antt speak of them as numbers.
+
 // An event's kinds.
 pub const ENTER: u8 = 0;
 
@@ -54,6 +56,7 @@ pub const BLOCK_QUOTE_PREFIX: u8 = 23;
 
 pub const LAST_NAME: u8 = 24;
 
+// Kept: C hands them over as one number, and "options over 63" is a row of specs/Rows.antt.
 // Options are summed.
 pub const OPTION_ATTENTION: u32 = 1;
 

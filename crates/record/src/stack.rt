@@ -5,6 +5,7 @@
 
 ghost use Rattle.std.specs.Prelude.{◌≡◌, replicate};
 
+// Kept: an array with a depth beside it is the form that document 01 names for the open events; the library has no heap.
 #[derive(Clone, Copy)]
 pub struct Open {
     pub names: [u8; 64],

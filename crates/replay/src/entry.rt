@@ -12,34 +12,38 @@
 //
 // An entry that no answer can stand in is ill-formed: the file is then not a list of answers, and says nothing of our calls.
 
-ghost use Rattle.std.specs.Prelude.{◌<◌, ◌≤◌, length};
-
+use crate::call::{Call, UnknownCall};
 use record::bytes::u32_at;
 use record::limits::MAX_RESULT;
-use script::read_full;
 use std::io::Read;
+use std::{fmt, io};
 
-pub const ATTENTION: usize = 0;
+// A list that is none, or that could not be read on.
+#[derive(Clone, Copy, Debug, PartialEq, Eq)]
+pub struct IllFormed;
 
-pub const HEADINGS: usize = 1;
+impl fmt::Display for IllFormed {
+    fn fmt<W: fmt::Write>(&self, f: &mut fmt::Formatter<W>) -> fmt::Result {
+        f.write_str("the list of answers is ill-formed")
+    }
+}
 
-pub const LISTS: usize = 2;
+impl From<UnknownCall> for IllFormed {
+    fn from(_error: UnknownCall) -> IllFormed {
+        IllFormed
+    }
+}
 
-pub const SPACE_OR_TAB: usize = 3;
+impl From<io::Error> for IllFormed {
+    fn from(_error: io::Error) -> IllFormed {
+        IllFormed
+    }
+}
 
-pub const LIST_ITEM: usize = 4;
-
-pub const CONTINUATION: usize = 5;
-
-pub const HEADING: usize = 6;
-
-// How many calls there are.
-pub const CALLS: usize = 7;
-
-// What is asked.
+// What is asked, but for the bytes of the record or line: they are this long.
 #[derive(Clone, Copy)]
 pub struct Question {
-    pub call: usize,
+    pub call: Call,
     pub options: u32,
     pub a: usize,
     pub b: usize,
@@ -47,33 +51,70 @@ pub struct Question {
     pub length: usize,
 }
 
+impl Question {
+    // Whether the arguments are the call's own: those that it does not have are 0, a flag is 0 or 1, a mark is a byte.
+    fn has_arguments(&self) -> bool {
+        match self.call {
+            Call::SpaceOrTab => self.c == 0,
+            Call::ListItem => self.a < 2 && self.b == 0 && self.c == 0,
+            Call::Continuation => self.b < 2 && self.c < 256,
+            _ => self.a == 0 && self.b == 0 && self.c == 0,
+        }
+    }
+}
+
+impl fmt::Display for Question {
+    fn fmt<W: fmt::Write>(&self, f: &mut fmt::Formatter<W>) -> fmt::Result {
+        write!(
+            f,
+            "{}: options {}, arguments {} {} {}, input of {} bytes",
+            self.call, self.options, self.a, self.b, self.c, self.length
+        )
+    }
+}
+
 // An answer, the crate's or ours: its five numbers, and the length of the section.
-#[derive(Clone, Copy)]
-pub struct Numbers {
-    pub first: usize,
-    pub second: usize,
-    pub third: usize,
-    pub fourth: usize,
-    pub fifth: usize,
+#[derive(Clone, Copy, PartialEq, Eq)]
+pub struct Answer {
+    pub numbers: [usize; 5],
     pub section: usize,
 }
 
-// What stands where an entry may begin.
-#[derive(Clone, Copy)]
-pub enum Begun {
-    Question(Question),
-    End,
-    Ill,
+impl Answer {
+    // Whether the length of the section is what the numbers of an answer to this call make it.
+    fn fits(&self, call: Call) -> bool {
+        match call {
+            Call::Attention | Call::Headings | Call::Lists => {
+                self.section >= 4 && self.section == section_of(self.numbers[0])
+            }
+            Call::Heading if self.numbers[0] == 1 => self.section == section_of(self.numbers[1]),
+            _ => self.section == 0,
+        }
+    }
 }
 
-// What stands behind a question and its bytes.
-#[derive(Clone, Copy)]
-pub enum Told {
-    Answer(Numbers),
-    Ill,
+impl fmt::Display for Answer {
+    fn fmt<W: fmt::Write>(&self, f: &mut fmt::Formatter<W>) -> fmt::Result {
+        let [first, second, third, fourth, fifth] = self.numbers;
+        write!(
+            f,
+            "{first} {second} {third} {fourth} {fifth}, section of {} bytes",
+            self.section
+        )
+    }
 }
 
-// How long a section of so many events is. Past the limit there is none: 0 is the length of no section.
+// An entry: a question with its bytes, and the crate's answer with its section.
+#[derive(Clone, Copy)]
+pub struct Entry<'a> {
+    pub question: Question,
+    pub input: &'a [u8],
+    pub told: Answer,
+    pub section: &'a [u8],
+}
+
+// How long a section of so many events is. Past the limit there is none.
+// Kept: 0 and no None for that, since 0 is what the list itself has where nothing is written, and both are compared with it.
 pub fn section_of(events: usize) -> usize {
     if events > MAX_RESULT {
         return 0;
@@ -81,130 +122,81 @@ pub fn section_of(events: usize) -> usize {
     4 + 8 * events
 }
 
-// Whether the arguments are a call's own: those that it does not have are 0, a flag is 0 or 1, a mark is a byte.
-fn has_arguments(question: Question) -> bool {
-    if question.call == CONTINUATION {
-        if question.b > 1 {
-            return false;
-        }
-        return question.c < 256;
+// Six numbers, with which a question or an answer begins.
+fn six_in(s: &[u8; 24]) -> [u32; 6] {
+    let (words, _) = s.as_chunks::<4>();
+    let mut six = [0; 6];
+    for (number, word) in six.iter_mut().zip(words) {
+        *number = u32::from_le_bytes(*word);
     }
-    if question.c != 0 {
-        return false;
-    }
-    if question.call == SPACE_OR_TAB {
-        return true;
-    }
-    if question.b != 0 {
-        return false;
-    }
-    if question.call == LIST_ITEM {
-        return question.a < 2;
-    }
-    question.a == 0
+    six
 }
 
-// Whether a question is one of the seven.
-fn is_question(question: Question) -> bool {
-    if question.call >= CALLS {
-        return false;
-    }
-    has_arguments(question)
-}
-
-// Whether the length of the section is what the numbers of the answer make it.
-fn is_answer(call: usize, told: Numbers) -> bool {
-    if call <= LISTS {
-        if told.section < 4 {
-            return false;
-        }
-        return told.section == section_of(told.first);
-    }
-    if call == HEADING {
-        if told.first == 1 {
-            return told.section == section_of(told.second);
-        }
-    }
-    told.section == 0
-}
-
-// Whether the file ends here. A read that fails is no end.
-fn is_end(list: &mut impl Read) -> bool {
-    let mut byte = [0u8; 1];
-    match list.read(&mut byte) {
-        Ok(more) => more == 0,
-        Err(_) => false,
-    }
-}
-
-// Six numbers, which are an answer's or a question's.
-fn numbers_in(s: &[u8; 24]) -> Numbers
-    ensures { result.second < 4294967296 }
-{
-    Numbers {
-        first: u32_at(s, 0),
-        second: u32_at(s, 4),
-        third: u32_at(s, 8),
-        fourth: u32_at(s, 12),
-        fifth: u32_at(s, 16),
-        section: u32_at(s, 20),
-    }
-}
-
-// Six numbers as a question: the call, the options, the three arguments and the length of the record or line.
-fn question_of(six: Numbers) -> Question
-    requires { six.second < 4294967296 }
-{
-    Question {
-        call: six.first,
-        options: six.second as u32,
-        a: six.third,
-        b: six.fourth,
-        c: six.fifth,
-        length: six.section,
-    }
-}
-
-// The six numbers with which an entry begins, or the end of the list.
-pub fn read_begin(list: &mut impl Read) -> Begun {
+// The numbers with which an entry begins, or that the list ends before it.
+fn read_question(list: &mut impl Read) -> Result<Option<Question>, IllFormed> {
     let mut bytes = [0u8; 24];
-    let got = read_full(list, &mut bytes);
+    let got = list.read(&mut bytes)?;
     if got == 0 {
-        if is_end(list) {
-            return Begun::End;
-        }
-        return Begun::Ill;
+        return Ok(None);
     }
-    if got < 24 {
-        return Begun::Ill;
+    list.read_exact(&mut bytes[got..])?;
+    let [call, options, a, b, c, length] = six_in(&bytes);
+    let question = Question {
+        call: Call::try_from(call)?,
+        options,
+        a: a as usize,
+        b: b as usize,
+        c: c as usize,
+        length: length as usize,
+    };
+    if !question.has_arguments() {
+        return Err(IllFormed);
     }
-    let question = question_of(numbers_in(&bytes));
-    if !is_question(question) {
-        return Begun::Ill;
-    }
-    Begun::Question(question)
+    Ok(Some(question))
 }
 
-// The six numbers of the crate's answer.
-pub fn read_told(list: &mut impl Read, call: usize) -> Told {
+// The numbers of the crate's answer.
+fn read_told(list: &mut impl Read, call: Call) -> Result<Answer, IllFormed> {
     let mut bytes = [0u8; 24];
-    let got = read_full(list, &mut bytes);
-    if got < 24 {
-        return Told::Ill;
+    list.read_exact(&mut bytes)?;
+    let [a, b, c, d, e, section] = six_in(&bytes).map(|n| n as usize);
+    let told = Answer {
+        numbers: [a, b, c, d, e],
+        section,
+    };
+    if !told.fits(call) {
+        return Err(IllFormed);
     }
-    let told = numbers_in(&bytes);
-    if !is_answer(call, told) {
-        return Told::Ill;
-    }
-    Told::Answer(told)
+    Ok(told)
 }
 
-// The next n bytes of the file, to the front of a buffer; how many there were, and none where n do not fit.
-pub fn read_bytes(list: &mut impl Read, buffer: &mut [u8], n: usize) -> usize
-    ensures { result ≤ length buffer.new }
-{
-    if n > buffer.len() {
-        return 0;
-    }
-    read_full(list, &mut buffer[0..n])
+// The next n bytes of the list, in a buffer that has to have room for them.
+fn read_bytes<'a>(
+    list: &mut impl Read,
+    buffer: &'a mut [u8],
+    n: usize,
+) -> Result<&'a [u8], IllFormed> {
+    let bytes = buffer.get_mut(..n).ok_or(IllFormed)?;
+    list.read_exact(bytes)?;
+    Ok(bytes)
+}
+
+// The next entry, whose bytes and section are kept in the buffers, or that the list ends here.
+pub fn read_entry<'a>(
+    list: &mut impl Read,
+    input: &'a mut [u8],
+    section: &'a mut [u8],
+) -> Result<Option<Entry<'a>>, IllFormed> {
+    let Some(question) = read_question(list)? else {
+        return Ok(None);
+    };
+    let input = read_bytes(list, input, question.length)?;
+    let told = read_told(list, question.call)?;
+    let section = read_bytes(list, section, told.section)?;
+    Ok(Some(Entry {
+        question,
+        input,
+        told,
+        section,
+    }))
 }

@@ -1,60 +1,16 @@
--- What document 01's paragraph comes to, case by case, as the code asks: the class of what stands after, then of what stands before, then `_`.
+-- Document 01's paragraph over the classes of two characters, as the code asks it; and the characters that stand in for neighbours.
 -- Assumes nothing.
-use Prim.Native.Nat.{ℕ, ◌+◌, ◌%◌}
+use Prim.Native.Nat.{ℕ}
 use mathlib.Core.Path.{◌≡◌, refl, sym, ◌∙◌}
-use mathlib.Core.Bool.{Bool, true, false, not}
-use native.Mathlib.Omega.{arith}
+use mathlib.Core.Bool.{Bool, true, not}
 use lib.Dec.{eqb}
-use borrow.Author.Tests.{eq-eqb, ne_eqb}
-use Rattle.record.specs.Choice.{choose}
 use Rattle.classes.specs.Class.{class_of, standard_class, ascii_class, amended, whitespace, punctuation}
 use Rattle.classes.specs.declared.Class.{Class}
-use Rattle.classes.specs.declared.Class.TheVariants.{Other, Whitespace, Punctuation}
 use Rattle.characters.specs.Beside.{Neighbour, Edge, Character, Malformed}
 use Rattle.characters.specs.StandIn.{stand_in}
 use Rattle.runs.specs.Flanking.{class_beside, beside_marker, flanks_left, flanks_right, can_open, can_close}
-use Rattle.runs.specs.Paragraph.{is_other, first_open, first_by, opens_by, opens, closes}
-use Rattle.runs.proofs.AsWritten.{open_as_written, close_as_written, never, threes_as_written}
-use Rattle.runs.specs.Rule.{threes}
-
-module _ (strike : Bool) (marker : ℕ) (before after : Class) (beside : Neighbour) where
-  pub other_opens : after ≡ Other → first_by strike marker before after beside ≡ true
-  unfolding first_by
-  other_opens e = rw e
-
-  pub blank_beside : after ≡ Whitespace → first_by strike marker before after beside ≡ beside_marker strike marker beside
-  unfolding first_by
-  blank_beside e = rw e
-
-  pub sign_opens : after ≡ Punctuation → is_other before ≡ false → first_by strike marker before after beside ≡ true
-  unfolding first_by
-  sign_opens e f = rw (e, f)
-
-  pub sign_beside : after ≡ Punctuation → is_other before ≡ true → first_by strike marker before after beside ≡ beside_marker strike marker beside
-  unfolding first_by
-  sign_beside e f = rw (e, f)
-
-module _ (strike : Bool) (marker : ℕ) (before : Class) (left : Neighbour) (after : Class) (right : Neighbour) where
-  pub shut : first_by strike marker before after right ≡ false → opens_by strike marker before left after right ≡ false
-  unfolding opens_by choose
-  shut e = go (eqb marker 95) refl
-    where
-      go : (z : Bool) → eqb marker 95 ≡ z → opens_by strike marker before left after right ≡ false
-      go true q = rw (q, e)
-      go false q = rw (q, e)
-
-  pub star_opens : first_by strike marker before after right ≡ true → (marker ≡ 95 → ⊥) → opens_by strike marker before left after right ≡ true
-  unfolding opens_by choose
-  star_opens e n = rw (ne_eqb marker 95 n, e)
-
-  pub line_opens : first_by strike marker before after right ≡ true → marker ≡ 95 → is_other before ≡ false → opens_by strike marker before left after right ≡ true
-  unfolding opens_by choose
-  line_opens e n f = rw (eq-eqb marker 95 n, e, f)
-
-  pub line_inside : first_by strike marker before after right ≡ true → marker ≡ 95 → is_other before ≡ true →
-      opens_by strike marker before left after right ≡ not (first_by strike marker after before left)
-  unfolding opens_by choose
-  line_inside e n f = rw (eq-eqb marker 95 n, e, f)
+use Rattle.runs.specs.Paragraph.{first_open, first_by, opens_by, opens, closes}
+use Rattle.runs.proofs.AsWritten.{open_as_written, close_as_written, never}
 
 -- by the classes of two neighbours that is document 01's paragraph, and closing is opening with before and after exchanged
 module _ (strike : Bool) (marker : ℕ) (before after : Neighbour) where
@@ -98,16 +54,3 @@ module _ (amended strike : Bool) (marker : ℕ) (before after : Neighbour) where
   pub stand_closes : can_close amended strike marker before after ≡ can_close amended strike marker (Character (stand_in before)) (Character (stand_in after))
   unfolding can_close flanks_left flanks_right
   stand_closes = rw (stand_class before, stand_class after, stand_beside strike marker before, stand_beside strike marker after)
-
-module _ (opener closer : ℕ) where
-  pub no_both : (both : Bool) → both ≡ false → threes both opener closer ≡ false
-  unfolding threes
-  no_both both e = rw e
-
-  pub whole_closer : (both : Bool) → both ≡ true → closer % 3 ≡ 0 → threes both opener closer ≡ false
-  whole_closer both e f = threes_as_written both opener closer ∙ rw (e, eq-eqb (closer % 3) 0 f)
-
-  pub by_sum : (both : Bool) → both ≡ true → (closer % 3 ≡ 0 → ⊥) → threes both opener closer ≡ eqb ((opener % 3 + closer % 3) % 3) 0
-  by_sum both e f =
-      let k : (opener + closer) % 3 ≡ (opener % 3 + closer % 3) % 3 = omega arith in
-      threes_as_written both opener closer ∙ rw (e, ne_eqb (closer % 3) 0 f, k)

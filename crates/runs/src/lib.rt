@@ -14,13 +14,11 @@ ghost use Rattle.runs.specs.Rule.{threes as threesOf, tildes as tildesOf};
 
 use classes::{Class, class_of};
 
-// The marker that asks more of its sides than `*` does: `_`.
-const LINE: u8 = 95;
-
 // The most tildes that a side of a strikethrough has.
 const MOST_TILDES: usize = 2;
 
 // The next match from a run on: its opener, its closer and the candidates tried for it; or that there is none, and those tried.
+// Kept: both ends carry the candidates tried, so that neither Option nor Result has its shape.
 #[derive(Clone, Copy)]
 pub enum Next {
     Match {
@@ -34,65 +32,39 @@ pub enum Next {
 }
 
 // Whether a character is a marker that lets a run of this marker open or close beside it.
+#[tactic(auto, unfolding(crate::specs::Flanking::beside_marker))]
 fn beside_marker(strike: bool, marker: u8, c: u32) -> bool
     ensures { result ≡ beside_marker strike marker (Character c) }
 {
-    if marker == 126 {
-        return false;
-    }
-    if c == 42 {
-        return true;
-    }
-    if c == 95 {
-        return true;
-    }
-    if c == 126 {
-        return strike;
-    }
-    false
+    marker != b'~' && (c == b'*' as u32 || c == b'_' as u32 || (c == b'~' as u32 && strike))
 }
 
 // Whether a class is neither whitespace nor punctuation.
 fn is_other(class: Class) -> bool
     ensures { result ≡ is_other class }
 {
-    match class {
-        Class::Other => true,
-        Class::Whitespace => false,
-        Class::Punctuation => false,
-    }
+    matches!(class, Class::Other)
 }
 
 // The first result: whether a run can open between characters of these classes, of which the second is `beside`, before what `_` asks beyond it.
+#[tactic(auto, unfolding(crate::specs::Paragraph::first_by))]
 fn first_open(strike: bool, marker: u8, before: Class, after: Class, beside: u32) -> bool
     ensures { result ≡ first_by strike marker before after (Character beside) }
 {
     match after {
         Class::Other => true,
         Class::Whitespace => beside_marker(strike, marker, beside),
-        Class::Punctuation => {
-            if is_other(before) {
-                return beside_marker(strike, marker, beside);
-            }
-            true
-        }
+        Class::Punctuation => !is_other(before) || beside_marker(strike, marker, beside),
     }
 }
 
 // Whether it can open: the first result, and for `_` what is asked beyond it.
+#[tactic(auto, unfolding(crate::specs::Paragraph::opens_by, record::specs::Choice::choose))]
 fn opens_by(strike: bool, marker: u8, before: Class, left: u32, after: Class, right: u32) -> bool
     ensures { result ≡ opens_by strike marker before (Character left) after (Character right) }
 {
-    if first_open(strike, marker, before, after, right) {
-        if marker != LINE {
-            return true;
-        }
-        if is_other(before) {
-            return !first_open(strike, marker, after, before, left);
-        }
-        return true;
-    }
-    false
+    first_open(strike, marker, before, after, right)
+        && (marker != b'_' || !is_other(before) || !first_open(strike, marker, after, before, left))
 }
 
 // Whether a run can open, and whether it can close.
@@ -105,7 +77,7 @@ pub struct Flanks {
 // What a run of this marker can do between these two characters. To close is to open with before and after exchanged. Each class is looked up once, by the
 // two tables that are lent, the ranges among them if one of the characters is past ASCII.
 pub fn flanking(
-    ascii: &[u8],
+    ascii: &[Class],
     marks: &[u32],
     strike: bool,
     marker: u8,
@@ -124,43 +96,24 @@ pub fn flanking(
 }
 
 // Whether the rule of three forbids a match of these sizes; `both` says that one side can both open and close.
+#[tactic(auto, unfolding(crate::specs::Rule::threes))]
 fn threes(both: bool, opener: usize, closer: usize) -> bool
     ensures { result ≡ threesOf both opener closer }
 {
-    if !both {
-        return false;
-    }
-    if closer % 3 == 0 {
-        return false;
-    }
-    (opener % 3 + closer % 3) % 3 == 0
+    both && closer % 3 != 0 && (opener % 3 + closer % 3) % 3 == 0
 }
 
 // Whether the rule of tildes forbids a match of these sizes.
+#[tactic(auto, unfolding(crate::specs::Rule::tildes))]
 fn tildes(single: bool, marker: u8, opener: usize, closer: usize) -> bool
     ensures { result ≡ tildesOf single marker opener closer }
 {
-    if marker != 126 {
-        return false;
-    }
-    if opener != closer {
-        return true;
-    }
-    if closer > MOST_TILDES {
-        return true;
-    }
-    if closer == 1 {
-        return !single;
-    }
-    false
+    marker == b'~' && (opener != closer || closer > MOST_TILDES || (closer == 1 && !single))
 }
 
 // Whether a closer takes an opener of its marker and container, by what is left of both.
 pub fn eligible(single: bool, both: bool, marker: u8, opener: usize, closer: usize) -> bool
     ensures { result ≡ (not (threesOf both opener closer) && not (tildesOf single marker opener closer)) }
 {
-    if threes(both, opener, closer) {
-        return false;
-    }
-    !tildes(single, marker, opener, closer)
+    !threes(both, opener, closer) && !tildes(single, marker, opener, closer)
 }

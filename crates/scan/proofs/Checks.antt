@@ -10,6 +10,7 @@ use lib.ListN.{length, get_or, take, drop, length-take, drop_of_length-le}
 use lib.Seq.{take-length}
 use lib.Dec.{ltb, eqb}
 use borrow.Author.Tests.{lt-ltb, le-ltb, ltb-false, eqb-true, eqb-false, not-true, not-false}
+use Rattle.std.specs.Prelude.{Result, Ok, Err}
 use Rattle.record.specs.Choice.{choose}
 use Rattle.record.specs.Check.{first_return}
 use Rattle.record.specs.Stretch.{is_not, Passed}
@@ -17,9 +18,7 @@ use Rattle.record.specs.declared.check.Refusal.{Refusal}
 use Rattle.record.proofs.Stretch.{passed_as}
 use Rattle.record.proofs.Bools.{clash as bools-clash}
 use Rattle.scan.specs.Run.{leading}
-use Rattle.scan.specs.Line.{end_of, EndsBeforeFeed, LineEnds, line_of, refusal, checked_line, reading, no_feed}
-use Rattle.scan.specs.declared.line.Checked.{Checked}
-use Rattle.scan.specs.declared.line.Checked.TheVariants.{Ends, Bad}
+use Rattle.scan.specs.Line.{end_of, EndsBeforeFeed, LineEnds, line_of, refusal, checked_line, reading, no_feed, Checked}
 use Rattle.scan.proofs.Leading.{run_on, run_ends, leading_short, in_run, run_there, front_passed}
 use Rattle.scan.proofs.ByteKinds.{not_feed}
 
@@ -59,11 +58,11 @@ neither_true true z e = absurd (bools-clash refl e)
 neither_true false z e = (refl, e)
 
 module _ (s : List ℕ) (options column : ℕ) where
-  pub either_over : (ltb 63 options || ltb 16384 column) ≡ true → Bad (refusal 2 0) ≡ checked_line s options column
+  pub either_over : (ltb 63 options || ltb 16384 column) ≡ true → Err (refusal 2 0) ≡ checked_line s options column
   unfolding checked_line choose
   either_over h = go (ltb 63 options) refl (ltb 16384 column) refl h
     where
-      go : (y : Bool) → ltb 63 options ≡ y → (z : Bool) → ltb 16384 column ≡ z → (y || z) ≡ true → Bad (refusal 2 0) ≡ checked_line s options column
+      go : (y : Bool) → ltb 63 options ≡ y → (z : Bool) → ltb 16384 column ≡ z → (y || z) ≡ true → Err (refusal 2 0) ≡ checked_line s options column
       go true p z q e = rw p
       go false p true q e = rw (p, q)
       go false p false q e = absurd (bools-clash e refl)
@@ -75,16 +74,16 @@ module _ (s : List ℕ) (options column : ℕ) where
     c : ltb 16384 column ≡ false
     c = (neither_true (ltb 63 options) (ltb 16384 column) e).1
 
-    pub too_long : 16384 < length s → Bad (refusal 3 16384) ≡ checked_line s options column
+    pub too_long : 16384 < length s → Err (refusal 3 16384) ≡ checked_line s options column
     unfolding checked_line choose
     too_long h = rw (o, c, lt-ltb _ _ h)
 
     module _ (m : length s ≤ 16384) (r : ℕ) (k : r ≡ first_return (length s) s 0) where
-      pub returned : r < length s → Bad (refusal 4 r) ≡ checked_line s options column
+      pub returned : r < length s → Err (refusal 4 r) ≡ checked_line s options column
       unfolding checked_line choose
       returned h = rw (o, c, le-ltb _ _ m, ← k, lt-ltb _ _ h)
 
-      pub passed : length s ≤ r → (n : ℕ) → n ≡ end_of s → Ends n ≡ checked_line s options column
+      pub passed : length s ≤ r → (n : ℕ) → n ≡ end_of s → Ok n ≡ checked_line s options column
       unfolding checked_line choose
       passed h n q = rw (o, c, le-ltb _ _ m, ← k, le-ltb _ _ h, q)
 
@@ -137,14 +136,14 @@ module _ {s : List ℕ} {n feed back : ℕ} (i : Looking s n feed back) (all : n
   unfolding end_of
   first_feed = let q : feed ≡ 0 + leading no_feed s = rw all at i.feeds in omega arith
 
-  pub return_seen : back < length s → Bad (refusal 4 back) ≡ checked_line s 0 0
+  pub return_seen : back < length s → Err (refusal 4 back) ≡ checked_line s 0 0
   return_seen l = returned s 0 0 refl short back first_back l
 
-  pub none_seen : length s ≤ back → Ends feed ≡ checked_line s 0 0
+  pub none_seen : length s ≤ back → Ok feed ≡ checked_line s 0 0
   none_seen l = passed s 0 0 refl short back first_back l feed first_feed
 
 -- a reader's answer after a refusal
-pub refused_by : {A : Type 0} (s : List ℕ) (options column : ℕ) (bad : Refusal → A) (found : A) (r : Refusal) → Bad r ≡ checked_line s options column →
+pub refused_by : {A : Type 0} (s : List ℕ) (options column : ℕ) (bad : Refusal → A) (found : A) (r : Refusal) → Err r ≡ checked_line s options column →
     bad r ≡ reading (checked_line s options column) bad found
 unfolding reading
 refused_by s options column bad found r q = rw (← q)
@@ -155,26 +154,26 @@ pub record Lined (s : List ℕ) (column n : ℕ) : Type 0 where
   pub within : n ≤ length s
   pub short : length s ≤ 16384
   pub near : column ≤ 16384
-  pub part : take (n - 0) (drop 0 s) ≡ line_of s
+  pub part : take n s ≡ line_of s
 
-clash : (r : Refusal) (n : ℕ) → Ends n ≡ Bad r → ⊥
+clash : (r : Refusal) (n : ℕ) → ◌≡◌ {A = Checked} (Ok n) (Err r) → ⊥
 clash r n q = let z : ◌≡◌ {A = ℕ} 0 1 = cc in omega arith
 
 -- a test that leads to a refusal was not met
-past : (b : Bool) (r : Refusal) (x : Checked) (n : ℕ) → Ends n ≡ choose b (Bad r) x → b ≡ false
+past : (b : Bool) (r : Refusal) (x : Checked) (n : ℕ) → Ok n ≡ choose b (Err r) x → b ≡ false
 unfolding choose
 past true r x n q = absurd (clash r n q)
 past false r x n q = refl
 
-beyond : (b : Bool) (r : Refusal) (x : Checked) (n : ℕ) → Ends n ≡ choose b (Bad r) x → Ends n ≡ x
+beyond : (b : Bool) (r : Refusal) (x : Checked) (n : ℕ) → Ok n ≡ choose b (Err r) x → Ok n ≡ x
 unfolding choose
 beyond true r x n q = absurd (clash r n q)
 beyond false r x n q = q
 
-same_end : (m n : ℕ) → Ends n ≡ Ends m → n ≡ m
+same_end : (m n : ℕ) → ◌≡◌ {A = Checked} (Ok n) (Ok m) → n ≡ m
 same_end m n q = cc
 
-pub lined : (s : List ℕ) (options column n : ℕ) → Ends n ≡ checked_line s options column → Lined s column n
+pub lined : (s : List ℕ) (options column n : ℕ) → Ok n ≡ checked_line s options column → Lined s column n
 unfolding checked_line line_of end_of
 lined s options column n q =
     let t = beyond _ _ _ _ q in
@@ -182,19 +181,25 @@ lined s options column n q =
     let near : column ≤ 16384 = ltb-false _ _ (past _ _ _ _ t) in
     let short : length s ≤ 16384 = ltb-false _ _ (past _ _ _ _ u) in
     let e : n ≡ end_of s = same_end _ _ (beyond _ _ _ _ (beyond _ _ _ _ u)) in
-    let z : n - 0 ≡ end_of s = omega arith in
-    record { end = e; within = omega (arith, leading_short no_feed s); short = short; near = near; part = ap (λ (k : ℕ). take k s) z }
+    record { end = e; within = omega (arith, leading_short no_feed s); short = short; near = near; part = ap (λ (k : ℕ). take k s) e }
 
 -- what is found on the line, as the part of the slice before its end
 pub found_by : {A : Type 0} (s : List ℕ) (options column : ℕ) (bad : Refusal → A) (found : List ℕ → A) (n : ℕ) (r : A) →
-    Ends n ≡ checked_line s options column → r ≡ found (take (n - 0) (drop 0 s)) → r ≡ reading (checked_line s options column) bad (found (line_of s))
+    Ok n ≡ checked_line s options column → r ≡ found (take n s) → r ≡ reading (checked_line s options column) bad (found (line_of s))
 unfolding reading
 found_by s options column bad found n r q e = rw (← q) (e ∙ ap found (lined s options column n q).part)
 
+-- what is found on it, as a reader answers it
+pub found_as : {A : Type 0} (s : List ℕ) (options column : ℕ) (found : List ℕ → A) (n : ℕ) (r : A) →
+    Ok n ≡ checked_line s options column → r ≡ found (take n s) → ◌≡◌ {A = Result A Refusal} (Ok r) (reading (checked_line s options column) Err (Ok (found (line_of s))))
+found_as {A} s options column found n r q e =
+    let same : ◌≡◌ {A = Result A Refusal} (Ok r) (Ok (found (take n s))) = rw e in
+    found_by s options column Err (λ (l : List ℕ). Ok (found l)) n (Ok r) q same
+
 -- the line fits into the columns that a reader counts
-pub lined_fits : (s : List ℕ) (column n : ℕ) → Lined s column n → column + 4 * length (take (n - 0) (drop 0 s)) ≤ 81920
+pub lined_fits : (s : List ℕ) (column n : ℕ) → Lined s column n → column + 4 * length (take n s) ≤ 81920
 lined_fits s column n l =
     let a = l.near in
     let b = l.short in
     let c = l.within in
-    omega (arith, length-take (n - 0) (drop 0 s))
+    omega (arith, length-take n s)

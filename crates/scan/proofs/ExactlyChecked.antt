@@ -10,16 +10,15 @@ use native.Mathlib.Omega.{arith}
 use lib.ListN.{length, get_or}
 use lib.Dec.{ltb}
 use borrow.Author.Tests.{ltb-true, ltb-false}
+use Rattle.std.specs.Prelude.{Ok, Err}
 use Rattle.record.specs.Choice.{choose}
 use Rattle.record.specs.Check.{first_return}
 use Rattle.record.specs.Order.{rank, Least}
 use Rattle.record.specs.declared.check.Refusal.{Refusal}
 use Rattle.record.proofs.Order.{lower_first, least_only}
 use Rattle.record.proofs.Exactly.{first_there, first_least}
-use Rattle.scan.specs.Line.{end_of, refusal, checked_line, reading}
+use Rattle.scan.specs.Line.{end_of, refusal, checked_line, reading, Checked}
 use Rattle.scan.specs.Rows.{Row, row_2, row_2_column, row_3, row_4, Exactly}
-use Rattle.scan.specs.declared.line.Checked.{Checked}
-use Rattle.scan.specs.declared.line.Checked.TheVariants.{Ends, Bad}
 
 -- what an answer comes to, of the rows R
 pub data Came {A : Type 0} (R : ℕ → ℕ → Type 0) (refuse : Refusal → A) (found answer : A) : Type 0 where
@@ -87,31 +86,31 @@ module _ (s : List ℕ) (options column : ℕ) where
       none h n p (row_3 w a b) = omega arith
       none h n p (row_4 w v a) = let l = first_before p w v in omega arith
 
-      came_4 : Came (Row s options column) Bad (Ends (end_of s))
-          (choose (ltb (first_return (length s) s 0) (length s)) (Bad (refusal 4 (first_return (length s) s 0))) (Ends (end_of s)))
+      came_4 : Came (Row s options column) Err (Ok (end_of s))
+          (choose (ltb (first_return (length s) s 0) (length s)) (Err (refusal 4 (first_return (length s) s 0))) (Ok (end_of s)))
       unfolding choose
       came_4 = go (ltb (first_return (length s) s 0) (length s)) refl
         where
           go : (z : Bool) → ltb (first_return (length s) s 0) (length s) ≡ z →
-              Came (Row s options column) Bad (Ends (end_of s)) (choose z (Bad (refusal 4 (first_return (length s) s 0))) (Ends (end_of s)))
+              Came (Row s options column) Err (Ok (end_of s)) (choose z (Err (refusal 4 (first_return (length s) s 0))) (Ok (end_of s)))
           go true e = least_row 4 (first_return (length s) s 0) refl (at_4 (ltb-true _ _ e))
           go false e = no_row refl (none (ltb-false _ _ e))
 
-  pub came : Came (Row s options column) Bad (Ends (end_of s)) (checked_line s options column)
+  pub came : Came (Row s options column) Err (Ok (end_of s)) (checked_line s options column)
   unfolding checked_line choose
   came = go (ltb 63 options) refl (ltb 16384 column) refl (ltb 16384 (length s)) refl
     where
       go : (x : Bool) → ltb 63 options ≡ x → (y : Bool) → ltb 16384 column ≡ y → (z : Bool) → ltb 16384 (length s) ≡ z →
-          Came (Row s options column) Bad (Ends (end_of s))
-          (choose x (Bad (refusal 2 0)) (choose y (Bad (refusal 2 0)) (choose z (Bad (refusal 3 16384))
-          (choose (ltb (first_return (length s) s 0) (length s)) (Bad (refusal 4 (first_return (length s) s 0))) (Ends (end_of s))))))
+          Came (Row s options column) Err (Ok (end_of s))
+          (choose x (Err (refusal 2 0)) (choose y (Err (refusal 2 0)) (choose z (Err (refusal 3 16384))
+          (choose (ltb (first_return (length s) s 0) (length s)) (Err (refusal 4 (first_return (length s) s 0))) (Ok (end_of s))))))
       go true e y f z g = least_row 2 0 refl (at_2 (row_2 (ltb-true _ _ e) refl refl))
       go false e true f z g = least_row 2 0 refl (at_2 (row_2_column (ltb-true _ _ f) refl refl))
       go false e false f true g = least_row 3 16384 refl (at_3 (ltb-false _ _ e) (ltb-false _ _ f) (ltb-true _ _ g))
       go false e false f false g = came_4 (ltb-false _ _ e) (ltb-false _ _ f) (ltb-false _ _ g)
 
 -- a reader that refuses with the check and else finds something
-pub read_came : {A : Type 0} {R : ℕ → ℕ → Type 0} {c : Checked} {n : ℕ} (refuse : Refusal → A) (found : A) → Came R Bad (Ends n) c → Came R refuse found (reading c refuse found)
+pub read_came : {A : Type 0} {R : ℕ → ℕ → Type 0} {c : Checked} {n : ℕ} (refuse : Refusal → A) (found : A) → Came R Err (Ok n) c → Came R refuse found (reading c refuse found)
 unfolding reading
 read_came refuse found (least_row n p e l) = least_row n p (ap (λ (x : Checked). reading x refuse found) e) l
 read_came refuse found (no_row e f) = no_row (ap (λ (x : Checked). reading x refuse found) e) f

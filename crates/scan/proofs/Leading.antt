@@ -38,6 +38,26 @@ module _ (kind : ℕ → Bool) where
   leading_short [] = omega arith
   leading_short (b ∷ l) = one_more (kind b) (leading kind l) (length l) (leading_short l)
 
+-- the run among the first k bytes is the run, where it ends before the last of them or nothing stands behind them
+near_step : (z : Bool) (m m' : ℕ) → (z ≡ true → m ≡ m') → choose z (suc m) 0 ≡ choose z (suc m') 0
+unfolding choose
+near_step true m m' f = ap suc (f refl)
+near_step false m m' f = refl
+
+near_more : (z : Bool) (m k n : ℕ) → z ≡ true → (suc k ≤ choose z (suc m) 0 → suc n ≤ suc k) → k ≤ m → n ≤ k
+unfolding choose
+near_more true m k n q f h = let g = f (omega arith) in omega arith
+near_more false m k n q f h = let z : ◌≡◌ {A = ℕ} 0 1 = cc in absurd (omega arith)
+
+pub leading_near : (kind : ℕ → Bool) (l : List ℕ) (k : ℕ) → (k ≤ leading kind (take k l) → length l ≤ k) → leading kind (take k l) ≡ leading kind l
+unfolding leading
+leading_near kind [] zero f = refl
+leading_near kind [] (suc k) f = refl
+leading_near kind (b ∷ l) zero f = let g = f (omega arith) in absurd (omega arith)
+leading_near kind (b ∷ l) (suc k) f =
+    near_step (kind b) (leading kind (take k l)) (leading kind l)
+    (λ q. leading_near kind l k (near_more (kind b) (leading kind (take k l)) k (length l) q f))
+
 -- a run of the whole length is all of the kind, and only such a one
 whole_step : (z e : Bool) (m n : ℕ) → choose z (suc m) 0 ≡ suc n → (m ≡ n → e ≡ true) → and z e ≡ true
 unfolding choose and

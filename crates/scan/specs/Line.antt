@@ -1,12 +1,10 @@
 -- Where a line ends, and numbers 2, 3 and 4, which all line readers give alike. specs/Rows.antt says the same as the table has it.
 -- Assumes nothing.
-use Rattle.std.specs.Prelude.{ℕ, ◌≤◌, ◌<◌, ◌≡◌, Bool, true, false, not, List, length, get_or, take, ltb, eqb}
+use Rattle.std.specs.Prelude.{ℕ, ◌≤◌, ◌<◌, ◌≡◌, Bool, true, false, not, List, length, get_or, take, ltb, eqb, Result, Ok, Err}
 use Rattle.record.specs.Choice.{choose}
 use Rattle.record.specs.Check.{first_return}
 use Rattle.record.specs.declared.check.Refusal.{Refusal}
 use Rattle.scan.specs.Run.{leading}
-use Rattle.scan.specs.declared.line.Checked.{Checked}
-use Rattle.scan.specs.declared.line.Checked.TheVariants.{Ends, Bad}
 
 -- §2.1: "A line is a sequence of zero or more characters other than line feed (U+000A) .."
 unfoldable pub no_feed : ℕ → Bool
@@ -33,15 +31,19 @@ LineEnds = (s : List ℕ) → EndsBeforeFeed s (length (line_of s)) × (line_of 
 abbrev pub refusal : ℕ → ℕ → Refusal
 refusal number place = record { number = number; place = place }
 
+-- what the check finds: the length of the line, or the refusal
+abbrev pub Checked : Type 0
+Checked = Result ℕ Refusal
+
 -- "options over 63; a starting column over 16,384" (amendment D18: the standard sets no limit), "a line over 16,384 bytes" (D18), "a carriage return in the
 -- .. line"; "3 and 4 look past" the line feed
 unfoldable pub checked_line : List ℕ → ℕ → ℕ → Checked
 checked_line s options column =
-    choose (ltb 63 options) (Bad (refusal 2 0))
-    (choose (ltb 16384 column) (Bad (refusal 2 0))
-    (choose (ltb 16384 (length s)) (Bad (refusal 3 16384))
-    (choose (ltb (first_return (length s) s 0) (length s)) (Bad (refusal 4 (first_return (length s) s 0)))
-    (Ends (end_of s)))))
+    choose (ltb 63 options) (Err (refusal 2 0))
+    (choose (ltb 16384 column) (Err (refusal 2 0))
+    (choose (ltb 16384 (length s)) (Err (refusal 3 16384))
+    (choose (ltb (first_return (length s) s 0) (length s)) (Err (refusal 4 (first_return (length s) s 0)))
+    (Ok (end_of s)))))
 
 -- Numbers given back: a flag is 0 or 1
 abbrev pub flag : Bool → ℕ
@@ -50,5 +52,5 @@ flag false = 0
 
 -- the refusal as an answer, or else what is found on the line
 unfoldable pub reading : {A : Type 0} → Checked → (Refusal → A) → A → A
-reading (Ends n) bad found = found
-reading (Bad r) bad found = bad r
+reading (Ok n) bad found = found
+reading (Err r) bad found = bad r

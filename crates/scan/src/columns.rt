@@ -12,8 +12,8 @@ ghost use Rattle.record.specs.Stretch.{of_kind, AllAre, Passed};
 ghost use Rattle.scan.specs.Run.{same};
 ghost use Rattle.scan.specs.Columns.{width, behind, cut, reach, indentation};
 
-use crate::run::{is_blank, lesser};
-use record::blocks::{ByteKind, MIDDLE, NARROW, WIDE, pass_blocks};
+use crate::run::is_blank;
+use record::blocks::{ByteKind, pass};
 
 // How many bytes of a stretch go one by one before blocks are tried, which cost a call. No answer depends on it.
 const FEW: usize = 16;
@@ -42,11 +42,7 @@ fn past_by_block(s: &[u8], from: usize, end: usize, what: u8) -> usize
     requires { (from ≤ end) × (end ≤ length s.now) }
     ensures { Passed (same what) s.now from end 1 result }
 {
-    let kind = only(what);
-    let wide = pass_blocks(s, from, end, WIDE, kind);
-    let middle = pass_blocks(s, wide, end, MIDDLE, kind);
-    let narrow = pass_blocks(s, middle, end, NARROW, kind);
-    pass_blocks(s, narrow, end, 1, kind)
+    pass(s, from, end, only(what))
 }
 
 // The same, the first bytes one by one.
@@ -54,25 +50,23 @@ fn past(s: &[u8], from: usize, end: usize, what: u8) -> usize
     requires { (from ≤ end) × (end ≤ length s.now) }
     ensures { Passed (same what) s.now from end 1 result }
 {
-    let near = from + lesser(end - from, FEW);
-    let mut at = from;
-    while at < near {
+    let near = from + (end - from).min(FEW);
+    for at in from..near {
         if s[at] != what {
             return at;
         }
-        at += 1;
     }
-    if at == end {
-        return at;
+    if near == end {
+        return near;
     }
-    past_by_block(s, at, end, what)
+    past_by_block(s, near, end, what)
 }
 
 // How many columns wide a space or a tab is at a column.
 fn width_at(column: usize, byte: u8) -> usize
     ensures { result ≡ width column byte }
 {
-    if byte == 9 {
+    if byte == b'\t' {
         return 4 - column % 4;
     }
     1
@@ -101,7 +95,7 @@ fn cut_at(bytes: usize, columns: usize, max: usize, next: usize) -> Reach
 fn fitting(byte: u8, room: usize) -> usize
     ensures { (byte ≡ 9 → 4 * result ≤ room) × ((byte ≡ 9 → ⊥) → result ≤ room) }
 {
-    if byte == 9 {
+    if byte == b'\t' {
         return room / 4;
     }
     room
@@ -112,7 +106,7 @@ fn spanned(byte: u8, n: usize) -> usize
     requires { n ≤ 81920 }
     ensures { (byte ≡ 9 → result ≡ 4 * n) × ((byte ≡ 9 → ⊥) → result ≡ n) }
 {
-    if byte == 9 {
+    if byte == b'\t' {
         return 4 * n;
     }
     n
@@ -126,6 +120,7 @@ fn reached_by_stretch(rest: &[u8], column: usize, max: usize, spaces: usize) -> 
 {
     let mut at = spaces;
     let mut columns = spaces;
+    // Kept: a step is a stretch of one byte, however long, and no index is counted.
     while at < rest.len() {
         let byte = rest[at];
         if !is_blank(byte) {
@@ -141,7 +136,7 @@ fn reached_by_stretch(rest: &[u8], column: usize, max: usize, spaces: usize) -> 
         }
         at += 1;
         let fit = fitting(byte, max - next);
-        let to = past(rest, at, at + lesser(rest.len() - at, fit), byte);
+        let to = past(rest, at, at + fit.min(rest.len() - at), byte);
         columns = next + spanned(byte, to - at);
         at = to;
     }
@@ -157,11 +152,10 @@ pub fn reached(rest: &[u8], column: usize, max: usize) -> Reach
     requires { column + 4 * length rest.now ≤ 81920 }
     ensures { result ≡ reach max column rest.now }
 {
-    let near = lesser(lesser(rest.len(), max), FEW);
-    let mut n = 0;
-    while n < near {
-        if rest[n] != 32 {
-            if rest[n] == 9 {
+    let near = rest.len().min(max).min(FEW);
+    for n in 0..near {
+        if rest[n] != b' ' {
+            if rest[n] == b'\t' {
                 return reached_by_stretch(rest, column, max, n);
             }
             return Reach {
@@ -170,16 +164,15 @@ pub fn reached(rest: &[u8], column: usize, max: usize) -> Reach
                 left: 0,
             };
         }
-        n += 1;
     }
     if near < FEW {
         return Reach {
-            bytes: n,
-            columns: n,
+            bytes: near,
+            columns: near,
             left: 0,
         };
     }
-    reached_by_stretch(rest, column, max, n)
+    reached_by_stretch(rest, column, max, near)
 }
 
 // How many columns of indentation a list item or a heading may have: 3, or without option 32 as many as a line can have.

@@ -5,7 +5,7 @@ ghost use Rattle.record.specs.Choice.{choose};
 ghost use Rattle.scan.specs.Line.{end_of, checked_line};
 
 use record::blocks::find;
-use record::check::{Refusal, first_return};
+use record::check::{Refusal, first_return, refused};
 use record::limits::MAX_OPTIONS;
 
 // The longest line.
@@ -18,18 +18,11 @@ pub const MAX_COLUMN: usize = 16384;
 // out byte for byte, which makes `check_line` too large to be put into its callers.
 const SHORT: usize = 10;
 
-// What the check finds: the length of the line proper, or the refusal.
-#[derive(Clone, Copy)]
-pub enum Checked {
-    Ends(usize),
-    Bad(Refusal),
-}
-
 // The place of the first line feed, or the place after the last byte.
 pub fn line_end(s: &[u8]) -> usize
     ensures { (result ≡ end_of s.now) × (result ≤ length s.now) }
 {
-    find(s, 0, s.len(), 10)
+    find(s, 0, s.len(), b'\n')
 }
 
 // A place where a byte is the one that is looked for, else the place that is held.
@@ -44,42 +37,31 @@ fn here_or(byte: u8, what: u8, at: usize, held: usize) -> usize
 
 // Number 4, or where the line ends, in one pass by the byte: from the last byte to the first, so that at the end the first line feed and the first
 // carriage return are held. The compiler puts this into its caller, and `find` not: so a short line is spared two calls.
-fn check_short(s: &[u8]) -> Checked
+fn check_short(s: &[u8]) -> Result<usize, Refusal>
     requires { length s.now ≤ 16384 }
     ensures { result ≡ checked_line s.now 0 0 }
 {
     let mut feed = s.len();
     let mut back = s.len();
-    let mut n = s.len();
-    while n > 0 {
-        n -= 1;
-        feed = here_or(s[n], 10, n, feed);
-        back = here_or(s[n], 13, n, back);
+    for n in (0..s.len()).rev() {
+        feed = here_or(s[n], b'\n', n, feed);
+        back = here_or(s[n], b'\r', n, back);
     }
     if back < s.len() {
-        return Checked::Bad(Refusal {
-            number: 4,
-            place: back,
-        });
+        return refused(4, back);
     }
-    Checked::Ends(feed)
+    Ok(feed)
 }
 
-// Numbers 2, 3 and 4, the lowest first, or where the line ends.
-pub fn check_line(s: &[u8], options: u32, column: usize) -> Checked
+// Numbers 2, 3 and 4, the lowest first, or the length of the line proper.
+pub fn check_line(s: &[u8], options: u32, column: usize) -> Result<usize, Refusal>
     ensures { result ≡ checked_line s.now options column }
 {
     if (options > MAX_OPTIONS) | (column > MAX_COLUMN) {
-        return Checked::Bad(Refusal {
-            number: 2,
-            place: 0,
-        });
+        return refused(2, 0);
     }
     if s.len() > MAX_LINE {
-        return Checked::Bad(Refusal {
-            number: 3,
-            place: MAX_LINE,
-        });
+        return refused(3, MAX_LINE);
     }
     if s.len() < SHORT {
         return check_short(s);
@@ -87,10 +69,7 @@ pub fn check_line(s: &[u8], options: u32, column: usize) -> Checked
     let end = line_end(s);
     let returned = first_return(s, 0, s.len());
     if returned < s.len() {
-        return Checked::Bad(Refusal {
-            number: 4,
-            place: returned,
-        });
+        return refused(4, returned);
     }
-    Checked::Ends(end)
+    Ok(end)
 }

@@ -4,11 +4,11 @@
 // blocks, since pasted logs have hundreds of spaces before each line. How wide they are is the module `columns`. Runs of digits, of `#` and of text, and the gaps
 // between the words of a heading, are short and go by the byte.
 
-ghost use Rattle.std.specs.Prelude.{◌≡◌, ◌⊎◌, ℕ, ◌≤◌, length, get_or};
+ghost use Rattle.std.specs.Prelude.{◌≡◌, ℕ, Bool, ◌≤◌, ◌<◌, length, get_or};
 ghost use Rattle.record.specs.Stretch.{of_kind};
 ghost use Rattle.scan.specs.Run.{space_or_tab, leading, digit, hash, filled, blank, blanks};
 
-use record::blocks::{ByteKind, MIDDLE, NARROW, WIDE, pass_blocks};
+use record::blocks::{ByteKind, pass};
 
 // How many spaces and tabs go one by one before blocks are tried, which cost a call. No answer depends on it.
 const FEW: usize = 16;
@@ -17,16 +17,11 @@ const FEW: usize = 16;
 pub fn is_blank(byte: u8) -> bool
     ensures { result ≡ space_or_tab byte }
 {
-    if byte == 32 {
-        return true;
-    }
-    if byte == 9 {
-        return true;
-    }
-    false
+    matches!(byte, b' ' | b'\t')
 }
 
 // The byte at a place, or 0, which stands for nothing, past the end.
+// Kept: 0 and no None, since the definitions (`first` in specs/Run.antt and what goes by it) have it for a byte that is not there.
 pub fn byte_at(rest: &[u8], n: usize) -> u8
     ensures { result ≡ get_or rest.now n 0 }
 {
@@ -40,13 +35,7 @@ pub fn byte_at(rest: &[u8], n: usize) -> u8
 pub fn is_digit(byte: u8) -> bool
     ensures { result ≡ digit byte }
 {
-    if byte < 48 {
-        return false;
-    }
-    if byte > 57 {
-        return false;
-    }
-    true
+    byte.is_ascii_digit()
 }
 
 // A space or a tab.
@@ -64,36 +53,46 @@ fn blank_kind() -> ByteKind
 fn blanks_by_block(rest: &[u8]) -> usize
     ensures { result ≡ blanks rest.now }
 {
-    let kind = blank_kind();
-    let wide = pass_blocks(rest, 0, rest.len(), WIDE, kind);
-    let middle = pass_blocks(rest, wide, rest.len(), MIDDLE, kind);
-    let narrow = pass_blocks(rest, middle, rest.len(), NARROW, kind);
-    pass_blocks(rest, narrow, rest.len(), 1, kind)
+    pass(rest, 0, rest.len(), blank_kind())
 }
 
-// The lesser of two numbers.
-pub fn lesser(a: usize, b: usize) -> usize
-    ensures { (result ≤ a) × (result ≤ b) × ((a ≤ result) ⊎ (b ≤ result)) }
+// Whether a byte is `#`.
+fn is_hash(byte: u8) -> bool
+    ensures { result ≡ hash byte }
 {
-    if a < b {
-        return a;
+    byte == b'#'
+}
+
+// Whether a byte is neither a space nor a tab.
+fn is_filled(byte: u8) -> bool
+    ensures { result ≡ filled byte }
+{
+    !is_blank(byte)
+}
+
+// How many bytes in front are of a kind, which `is` tells of each. Runs are short, and a call costs as much as they do.
+#[inline(always)]
+fn leading<K: Fn(u8) -> bool>(rest: &[u8], is: K) -> usize
+    ghost kind: { ℕ → Bool }
+    requires callable { K.IsAlwaysCallable is }
+    requires tells { (b : ℕ) (r : Bool) → b < 256 → K.post is b r → r ≡ kind b }
+    ensures { result ≡ leading kind rest.now }
+{
+    for (n, byte) in rest.iter().enumerate() {
+        if !is(*byte) {
+            return n;
+        }
     }
-    b
+    rest.len()
 }
 
 // How many spaces and tabs stand in front. Mostly they are few: so the first bytes go one by one, and blocks follow only where all of these are such.
 fn blanks(rest: &[u8]) -> usize
     ensures { result ≡ blanks rest.now }
 {
-    let near = lesser(rest.len(), FEW);
-    let mut n = 0;
-    while n < near {
-        if !is_blank(rest[n]) {
-            return n;
-        }
-        n += 1;
-    }
-    if near < FEW {
+    let near = rest.len().min(FEW);
+    let n = leading(&rest[..near], is_blank);
+    if n < FEW {
         return n;
     }
     blanks_by_block(rest)
@@ -115,54 +114,26 @@ pub fn is_blank_line(line: &[u8], place: usize) -> bool
 pub fn gap(rest: &[u8]) -> usize
     ensures { result ≡ blanks rest.now }
 {
-    let mut at = 0;
-    while at < rest.len() {
-        if !is_blank(rest[at]) {
-            return at;
-        }
-        at += 1;
-    }
-    at
+    leading(rest, is_blank)
 }
 
 // How many digits stand in front.
 pub fn digits(rest: &[u8]) -> usize
     ensures { result ≡ leading digit rest.now }
 {
-    let mut n = 0;
-    while n < rest.len() {
-        if !is_digit(rest[n]) {
-            return n;
-        }
-        n += 1;
-    }
-    n
+    leading(rest, is_digit)
 }
 
 // How many `#` stand in front.
 pub fn hashes(rest: &[u8]) -> usize
     ensures { result ≡ leading hash rest.now }
 {
-    let mut n = 0;
-    while n < rest.len() {
-        if rest[n] != 35 {
-            return n;
-        }
-        n += 1;
-    }
-    n
+    leading(rest, is_hash)
 }
 
 // How many bytes stand before the next space or tab, or the end.
 pub fn word(rest: &[u8]) -> usize
     ensures { result ≡ leading filled rest.now }
 {
-    let mut n = 0;
-    while n < rest.len() {
-        if is_blank(rest[n]) {
-            return n;
-        }
-        n += 1;
-    }
-    n
+    leading(rest, is_filled)
 }

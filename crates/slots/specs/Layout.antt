@@ -16,7 +16,7 @@
 -- container: 3 × (number of the container's enter event plus 1, or 0 for none), plus 0 for `*`, 1 for `_` and 2 for `~`. Of 2,048 events
 -- the last 2,047 plus 1 gives 3 × 2,048 + 2 at most. Sizes are 16,384 at most, so that two bytes hold them.
 -- Assumes nothing.
-use Rattle.std.specs.Prelude.{ℕ, ◌+◌, ◌*◌, ◌≤◌, List, Bool, not, eqb, length, get_or, set}
+use Rattle.std.specs.Prelude.{ℕ, ◌+◌, ◌*◌, ◌≤◌, List, Bool, true, false, not, eqb, length, get_or, set}
 use Rattle.slots.specs.Words.{get16, put16}
 
 -- the memory is long enough
@@ -82,6 +82,10 @@ abbrev pub with_marker : List ℕ → ℕ → ℕ → List ℕ
 with_marker w i v = set w (i * 16 + 4) v
 
 -- a flag is a byte, 0 or 1
+abbrev pub bit : Bool → ℕ
+bit true = 1
+bit false = 0
+
 abbrev pub with_opens : List ℕ → ℕ → ℕ → List ℕ
 with_opens w i v = set w (i * 16 + 5) v
 
@@ -106,6 +110,18 @@ with_head w k v = put16 w (16384 + k * 2) v
 abbrev pub with_open_at : List ℕ → ℕ → ℕ → List ℕ
 with_open_at w h v = put16 w (28678 + h * 2) v
 
+abbrev pub with_group_opener : List ℕ → ℕ → ℕ → List ℕ
+with_group_opener w g v = put16 w (30726 + g * 8) v
+
+abbrev pub with_group_closer : List ℕ → ℕ → ℕ → List ℕ
+with_group_closer w g v = put16 w (30726 + g * 8 + 2) v
+
+abbrev pub with_group_taken : List ℕ → ℕ → ℕ → List ℕ
+with_group_taken w g v = put16 w (30726 + g * 8 + 4) v
+
+abbrev pub with_group_earlier : List ℕ → ℕ → ℕ → List ℕ
+with_group_earlier w g v = put16 w (30726 + g * 8 + 6) v
+
 -- a group written whole: opener, closer, taken, the opener's earlier group plus 1
 abbrev pub with_group : List ℕ → ℕ → ℕ → ℕ → ℕ → ℕ → List ℕ
-with_group w g o c k e = put16 (put16 (put16 (put16 w (30726 + g * 8) o) (30726 + g * 8 + 2) c) (30726 + g * 8 + 4) k) (30726 + g * 8 + 6) e
+with_group w g o c k e = with_group_earlier (with_group_taken (with_group_closer (with_group_opener w g o) g c) g k) g e

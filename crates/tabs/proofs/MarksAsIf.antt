@@ -10,6 +10,7 @@ use native.Mathlib.Omega.{arith}
 use lib.ListN.{length, get_or, take, replicate}
 use lib.Dec.{eqb}
 use borrow.Author.Tests.{ne_eqb, eqb-true, eqb-false}
+use Rattle.std.specs.Prelude.{None}
 use Rattle.record.specs.Choice.{choose, and}
 use Rattle.record.proofs.Bools.{clash, and_left, and_right}
 use Rattle.record.proofs.Chosen.{chosen}
@@ -17,11 +18,10 @@ use Rattle.scan.specs.Run.{or, space_or_tab, digit, leading, every, count, first
 use Rattle.scan.specs.Columns.{to_stop}
 use Rattle.tabs.specs.Replaced.{replaced, up_to}
 use Rattle.scan.proofs.Leading.{in_run}
-use Rattle.lines.specs.Item.{break_mark, is_mark, mark_or_blank, marks_only, thematic_break}
+use Rattle.lines.specs.Item.{break_mark, is_mark, mark_or_blank, marks_only, thematic_break, marked}
 use Rattle.lines.specs.Item.{bullet_mark, ordered_mark, starts_with_one, may_start, ordered_of, marker_of}
 use Rattle.lines.specs.declared.container.Kind.{Kind}
 use Rattle.lines.specs.declared.container.Kind.TheVariants.{Bullet, Ordered}
-use Rattle.lines.specs.declared.item.Marker.TheVariants.{Marked, Unmarked}
 use Rattle.lines.proofs.Marks.{told, marked_width, unmarked_not}
 use Rattle.tabs.proofs.ReadersBefore.{choose_where}
 
@@ -204,7 +204,7 @@ module _ (c : ℕ) (l : List ℕ) where
       (choose_where _ _ _ _ _
       (λ e.
       let m = and_left _ _ (and_right _ _ (and_right _ _ e)) in
-      ap (λ (b : ℕ). Marked (Ordered b) (leading digit l + 1)) (sym (alike_same ordered_mark no_ordered.0 m behind_digits)))
+      ap (λ (b : ℕ). marked (Ordered b) (leading digit l + 1)) (sym (alike_same ordered_mark no_ordered.0 m behind_digits)))
       (λ e. refl))
 
   -- the marker is the same
@@ -213,7 +213,7 @@ module _ (c : ℕ) (l : List ℕ) where
   marker_replaced z =
       rw (alike_told bullet_mark no_bullets.0 no_bullets.1 (first_alike c l), break_replaced, ordered_replaced z)
       (choose_where _ _ _ _ _
-      (λ e. ap (λ (b : ℕ). choose (thematic_break l) Unmarked (Marked (Bullet b) 1)) (sym (alike_same bullet_mark no_bullets.0 e (first_alike c l))))
+      (λ e. ap (λ (b : ℕ). choose (thematic_break l) None (marked (Bullet b) 1)) (sym (alike_same bullet_mark no_bullets.0 e (first_alike c l))))
       (λ e. refl))
 
 -- bytes that are no tabs have as many columns
@@ -231,7 +231,7 @@ not_tab kind t b h e = clash h (ap kind e ∙ t)
 
 -- no byte of a marker is
 bullet_tabs : (l : List ℕ) (kind : Kind) (width : ℕ) → bullet_mark (first l) ≡ true →
-    Marked kind width ≡ choose (thematic_break l) Unmarked (Marked (Bullet (first l)) 1) → (p : ℕ) → p < width → get_or l p 0 ≡ 9 → ⊥
+    marked kind width ≡ choose (thematic_break l) None (marked (Bullet (first l)) 1) → (p : ℕ) → p < width → get_or l p 0 ≡ 9 → ⊥
 bullet_tabs l kind width b q p h =
     ⊎_elim
     (λ w. absurd (unmarked_not kind width w.1))
@@ -241,7 +241,7 @@ bullet_tabs l kind width b q p h =
     rw z (not_tab bullet_mark no_bullets.0 (first l) b))
     (chosen _ _ _ _ q)
 
-ordered_tabs : (z : Bool) (l : List ℕ) (kind : Kind) (width : ℕ) → Marked kind width ≡ ordered_of z l → (p : ℕ) → p < width → get_or l p 0 ≡ 9 → ⊥
+ordered_tabs : (z : Bool) (l : List ℕ) (kind : Kind) (width : ℕ) → marked kind width ≡ ordered_of z l → (p : ℕ) → p < width → get_or l p 0 ≡ 9 → ⊥
 unfolding ordered_of
 ordered_tabs z l kind width q p h =
     ⊎_elim
@@ -262,7 +262,7 @@ ordered_tabs z l kind width q p h =
             not_tab digit no_digit.0 _ (in_run digit l p (omega arith))
 
 -- so a marker has as many columns as bytes
-pub marker_columns : (z : Bool) (c : ℕ) (l : List ℕ) (kind : Kind) (width : ℕ) → Marked kind width ≡ marker_of z l → up_to c l width ≡ width
+pub marker_columns : (z : Bool) (c : ℕ) (l : List ℕ) (kind : Kind) (width : ℕ) → marked kind width ≡ marker_of z l → up_to c l width ≡ width
 unfolding marker_of
 marker_columns z c l kind width q =
     no_tabs c l width (told z l kind width q).fits

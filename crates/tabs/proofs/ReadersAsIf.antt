@@ -11,6 +11,9 @@ use lib.ListN.{length, get_or, drop, length-drop}
 use lib.Seq.{drop-drop, get_or-drop}
 use lib.Dec.{eqb, leb}
 use borrow.Author.Tests.{leb-true, eqb-true, eqb-false}
+use Rattle.std.specs.Prelude.{None, Option, Some}
+use Rattle.lines.specs.declared.item.Item.{Item}
+use Rattle.lines.specs.declared.spaces.Taken.{Taken}
 use Rattle.record.specs.Choice.{choose, and}
 use Rattle.record.specs.Options.{option_on}
 use Rattle.record.proofs.Bools.{and_right}
@@ -21,19 +24,14 @@ use Rattle.scan.specs.declared.columns.Reach.{Reach}
 use Rattle.scan.proofs.Taken.{columns_full, indent_fits}
 use Rattle.tabs.proofs.Replaced.{columns_replaced, reach_replaced, came_to, blank_replaced, up_to_plus, drop_replaced, came_behind}
 use Rattle.tabs.proofs.Replaced.{came_at, inside_tab, indent_replaced, indent_came}
-use Rattle.lines.specs.Spaces.{spaces_in}
-use Rattle.lines.specs.Item.{marker_of, container, padding, up_to_marker, filled_start, start_after, start_from, start_at, start_in}
+use Rattle.lines.specs.Spaces.{spaces_in, takes, Spaces}
+use Rattle.lines.specs.Item.{marker_of, container, padding, up_to_marker, filled_start, start_after, start_from, start_at, start_in, marked, starts, Start}
 use Rattle.lines.specs.Going.{cleared, blank_going, filled_going, going_in}
 use Rattle.tabs.specs.ReadersBefore.{spaces_in_before, filled_before, after_before, from_before, start_in_before, going_in_before}
 use Rattle.tabs.specs.ReadersAsIf.{TabsAsSpaces}
 use Rattle.lines.specs.declared.container.Kind.{Kind}
 use Rattle.lines.specs.declared.container.Container.{Container}
-use Rattle.lines.specs.declared.spaces.Spaces.{Spaces}
-use Rattle.lines.specs.declared.spaces.Spaces.TheVariants.{Taken, TooFew}
 use Rattle.lines.specs.declared.item.Marker.{Marker}
-use Rattle.lines.specs.declared.item.Marker.TheVariants.{Marked, Unmarked}
-use Rattle.lines.specs.declared.item.Start.{Start}
-use Rattle.lines.specs.declared.item.Start.TheVariants.{Item, NotItem}
 use Rattle.lines.specs.declared.going.Going.{Going}
 use Rattle.lines.specs.declared.going.Going.TheVariants.{Goes, Stops}
 use Rattle.lines.proofs.Marks.{told}
@@ -52,37 +50,37 @@ module _ (c : ℕ) (l : List ℕ) where
   line = replaced c l
 
   -- an answer on the line, and the one of before on the line with its tabs replaced: of each reader
-  record SameSpaces (a b : Spaces) : Type 0 where
-    few : a ≡ TooFew → b ≡ TooFew
-    taken : (n left : ℕ) → a ≡ Taken n left → (k : ℕ) × CameTo c l n left k × (b ≡ Taken k 0)
+  record SameSpaces (a b : Option Taken) : Type 0 where
+    few : a ≡ None → b ≡ None
+    taken : (n left : ℕ) → a ≡ takes n left → (k : ℕ) × CameTo c l n left k × (b ≡ takes k 0)
 
-  record SameStart (a b : Start) : Type 0 where
-    no_item_lem : a ≡ NotItem → b ≡ NotItem
-    item : (n left : ℕ) (held : Container) → a ≡ Item n left held → (k : ℕ) × CameTo c l n left k × (b ≡ Item k 0 held)
+  record SameStart (a b : Option Item) : Type 0 where
+    no_item_lem : a ≡ None → b ≡ None
+    item : (n left : ℕ) (held : Container) → a ≡ starts n left held → (k : ℕ) × CameTo c l n left k × (b ≡ starts k 0 held)
 
   record SameGoing (a b : Going) : Type 0 where
     stops : (held : Container) → a ≡ Stops held → b ≡ Stops held
     goes : (held : Container) (n left : ℕ) → a ≡ Goes n left held → (k : ℕ) × CameTo c l n left k × (b ≡ Goes k 0 held)
 
   -- nothing is found on both, or the same as far as that came
-  both_few : SameSpaces TooFew TooFew
+  both_few : SameSpaces None None
   both_few = record { few = λ e. e; taken = λ n left e. absurd (taken_not_few n left (sym e)) }
 
-  both_taken : (n left k : ℕ) → CameTo c l n left k → SameSpaces (Taken n left) (Taken k 0)
+  both_taken : (n left k : ℕ) → CameTo c l n left k → SameSpaces (takes n left) (takes k 0)
   both_taken n left k t =
       record {
         few = λ e. absurd (taken_not_few n left e);
         taken = λ n' left' e. let q = same_taken _ _ _ _ e in (k, came_at c l q.0 q.1 refl t, refl);
       }
 
-  no_items : SameStart NotItem NotItem
+  no_items : SameStart None None
   no_items = record { no_item_lem = λ e. e; item = λ n left held e. absurd (item_not n left held (sym e)) }
 
-  both_items : (n left k : ℕ) (held held' : Container) → CameTo c l n left k → held ≡ held' → SameStart (Item n left held) (Item k 0 held')
+  both_items : (n left k : ℕ) (held held' : Container) → CameTo c l n left k → held ≡ held' → SameStart (starts n left held) (starts k 0 held')
   both_items n left k held held' t h =
       record {
         no_item_lem = λ e. absurd (item_not n left held e);
-        item = λ n' left' held'' e. let q = same_start _ _ _ _ _ _ e in (k, came_at c l q.0 q.1 refl t, ap (Item k 0) (sym h ∙ q.2));
+        item = λ n' left' held'' e. let q = same_start _ _ _ _ _ _ e in (k, came_at c l q.0 q.1 refl t, ap (starts k 0) (sym h ∙ q.2));
       }
 
   both_stop : (held : Container) → SameGoing (Stops held) (Stops held)
@@ -163,14 +161,14 @@ module _ (c : ℕ) (l : List ℕ) where
     rest = drop indent.bytes l
 
     -- it cuts a tab: neither what is left of the tab nor a space is a marker
-    cut_unmarked : 0 < indent.left → Unmarked ≡ marker_of z rest
+    cut_unmarked : 0 < indent.left → None ≡ marker_of z rest
     unfolding space_or_tab or
     cut_unmarked h =
         let at : first rest ≡ get_or l indent.bytes 0 = get_or-drop indent.bytes l 0 0 ∙ ap (λ (j : ℕ). get_or l j 0) (add-zero indent.bytes) in
         let e : first rest ≡ 9 = at ∙ ((indent_came options c l).a_tab h).1 in
         blank_unmarked z rest (rw e)
 
-    cut_unmarked_line : 0 < indent.left → Unmarked ≡ marker_of z (drop indent.columns line)
+    cut_unmarked_line : 0 < indent.left → None ≡ marker_of z (drop indent.columns line)
     unfolding space_or_tab or
     cut_unmarked_line h =
         let e = inside_tab c l indent.bytes indent.left indent.columns (indent_came options c l) h in
@@ -184,7 +182,7 @@ module _ (c : ℕ) (l : List ℕ) where
       rest_replaced : drop indent.columns line ≡ replaced (c + indent.columns) rest
       rest_replaced = rw indent_whole (drop_replaced c l indent.bytes)
 
-      module _ (kind : Kind) (width : ℕ) (m : Marked kind width ≡ marker_of z rest) where
+      module _ (kind : Kind) (width : ℕ) (m : marked kind width ≡ marker_of z rest) where
         room : indent.bytes + width ≤ length l
         room = omega (arith, (told z rest kind width m).fits, length-drop indent.bytes l, indent_fits options c l indent refl)
 
@@ -206,11 +204,11 @@ module _ (c : ℕ) (l : List ℕ) where
             rw (behind_replaced, drop-drop width indent.bytes l)
             (after_as_if (indent.bytes + width) (indent.columns + width) room marker_whole z kind)
 
-      from_as_if : (m : Marker) → m ≡ marker_of z rest →
+      from_as_if : (m : Option Marker) → m ≡ marker_of z rest →
           SameStart (start_from z c indent m rest) (from_before z indent.columns m (replaced (c + indent.columns) rest))
       unfolding start_from from_before
-      from_as_if Unmarked q = no_items
-      from_as_if (Marked kind width) q = marker_as_if kind width q
+      from_as_if None q = no_items
+      from_as_if (Some m) q = marker_as_if m.kind m.width q
 
     at_as_if : SameStart (start_at z c indent rest)
         (from_before z indent.columns (marker_of z (drop indent.columns line)) (drop indent.columns line))

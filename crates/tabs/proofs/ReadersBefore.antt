@@ -9,30 +9,27 @@ use native.Mathlib.Omega.{arith}
 use lib.ListN.{drop}
 use lib.Dec.{eqb, leb}
 use borrow.Author.Tests.{leb-true, eqb-false}
+use Rattle.std.specs.Prelude.{Err, None, Option, Some, Result, Ok}
 use Rattle.record.specs.Choice.{choose, and}
 use Rattle.record.specs.Options.{option_on}
 use Rattle.record.specs.declared.check.Refusal.{Refusal}
 use Rattle.record.proofs.Bools.{and_right}
 use Rattle.scan.specs.Run.{every, blank, blanks}
 use Rattle.scan.specs.Columns.{reach}
-use Rattle.scan.specs.Line.{line_of, reading}
+use Rattle.scan.specs.Line.{line_of, reading, Checked}
 use Rattle.tabs.specs.BytesBefore.{indentation_before, no_tab, whole}
 use Rattle.scan.specs.declared.columns.Reach.{Reach}
-use Rattle.scan.specs.declared.line.Checked.{Checked}
 use Rattle.tabs.proofs.BytesBefore.{without_tabs, checked_as_before}
 use Rattle.scan.proofs.Taken.{columns_full, every_drop}
 use Rattle.lines.specs.Spaces.{spaces_in, spaces_of}
-use Rattle.lines.specs.Item.{padding, item_with, filled_start, start_after, start_from, start_at, start_in, start_of}
+use Rattle.lines.specs.Item.{padding, item_with, filled_start, start_after, start_from, start_at, start_in, start_of, marked}
 use Rattle.lines.specs.Going.{cleared, blank_going, filled_going, going_in, going_of}
 use Rattle.tabs.specs.ReadersBefore.{spaces_in_before, spaces_before, filled_before, after_before, from_before, start_in_before, start_before}
 use Rattle.tabs.specs.ReadersBefore.{going_in_before, going_before, WithoutTabs}
 use Rattle.lines.specs.declared.container.Kind.{Kind}
 use Rattle.lines.specs.declared.container.Container.{Container}
 use Rattle.lines.specs.declared.item.Marker.{Marker}
-use Rattle.lines.specs.declared.item.Marker.TheVariants.{Marked, Unmarked}
-use Rattle.lines.specs.declared.item.Start.TheVariants.{Refused as StartRefused}
-use Rattle.lines.specs.declared.spaces.Spaces.TheVariants.{Refused as SpacesRefused}
-use Rattle.lines.specs.declared.going.Going.TheVariants.{Goes, Refused as GoingRefused}
+use Rattle.lines.specs.declared.going.Going.TheVariants.{Goes}
 use Rattle.lines.proofs.Lawful.{padding_some}
 
 -- alike, where it comes to that
@@ -65,10 +62,11 @@ module _ (c : ℕ) (l : List ℕ) (h : every no_tab l ≡ true) where
   unfolding start_after after_before
   after_before_lem z kind n = choose_where (blank l) _ _ _ _ (λ e. refl) (λ e. filled_before_lem kind n)
 
-from_before_lem : (z : Bool) (n : ℕ) (m : Marker) (l : List ℕ) → every no_tab l ≡ true → start_from z 0 (whole n) m l ≡ from_before z n m l
+from_before_lem : (z : Bool) (n : ℕ) (m : Option Marker) (l : List ℕ) → every no_tab l ≡ true → start_from z 0 (whole n) m l ≡ from_before z n m l
 unfolding start_from from_before
-from_before_lem z n Unmarked l h = refl
-from_before_lem z n (Marked kind width) l h = after_before_lem (0 + (n + width)) (drop width l) (every_drop no_tab width l h) z kind (n + width)
+from_before_lem z n None l h = refl
+from_before_lem z n (Some m) l h =
+    after_before_lem (0 + (n + m.width)) (drop m.width l) (every_drop no_tab m.width l h) z m.kind (n + m.width)
 
 start_before_lem : (l : List ℕ) (options : ℕ) (z : Bool) → every no_tab l ≡ true → start_in l options 0 z ≡ start_in_before l options z
 unfolding start_in start_at start_in_before
@@ -93,14 +91,15 @@ going_before_lem l held h =
     goes_with to r r' e = ap (λ (x : Reach). Goes x.bytes x.left to) e
 
 -- a reader's answer after the same check, of what is found alike
-read_alike : {A : Type 0} {c c' : Checked} {found found' : A} (bad : Refusal → A) → c ≡ c' → found ≡ found' → reading c bad found ≡ reading c' bad found'
-read_alike bad p q = cc
+read_alike : {A : Type 0} {c c' : Checked} {found found' : A} → c ≡ c' → found ≡ found' →
+    ◌≡◌ {A = Result A Refusal} (reading c Err (Ok found)) (reading c' Err (Ok found'))
+read_alike p q = cc
 
 pub as_before : WithoutTabs
 unfolding spaces_of spaces_before start_of start_before going_of going_before
 as_before s options h =
     record {
-      spaces = λ min max. read_alike SpacesRefused (checked_as_before s options) (spaces_before_lem 0 (line_of s) h min max);
-      start = λ z. read_alike StartRefused (checked_as_before s options) (start_before_lem (line_of s) options z h);
-      going = λ held. read_alike GoingRefused (checked_as_before s options) (going_before_lem (line_of s) held h);
+      spaces = λ min max. read_alike (checked_as_before s options) (spaces_before_lem 0 (line_of s) h min max);
+      start = λ z. read_alike (checked_as_before s options) (start_before_lem (line_of s) options z h);
+      going = λ held. read_alike (checked_as_before s options) (going_before_lem (line_of s) held h);
     }

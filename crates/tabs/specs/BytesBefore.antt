@@ -2,23 +2,21 @@
 -- these. They stand here for what is said of each reader beside it: that a line with no tab is read at column 0 as it was then, and with that, that a line
 -- with tabs is read as if they were replaced by spaces (specs/Replaced.antt).
 -- Assumes nothing.
-use Rattle.std.specs.Prelude.{ℕ, ◌≡◌, Bool, true, not, List, length, take, ltb, eqb}
+use Rattle.std.specs.Prelude.{ℕ, ◌≡◌, Bool, true, not, List, length, take, ltb, eqb, Ok, Err}
 use Rattle.record.specs.Choice.{choose}
 use Rattle.record.specs.Options.{option_on}
 use Rattle.record.specs.Check.{first_return}
 use Rattle.scan.specs.Run.{space_or_tab, leading, every, blanks}
-use Rattle.scan.specs.Line.{end_of, refusal, checked_line}
+use Rattle.scan.specs.Line.{end_of, refusal, checked_line, Checked}
 use Rattle.scan.specs.Columns.{columns, reach, indentation}
 use Rattle.scan.specs.declared.columns.Reach.{Reach}
-use Rattle.scan.specs.declared.line.Checked.{Checked}
-use Rattle.scan.specs.declared.line.Checked.TheVariants.{Ends, Bad}
 
 unfoldable pub checked_before : List ℕ → ℕ → Checked
 checked_before s options =
-    choose (ltb 63 options) (Bad (refusal 2 0))
-    (choose (ltb 16384 (length s)) (Bad (refusal 3 16384))
-    (choose (ltb (first_return (length s) s 0) (length s)) (Bad (refusal 4 (first_return (length s) s 0)))
-    (Ends (end_of s))))
+    choose (ltb 63 options) (Err (refusal 2 0))
+    (choose (ltb 16384 (length s)) (Err (refusal 3 16384))
+    (choose (ltb (first_return (length s) s 0) (length s)) (Err (refusal 4 (first_return (length s) s 0)))
+    (Ok (end_of s))))
 
 -- up to a maximum, a tab as one byte
 unfoldable pub blanks_up_to : ℕ → List ℕ → ℕ

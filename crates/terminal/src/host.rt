@@ -47,12 +47,8 @@ pub fn is_closed(host: &Host, stream: Stream) -> bool {
 // Closes a stream.
 fn close(host: &mut Host, stream: Stream) {
     match stream {
-        Stream::Output => {
-            host.output_closed = true;
-        }
-        Stream::Complaints => {
-            host.complaints_closed = true;
-        }
+        Stream::Output => host.output_closed = true,
+        Stream::Complaints => host.complaints_closed = true,
     }
 }
 

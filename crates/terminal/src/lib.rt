@@ -14,4 +14,4 @@ pub mod quoted; // a user's bytes, where a terminal may show them
 pub mod say; // words on standard output and standard error, and the statuses
 pub mod style; // the styles of a text on a terminal
 pub mod tree; // groups as an indented tree
-pub mod words; // words compared, copied and found
+pub mod words; // what stands between words

@@ -1,51 +1,21 @@
 // Numbers in decimal digits.
 
-// The largest number that a record holds.
-pub const LARGEST: u32 = 4294967295;
+use std::str::from_utf8;
 
-// A word that is to be a number: it is one, one that is larger than the largest, or none.
-#[derive(Clone, Copy)]
-pub enum Number {
-    Is(u32),
-    Large,
-    Not,
+// Why a word is not what it should spell: a number in it is larger than fits there, or it spells something else.
+#[derive(Clone, Copy, PartialEq, Eq)]
+pub enum Misspelt {
+    TooLarge,
+    Other,
 }
 
-// A number that has a value, with one more digit behind it.
-fn longer(value: u32, digit: u8) -> Number {
-    let longer = value as u64 * 10 + digit as u64;
-    if longer > LARGEST as u64 {
-        return Number::Large;
+// The number that a word of digits spells, if a record can hold it.
+pub fn spelled(word: &[u8]) -> Result<u32, Misspelt> {
+    let Ok(text) = from_utf8(word) else {
+        return Err(Misspelt::Other);
+    };
+    if text.is_empty() || !word.iter().all(|byte| byte.is_ascii_digit()) {
+        return Err(Misspelt::Other);
     }
-    Number::Is(longer as u32)
-}
-
-// A number with one more digit behind it.
-fn with_digit(number: Number, digit: u8) -> Number {
-    match number {
-        Number::Is(value) => longer(value, digit),
-        Number::Large => Number::Large,
-        Number::Not => Number::Not,
-    }
-}
-
-// The number that a word of digits spells.
-pub fn spelled(word: &[u8]) -> Number {
-    if word.len() == 0 {
-        return Number::Not;
-    }
-    let mut number = Number::Is(0);
-    let mut i = 0;
-    while i < word.len() {
-        let byte = word[i];
-        if byte < b'0' {
-            return Number::Not;
-        }
-        if byte > b'9' {
-            return Number::Not;
-        }
-        number = with_digit(number, byte - b'0');
-        i += 1;
-    }
-    number
+    text.parse::<u32>().map_err(|_| Misspelt::TooLarge)
 }

@@ -3,45 +3,37 @@
 use crate::host::Host;
 use crate::say::say;
 
-// Styles are summed.
-pub const PLAIN: u8 = 0;
-
-pub const BOLD: u8 = 1;
-
-pub const ITALIC: u8 = 2;
-
-pub const STRUCK: u8 = 4;
-
-// Has what follows shown in a sum of styles.
-pub fn begin_styles(host: &mut Host, styles: u8) {
-    match styles {
-        0 => {}
-        1 => {
-            say(host, b"\x1b[1m");
-        }
-        2 => {
-            say(host, b"\x1b[3m");
-        }
-        3 => {
-            say(host, b"\x1b[1;3m");
-        }
-        4 => {
-            say(host, b"\x1b[9m");
-        }
-        5 => {
-            say(host, b"\x1b[1;9m");
-        }
-        6 => {
-            say(host, b"\x1b[3;9m");
-        }
-        _ => {
-            say(host, b"\x1b[1;3;9m");
-        }
-    }
+// The styles that a text is shown in, all at once.
+#[derive(Clone, Copy, PartialEq, Eq)]
+pub struct Styles {
+    pub bold: bool,
+    pub italic: bool,
+    pub struck: bool,
 }
 
-// Has what follows shown plain, where a sum of styles was begun.
-pub fn end_styles(host: &mut Host, styles: u8) {
+pub const PLAIN: Styles = Styles {
+    bold: false,
+    italic: false,
+    struck: false,
+};
+
+// Has what follows shown in these styles.
+pub fn begin_styles(host: &mut Host, styles: Styles) {
+    let sequence: &[u8] = match (styles.bold, styles.italic, styles.struck) {
+        (false, false, false) => return,
+        (true, false, false) => b"\x1b[1m",
+        (false, true, false) => b"\x1b[3m",
+        (true, true, false) => b"\x1b[1;3m",
+        (false, false, true) => b"\x1b[9m",
+        (true, false, true) => b"\x1b[1;9m",
+        (false, true, true) => b"\x1b[3;9m",
+        (true, true, true) => b"\x1b[1;3;9m",
+    };
+    say(host, sequence);
+}
+
+// Has what follows shown plain, where other styles were begun.
+pub fn end_styles(host: &mut Host, styles: Styles) {
     if styles != PLAIN {
         say(host, b"\x1b[0m");
     }

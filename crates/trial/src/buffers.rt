@@ -2,7 +2,6 @@
 
 ghost use Rattle.std.specs.Prelude.{◌≤◌, length};
 
-use crate::say::{say, say_with};
 use std::io;
 
 // No section has it where it was not written, and zeroed memory does not have it.
@@ -14,7 +13,7 @@ pub fn say_kept(rt: &impl Print, out: &[u8], from: usize) -> io::Result<()>
 {
     let kept = script::run_of(out, from, FILL);
     if kept < out.len() {
-        say_with(rt, b"; output CHANGED at ", kept)?;
+        print!(rt; "; output CHANGED at {kept}")?;
     }
     Ok(())
 }
@@ -24,12 +23,12 @@ pub fn say_work(rt: &impl Print, work: &[u8], lent: usize) -> io::Result<()>
     requires { lent ≤ length work.now }
 {
     let zeros = script::run_of(work, 0, 0);
-    if zeros < lent {
-        return say_with(rt, b"; work memory NOT ZERO at ", zeros);
-    }
     let kept = script::run_of(work, lent, FILL);
-    if kept < work.len() {
-        return say_with(rt, b"; MORE than the work memory changed, at ", kept);
+    if zeros < lent {
+        print!(rt; "; work memory NOT ZERO at {zeros}")
+    } else if kept < work.len() {
+        print!(rt; "; MORE than the work memory changed, at {kept}")
+    } else {
+        print!(rt; "; work memory zero")
     }
-    say(rt, b"; work memory zero")
 }

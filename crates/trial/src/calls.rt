@@ -1,107 +1,82 @@
-// Each call, on a record as it is handed over, with what it answers said. What it gives is how much of the output it says that it wrote.
+// The calls on a record as it is handed over, and what they answer.
 
-use crate::say::say_with;
-use crate::section::Written;
-use record::check::{Reading, Refusal};
+use attention::call::{Resolved, resolve_attention};
+use heading::resolve::resolve_headings;
+use list::call::resolve_lists;
+use record::call::read;
+use record::check::{Counts, Refusal};
 use record::form::Handed;
-use std::io;
+use std::fmt;
 
-// A refusal by its number and place; a call that refuses writes nothing.
-fn say_refusal(rt: &impl Print, refusal: Refusal) -> io::Result<Written> {
-    say_with(rt, b"refused ", refusal.number)?;
-    say_with(rt, b" at ", refusal.place)?;
-    Ok(Written::Nothing)
+#[derive(Clone, Copy, PartialEq, Eq)]
+pub enum Call {
+    Read,
+    Attention,
+    Headings,
+    Lists,
 }
 
-// How many events a resolver answers, which is how many its section has to have.
-fn say_events(rt: &impl Print, n: usize) -> io::Result<Written> {
-    say_with(rt, b"events ", n)?;
-    Ok(Written::Section(n))
-}
-
-// The same with attention's other two counts: the groups, and the candidates tried.
-fn say_groups(rt: &impl Print, events: usize, groups: usize, tried: usize) -> io::Result<Written> {
-    let written = say_events(rt, events)?;
-    say_with(rt, b" groups ", groups)?;
-    say_with(rt, b" tried ", tried)?;
-    Ok(written)
-}
-
-// The two counts of a good record; to read one writes nothing.
-fn say_good(rt: &impl Print, document: usize, events: usize) -> io::Result<Written> {
-    say_with(rt, b"good ", document)?;
-    say_with(rt, b" ", events)?;
-    Ok(Written::Nothing)
-}
-
-// Whether a record is good. The one call that has no output.
-fn call_read(rt: &impl Print, handed: Handed, s: &[u8], work: &mut [u8]) -> io::Result<Written> {
-    match record::call::read(handed, s, work) {
-        Reading::Good { document, events } => say_good(rt, document, events),
-        Reading::Refused(refusal) => say_refusal(rt, refusal),
+impl Call {
+    // The call that a word names, which is told by its first letter.
+    pub fn named(word: &[u8]) -> Option<Call> {
+        match word {
+            [b'r', ..] => Some(Call::Read),
+            [b'a', ..] => Some(Call::Attention),
+            [b'h', ..] => Some(Call::Headings),
+            [b'l', ..] => Some(Call::Lists),
+            _ => None,
+        }
     }
 }
 
-// The attention resolver, the one with three counts.
-fn call_attention(
-    rt: &impl Print,
+// What a call answers that does not refuse.
+#[derive(Clone, Copy)]
+pub enum Answer {
+    // The two counts of a good record.
+    Good(Counts),
+    // The events of a section that is written.
+    Events(usize),
+    // The same with attention's other two counts: the groups, and the candidates tried.
+    Groups(Resolved),
+}
+
+impl Answer {
+    // How many events the section has to have, if one is written.
+    pub fn written(&self) -> Option<usize> {
+        match *self {
+            Answer::Good(_) => None,
+            Answer::Events(events) => Some(events),
+            Answer::Groups(made) => Some(made.events),
+        }
+    }
+}
+
+impl fmt::Display for Answer {
+    fn fmt<W: fmt::Write>(&self, f: &mut fmt::Formatter<W>) -> fmt::Result {
+        match self {
+            Answer::Good(counts) => write!(f, "good {} {}", counts.document, counts.events),
+            Answer::Events(events) => write!(f, "events {events}"),
+            Answer::Groups(made) => write!(
+                f,
+                "events {} groups {} tried {}",
+                made.events, made.groups, made.tried
+            ),
+        }
+    }
+}
+
+// A call's answer, or its refusal. To read a record is the one call that has no output.
+pub fn ask_call(
+    call: Call,
     handed: Handed,
     s: &[u8],
     out: &mut [u8],
     work: &mut [u8],
-) -> io::Result<Written> {
-    match attention::call::resolve_attention(handed, s, out, work) {
-        attention::call::Answer::Resolved {
-            events,
-            groups,
-            tried,
-        } => say_groups(rt, events, groups, tried),
-        attention::call::Answer::Refused(refusal) => say_refusal(rt, refusal),
-    }
-}
-
-// The heading resolver, which answers how many events there are and nothing more.
-fn call_headings(
-    rt: &impl Print,
-    handed: Handed,
-    s: &[u8],
-    out: &mut [u8],
-    work: &mut [u8],
-) -> io::Result<Written> {
-    match heading::resolve::resolve_headings(handed, s, out, work) {
-        heading::resolve::Answer::Resolved { events } => say_events(rt, events),
-        heading::resolve::Answer::Refused(refusal) => say_refusal(rt, refusal),
-    }
-}
-
-// The list resolver, which answers how many events there are and nothing more.
-fn call_lists(
-    rt: &impl Print,
-    handed: Handed,
-    s: &[u8],
-    out: &mut [u8],
-    work: &mut [u8],
-) -> io::Result<Written> {
-    match list::call::resolve_lists(handed, s, out, work) {
-        list::call::Answer::Resolved { events } => say_events(rt, events),
-        list::call::Answer::Refused(refusal) => say_refusal(rt, refusal),
-    }
-}
-
-// The call that a letter stands for; of any other letter nothing is said.
-pub fn call_by(
-    rt: &impl Print,
-    letter: u8,
-    handed: Handed,
-    s: &[u8],
-    out: &mut [u8],
-    work: &mut [u8],
-) -> io::Result<Written> {
-    match letter {
-        b'r' => call_read(rt, handed, s, work),
-        b'a' => call_attention(rt, handed, s, out, work),
-        b'h' => call_headings(rt, handed, s, out, work),
-        b'l' => call_lists(rt, handed, s, out, work),
-        _ => Ok(Written::Nothing),
+) -> Result<Answer, Refusal> {
+    match call {
+        Call::Read => read(handed, s, work).map(Answer::Good),
+        Call::Attention => resolve_attention(handed, s, out, work).map(Answer::Groups),
+        Call::Headings => resolve_headings(handed, s, out, work).map(Answer::Events),
+        Call::Lists => resolve_lists(handed, s, out, work).map(Answer::Events),
     }
 }

@@ -24,32 +24,20 @@
 
 #![tactic(auto)]
 
-mod say; // words and numbers
 mod section; // what a call wrote
 mod buffers; // what a call left as it was, or wiped
-mod calls; // the call made, and its answer said
+mod calls; // the calls, and what they answer
 mod ask; // a line's question, and its trial
 
 use crate::ask::line;
 use std::io;
 
-// All lines of a script.
-fn lines(rt: &impl Print, text: &[u8]) -> io::Result<()> {
-    let mut i = 0;
-    while i < text.len() {
-        let end = script::find(text, i, b'\n');
-        line(rt, &text[i..end])?;
-        if end == text.len() {
-            return Ok(());
-        }
-        i = end + 1;
-    }
-    Ok(())
-}
-
 // The script on standard input. Of one longer than 131,072 bytes the rest is not run, and its lines are then missing from what is said.
 pub fn run(rt: &(impl Input + Print)) -> io::Result<()> {
     let mut text = [0u8; 131072];
     let n = script::read_full(&mut rt.reader(), &mut text);
-    lines(rt, &text[..n])
+    for s in text[..n].split(|b| *b == b'\n') {
+        line(rt, s)?;
+    }
+    Ok(())
 }

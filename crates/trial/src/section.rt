@@ -1,126 +1,52 @@
 // The section that a call wrote, read back byte by byte.
 
-ghost use Rattle.std.specs.Prelude.{◌+◌, ◌≤◌, length};
+ghost use Rattle.std.specs.Prelude.{◌+◌, ◌*◌, ◌≤◌, length};
 
 use crate::buffers::say_kept;
-use crate::say::{say, say_number, say_with};
 use record::bytes::u32_at;
 use record::event::event_at;
-use record::form::Handed;
+use record::form::{Handed, form_of};
+use script::second::paired;
 use std::io;
 
-// What of the output a call wrote.
-#[derive(Clone, Copy)]
-pub enum Written {
-    Nothing,
-    Section(usize),
-}
-
-// An event's kind, as a sign.
-fn say_kind(rt: &impl Print, kind: u8) -> io::Result<()> {
-    match kind {
-        0 => say(rt, b" +"),
-        1 => say(rt, b" -"),
-        _ => say(rt, b" KIND "),
-    }
-}
-
-// Says so where the third and the fourth byte of an event, which have to be zero, are not: its first four are then a larger number.
-fn say_zeros(rt: &impl Print, out: &[u8], at: usize) -> io::Result<()>
-    requires { at + 8 ≤ length out.now }
+// The event in these bytes, as a script has it. One of form 2 has its partner's number too. The third and the fourth byte have to be zero.
+fn say_event(rt: &impl Print, bytes: &[u8]) -> io::Result<()>
+    requires { 8 ≤ length bytes.now }
 {
-    if u32_at(out, at) > 65535 {
-        say(rt, b" NOT ZERO")?;
+    let e = event_at(bytes, 0);
+    let sign = match e.kind {
+        0 => "+",
+        1 => "-",
+        _ => "KIND ",
+    };
+    print!(rt; " {sign}{}@{}", e.name, e.place)?;
+    if bytes.len() >= 12 {
+        print!(rt; "/{}", u32_at(bytes, 8))?;
+    }
+    if bytes[2] != 0 || bytes[3] != 0 {
+        print!(rt; " NOT ZERO")?;
     }
     Ok(())
 }
 
-// The partner's number behind an event of form 2.
-fn say_partner(rt: &impl Print, out: &[u8], at: usize, width: usize) -> io::Result<()>
-    requires { at + width ≤ length out.now }
+// Whether the n events of form 2 behind the count are pairs, all of them, that have each other's numbers.
+fn say_pairs(rt: &impl Print, out: &[u8], n: usize) -> io::Result<()>
+    requires { (n ≤ 8000) × (4 + 12 * n ≤ length out.now) }
 {
-    if width < 12 {
-        return Ok(());
-    }
-    say_with(rt, b"/", u32_at(out, at + 8))
-}
-
-// The event of this width at a place, as a script has it.
-fn say_event(rt: &impl Print, out: &[u8], at: usize, width: usize) -> io::Result<()>
-    requires { (8 ≤ width) × (at + width ≤ length out.now) }
-{
-    let e = event_at(out, at);
-    say_kind(rt, e.kind)?;
-    say_number(rt, e.name as usize)?;
-    say_with(rt, b"@", e.place)?;
-    say_partner(rt, out, at, width)?;
-    say_zeros(rt, out, at)
-}
-
-// The events behind the count, up to the section's end.
-fn say_events(rt: &impl Print, out: &[u8], end: usize, width: usize) -> io::Result<()>
-    requires { (8 ≤ width) × (width ≤ 12) × (end ≤ length out.now) }
-{
-    let mut at = 4;
-    while at + width <= end {
-        say_event(rt, out, at, width)?;
-        at += width;
-    }
-    Ok(())
-}
-
-// 1 for an exit at a place, else 0.
-fn exit_at(out: &[u8], at: usize) -> usize
-    requires { at + 12 ≤ length out.now }
-    ensures { result ≤ 1 }
-{
-    if out[at] == 1 {
-        return 1;
-    }
-    0
-}
-
-// Whether the events of form 2 behind the count are pairs, all of them, that have each other's numbers.
-fn say_pairs(rt: &impl Print, out: &[u8], end: usize) -> io::Result<()>
-    requires { (end ≤ 96004) × (end ≤ length out.now) }
-{
-    let mut at = 4;
     let mut exits: usize = 0;
-    while at + 12 <= end {
-        let exit = exit_at(out, at);
-        if exit == 1 {
-            if !script::second::paired(out, 4, at) {
-                return say_with(rt, b" partner UNTRUE at ", at);
+    for k in 0..n {
+        let at = 4 + 12 * k;
+        if out[at] == 1 {
+            if !paired(out, 4, at) {
+                return print!(rt; " partner UNTRUE at {at}");
             }
+            exits += 1;
         }
-        exits += exit;
-        at += 12;
     }
-    if 4 + 24 * exits != end {
-        return say(rt, b" LEFT OPEN");
+    if 2 * exits != n {
+        return print!(rt; " LEFT OPEN");
     }
-    say(rt, b" partners true")
-}
-
-// In place of the events of a section: nothing, or in form 2 whether their partners are true.
-fn say_briefly(rt: &impl Print, out: &[u8], end: usize, width: usize) -> io::Result<()>
-    requires { (end ≤ 96004) × (end ≤ length out.now) }
-{
-    if width < 12 {
-        return Ok(());
-    }
-    say_pairs(rt, out, end)
-}
-
-// Where a section of n events of this width ends.
-fn end_of(n: usize, width: usize) -> usize
-    requires { n ≤ 8000 }
-    ensures { (4 ≤ result) × (result ≤ 96004) }
-{
-    if width < 12 {
-        return 4 + 8 * n;
-    }
-    4 + 12 * n
+    print!(rt; " partners true")
 }
 
 // A section of n events: its count as it stands there, which need not be n; its events, unless they are to be left out; and the output
@@ -128,31 +54,19 @@ fn end_of(n: usize, width: usize) -> usize
 fn say_section(rt: &impl Print, out: &[u8], n: usize, width: usize, brief: bool) -> io::Result<()>
     requires { (8 ≤ width) × (width ≤ 12) }
 {
-    if n > 8000 {
+    if n > 8000 || 4 + width * n > out.len() {
         return Ok(());
     }
-    let end = end_of(n, width);
-    if end > out.len() {
-        return Ok(());
-    }
-    say_with(rt, b"; ", u32_at(out, 0))?;
-    say(rt, b":")?;
-    if brief {
-        say_briefly(rt, out, end, width)?;
-    } else {
-        say_events(rt, out, end, width)?;
+    print!(rt; "; {}:", u32_at(out, 0))?;
+    let end = 4 + width * n;
+    if !brief {
+        for bytes in out[4..end].chunks_exact(width) {
+            say_event(rt, bytes)?;
+        }
+    } else if width == 12 {
+        say_pairs(rt, out, n)?;
     }
     say_kept(rt, out, end)
-}
-
-// The bytes of an event.
-fn width_of(handed: Handed) -> usize
-    ensures { (8 ≤ result) × (result ≤ 12) }
-{
-    match handed {
-        Handed::Old(_) => 8,
-        Handed::Second => 12,
-    }
 }
 
 // The output after a call.
@@ -160,11 +74,11 @@ pub fn say_output(
     rt: &impl Print,
     out: &[u8],
     handed: Handed,
-    written: Written,
+    written: Option<usize>,
     brief: bool,
 ) -> io::Result<()> {
     match written {
-        Written::Nothing => say_kept(rt, out, 0),
-        Written::Section(n) => say_section(rt, out, n, width_of(handed), brief),
+        None => say_kept(rt, out, 0),
+        Some(n) => say_section(rt, out, n, form_of(handed).width, brief),
     }
 }

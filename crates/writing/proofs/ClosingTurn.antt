@@ -14,12 +14,12 @@ use Rattle.runs.specs.Output.{closing_events}
 use Rattle.slots.specs.Layout.{first_group_of, group_closer, group_taken}
 use Rattle.groups.proofs.Laws.{closed_append, closed_own}
 use Rattle.groups.proofs.Spans.{closings_append}
-use Rattle.partners.specs.Pen.{Put, Fits}
-use Rattle.partners.specs.declared.Pen.{Pen}
+use Rattle.partners.specs.Section.{Ready, Puts}
+use Rattle.partners.specs.declared.Section.{Section}
 use Rattle.writing.specs.Kept.{Kept, group_at, groups_from, groups_in, first_closing, closings_in}
 use Rattle.writing.proofs.Parts.{groups_split, groups_more, none_closing}
 use Rattle.writing.proofs.Found.{First, first_found}
-use Rattle.partners.proofs.Pens.{put_none, put_then, fits_first, fits_then}
+use Rattle.partners.proofs.Sections.{puts_none, puts_then, ready_first, ready_then}
 use Rattle.writing.proofs.Pieces.{closing_append}
 
 -- the pieces among the first i groups, and those of one group more
@@ -39,34 +39,34 @@ next_closed n i w q t e o et =
     ∙ ap (λ (k : ℕ). closed (groups_from i w 0) q + k) (closed_own (group_at w i) q o ∙ sym et))
 
 -- the first i of n groups are past
-pub record Closing (d₀ : List ℕ) (p₀ : Pen) (w : List ℕ) (n q m from i : ℕ) (d : List ℕ) (p : Pen) (place : ℕ) : Type 0 where
+pub record Closing (out₀ : Section) (w : List ℕ) (n q m from i : ℕ) (out : Section) (place : ℕ) : Type 0 where
   pub within : i ≤ n
-  pub put : Put d₀ p₀ (closings_in w i q m from) d p
+  pub put : Puts out₀ (closings_in w i q m from) out
   pub reached : place ≡ from + closed (groups_in w i) q
   pub small : place ≤ from + 65536 * i
   pub ahead : (j : ℕ) → i ≤ j → j < n → q ≤ group_closer w j
 
 -- all of them: what the function promises
-abbrev Closings : List ℕ → Pen → List ℕ → ℕ → ℕ → ℕ → ℕ → List ℕ → Pen → ℕ → Type 0
-Closings d₀ p₀ w n q m from d p place = Put d₀ p₀ (closings_in w n q m from) d p × ((place ≡ from + closed (groups_in w n) q) × (place < 8589934592))
+abbrev Closings : Section → List ℕ → ℕ → ℕ → ℕ → ℕ → Section → ℕ → Type 0
+Closings out₀ w n q m from out place = Puts out₀ (closings_in w n q m from) out × ((place ≡ from + closed (groups_in w n) q) × (place < 8589934592))
 
 module _ {w : List ℕ} {n runs : ℕ} (k : Kept w n runs) {q : ℕ} (r : q < runs) where
   first_is : (f : ℕ) → f ≡ first_group_of w q → First n w 0 q f
   first_is f e = let x : f ≡ first_closing n w 0 q = e ∙ k.first q r in rw x (first_found n w 0 q)
 
   -- a run that closes nothing
-  pub nothing_closed : (d : List ℕ) (p : Pen) (m from f : ℕ) → from < 4294967296 → f ≡ first_group_of w q → f ≡ 0 → Closings d p w n q m from d p from
+  pub nothing_closed : (out : Section) (m from f : ℕ) → from < 4294967296 → f ≡ first_group_of w q → f ≡ 0 → Closings out w n q m from out from
   unfolding closing_events
-  nothing_closed d p m from f u e z =
+  nothing_closed out m from f u e z =
       let h = none_closing n w 0 q m from ((first_is f e).none z) in
       let l : closings_in w n q m from ≡ [] = ap closing_events h.0 in
       let c = h.1 in
-      (rw l (put_none d p), (omega arith, omega arith))
+      (rw l (puts_none out), (omega arith, omega arith))
 
   -- the loop begins at the first group that the run closes
-  pub start : (d : List ℕ) (p : Pen) (m from f : ℕ) → f ≡ first_group_of w q → (f ≡ 0 → ⊥) → Closing d p w n q m from (f - 1) d p from
+  pub start : (out : Section) (m from f : ℕ) → f ≡ first_group_of w q → (f ≡ 0 → ⊥) → Closing out w n q m from (f - 1) out from
   unfolding closing_events
-  start d p m from f e z =
+  start out m from f e z =
       let a = first_is f e in
       let hi = a.high in
       let h = none_closing (f - 1) w 0 q m from (λ j x y c. a.before j x (omega arith) c) in
@@ -75,13 +75,13 @@ module _ {w : List ℕ} {n runs : ℕ} (k : Kept w n runs) {q : ℕ} (r : q < ru
       let o = a.own (omega arith) in
       record {
         within = omega arith;
-        put = rw l (put_none d p);
+        put = rw l (puts_none out);
         reached = omega arith;
         small = omega arith;
         ahead = λ j x y. let rise = k.rising (f - 1) j x y in omega arith;
       }
 
-module _ {d₀ : List ℕ} {p₀ : Pen} {w : List ℕ} {n q m from i : ℕ} {d : List ℕ} {p : Pen} {place : ℕ} (c : Closing d₀ p₀ w n q m from i d p place) where
+module _ {out₀ : Section} {w : List ℕ} {n q m from i : ℕ} {out : Section} {place : ℕ} (c : Closing out₀ w n q m from i out place) where
   next_events : (t : ℕ) → group_closer w i ≡ q → t ≡ group_taken w i →
       closings_in w (i + 1) q m from ≡ closings_in w i q m from ++ closing_events (piece m t place (place + t) ∷ [])
   next_events t o et =
@@ -98,30 +98,30 @@ module _ {d₀ : List ℕ} {p₀ : Pen} {w : List ℕ} {n q m from i : ℕ} {d :
   )
 
   -- there is room for the next piece
-  pub room : {t : ℕ} → i < n → group_closer w i ≡ q → t ≡ group_taken w i → Fits d₀ p₀ (closings_in w n q m from) →
-      Fits d p (closing_events (piece m t place (place + t) ∷ []))
+  pub room : {t : ℕ} → i < n → group_closer w i ≡ q → t ≡ group_taken w i → Ready out₀ (closings_in w n q m from) →
+      Ready out (closing_events (piece m t place (place + t) ∷ []))
   room {t} h o et fits =
       let all = first_events (i + 1) (omega arith) in
       let e = next_events t o et in
-      let f : Fits d₀ p₀ (closings_in w (i + 1) q m from) = fits_first (closings_in w (i + 1) q m from) all.0 (rw all.1 at fits) in
-      fits_then (closings_in w i q m from) (closing_events (piece m t place (place + t) ∷ [])) c.put (rw e at f)
+      let f : Ready out₀ (closings_in w (i + 1) q m from) = ready_first (closings_in w (i + 1) q m from) all.0 (rw all.1 at fits) in
+      ready_then (closings_in w i q m from) (closing_events (piece m t place (place + t) ∷ [])) c.put (rw e at f)
 
   -- a piece more
-  pub turn : {d' : List ℕ} {t : ℕ} {p' : Pen} → i < n → group_closer w i ≡ q → t ≡ group_taken w i → t < 65536 →
-      Put d p (closing_events (piece m t place (place + t) ∷ [])) d' p' → Closing d₀ p₀ w n q m from (i + 1) d' p' (place + t)
-  turn {d'} {t} {p'} h o et lt v =
+  pub turn : {out' : Section} {t : ℕ} → i < n → group_closer w i ≡ q → t ≡ group_taken w i → t < 65536 →
+      Puts out (closing_events (piece m t place (place + t) ∷ [])) out' → Closing out₀ w n q m from (i + 1) out' (place + t)
+  turn {out'} {t} h o et lt v =
       let e = next_events t o et in
       let x = next_closed (i + 1) i w q t refl o et in
       record {
         within = omega arith;
-        put = rw e (put_then (closings_in w i q m from) (closing_events (piece m t place (place + t) ∷ [])) c.put v);
+        put = rw e (puts_then (closings_in w i q m from) (closing_events (piece m t place (place + t) ∷ [])) c.put v);
         reached = omega (arith, c.reached, x);
         small = omega (arith, c.small);
         ahead = λ j a b. c.ahead j (omega arith) b;
       }
 
   -- no later group is the run's
-  passed : {runs : ℕ} → Kept w n runs → from < 4294967296 → ((j : ℕ) → i ≤ j → j < n → group_closer w j ≡ q → ⊥) → Closings d₀ p₀ w n q m from d p place
+  passed : {runs : ℕ} → Kept w n runs → from < 4294967296 → ((j : ℕ) → i ≤ j → j < n → group_closer w j ≡ q → ⊥) → Closings out₀ w n q m from out place
   passed k u none =
       let h = none_closing (n - i) w i q m (from + closed (groups_in w i) q) (λ j a b. none j a (omega (arith, c.within))) in
       let e : closings (groups_in w n) q m from ≡ closings (groups_in w i) q m from =
@@ -134,9 +134,9 @@ module _ {d₀ : List ℕ} {p₀ : Pen} {w : List ℕ} {n q m from i : ℕ} {d :
       (rw e c.put, (omega (arith, c.reached), omega (arith, c.small, c.within, k.few)))
 
   -- the next group is another's
-  pub left : {runs : ℕ} → Kept w n runs → from < 4294967296 → i < n → (group_closer w i ≡ q → ⊥) → Closings d₀ p₀ w n q m from d p place
+  pub left : {runs : ℕ} → Kept w n runs → from < 4294967296 → i < n → (group_closer w i ≡ q → ⊥) → Closings out₀ w n q m from out place
   left k u h o = passed k u (λ j a b e. let x = k.rising i j a b in let y = c.ahead i (omega arith) h in o (omega arith))
 
   -- there is no next group
-  pub ended : {runs : ℕ} → Kept w n runs → from < 4294967296 → n ≤ i → Closings d₀ p₀ w n q m from d p place
+  pub ended : {runs : ℕ} → Kept w n runs → from < 4294967296 → n ≤ i → Closings out₀ w n q m from out place
   ended k u h = passed k u (λ j a b e. omega arith)

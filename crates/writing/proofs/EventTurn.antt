@@ -1,7 +1,7 @@
 -- The loop over a record's events: what is put, with what the events ahead come to, is what the whole comes to; and the runs of the events
 -- ahead are the runs of the record from the next one on.
 -- Assumes nothing.
-use Prim.Native.Nat.{ℕ, zero, suc, ◌+◌, ◌-◌, ◌*◌, ◌≤◌, ◌<◌}
+use Prim.Native.Nat.{ℕ, suc, ◌+◌, ◌-◌, ◌*◌, ◌≤◌, ◌<◌}
 use mathlib.Core.Path.{◌≡◌, refl, sym, ap, ◌∙◌}
 use mathlib.Core.Bool.{Bool, true, false}
 use mathlib.Core.List.{List, [], ◌∷◌, ◌++◌, append_assoc, append-nil}
@@ -17,15 +17,17 @@ use Rattle.record.specs.Partners.{balanced}
 use Rattle.record.specs.Stack.{after}
 use Rattle.record.specs.declared.event.Event.{Event}
 use Rattle.record.specs.declared.form.Form.{Form}
-use Rattle.record.proofs.Parts.{less, events_cons}
+use Rattle.record.proofs.Parts.{events_cons, event_room}
 use Rattle.runs.specs.Runs.{Run, enters_run, run_of, runs_from, runs_of}
 use Rattle.runs.specs.Plain.{Group}
 use Rattle.runs.specs.Pieces.{remains}
 use Rattle.runs.specs.Output.{leftover_events, run_events, replaced, no_run}
-use Rattle.partners.specs.Pen.{Fits, Put, Filled}
-use Rattle.partners.specs.declared.Pen.{Pen}
+use Rattle.partners.specs.Pen.{Filled}
+use Rattle.partners.specs.Section.{Ready, Puts}
+use Rattle.partners.specs.declared.Section.{Section}
 use Rattle.writing.specs.Kept.{Slotted, groups_in, run_kept, instead_of, next_run, runs_in, written_of}
-use Rattle.partners.proofs.Pens.{put_none, put_then, fits_first, fits_then, start as pen-start, all_fit, all_put, filled}
+use Rattle.partners.proofs.Pens.{start as pen-start, all_fit, all_put, filled}
+use Rattle.partners.proofs.Sections.{puts_none, puts_then, ready_first, ready_then}
 
 -- what comes of the first event, and of the others
 replaced_first : (e : Event) (es : List Event) (rs : List Run) (gs : List Group) (q : ℕ) →
@@ -84,56 +86,52 @@ instead_same {w} {runs} {rs} k e gs q h = go (enters_run e) refl
         rw x (events_same gs q (get_or rs q no_run) (run_kept w q e.place) t.1 (sym (k.size q l)) (sym (k.marker q l)))
     go false x = rw x
 
--- some events are ahead, `width` bytes apart, the first of them at a place of the record and the last before its end, and the next run is q
-pub record Writing (width : ℕ) (d₀ : List ℕ) (p₀ : Pen) (s w doc : List ℕ) (n : ℕ) (rs : List Run) (total : List Event) (d : List ℕ) (end read : ℕ) (p : Pen) (q : ℕ) :
+-- k of e events are past, `width` bytes apart, the first of them at a place of the record, and the next run is q
+pub record Writing (width : ℕ) (out₀ : Section) (s w doc : List ℕ) (n : ℕ) (rs : List Run) (total : List Event) (out : Section) (first e k q : ℕ) :
     Type 0 where
   pub written : List Event
   pub number : ℕ
   pub held : List ℕ
-  pub ahead : ℕ
-  pub reaches : read + width * ahead ≡ end
-  pub inside : end ≤ length s
-  pub put : Put d₀ p₀ written d p
-  pub whole : total ≡ written ++ replaced (events_by width ahead s read) rs (groups_in w n) q
-  pub runs_ahead : runs_from doc (events_by width ahead s read) number held ≡ drop q rs
+  pub inside : first + width * e ≤ length s
+  pub put : Puts out₀ written out
+  pub whole : total ≡ written ++ replaced (events_by width (e - k) s (first + width * k)) rs (groups_in w n) q
+  pub runs_ahead : runs_from doc (events_by width (e - k) s (first + width * k)) number held ≡ drop q rs
 
-pub start : (f : Form) (out : List ℕ) (p : Pen) (s w : List ℕ) (d e n : ℕ) → place_in f d e ≤ length s →
-    Writing f.width out p s w (document_in f s d) n (runs_in f s d e) (written_of f s d e w n) out (8 + f.front + d + f.width * e) (8 + f.front + d) p 0
+pub start : (f : Form) (out : Section) (s w : List ℕ) (d e n : ℕ) → place_in f d e ≤ length s →
+    Writing f.width out s w (document_in f s d) n (runs_in f s d e) (written_of f s d e w n) out (8 + f.front + d) e 0 0
 unfolding runs_of events_in
-start f out p s w d e n h =
-    record { written = []; number = 0; held = []; ahead = e; reaches = refl; inside = h; put = put_none out p; whole = refl; runs_ahead = refl }
+start f out s w d e n h =
+    let l : e - 0 ≡ e = omega arith in
+    let z : 8 + f.front + d + f.width * 0 ≡ 8 + f.front + d = omega arith in
+    record { written = []; number = 0; held = []; inside = h; put = puts_none out; whole = rw (l, z); runs_ahead = rw (l, z) }
 
-module _ {width : ℕ} {d₀ : List ℕ} {p₀ : Pen} {s w doc : List ℕ} {n : ℕ} {rs : List Run} {total : List Event} {d : List ℕ} {end read : ℕ} {p : Pen} {q : ℕ}
-    (c : Writing width d₀ p₀ s w doc n rs total d end read p q) (less_read : read < end) {runs : ℕ} (k : Slotted w runs rs) where
-  pos : 0 < c.ahead
-  pos = go c.ahead c.reaches
-    where
-      go : (a : ℕ) → read + width * a ≡ end → 0 < a
-      go zero e = absurd (omega arith)
-      go (suc a) e = omega arith
+module _ {width : ℕ} {out₀ : Section} {s w doc : List ℕ} {n : ℕ} {rs : List Run} {total : List Event} {out : Section} {first e k q : ℕ}
+    (c : Writing width out₀ s w doc n rs total out first e k q) (more : k < e) {runs : ℕ} (slots : Slotted w runs rs) where
+  abbrev read : ℕ
+  read = first + width * k
 
   -- the next event is whole
-  pub whole_ahead : (read + width ≤ end) × (read + width ≤ length s)
-  whole_ahead =
-      let l = less width c.ahead pos in
-      let e : read + width ≤ end = omega (arith, c.reaches) in
-      (e, omega (arith, c.inside))
+  pub whole_ahead : read + width ≤ length s
+  whole_ahead = event_room width e k first (length s) c.inside more
 
   -- what the next event gives
   abbrev given : List Event
   given = instead_of (event_at s read) (groups_in w n) q (run_kept w q (u32_at s (read + 4)))
 
   abbrev rest : List Event
-  rest = replaced (events_by width (c.ahead - 1) s (read + width)) rs (groups_in w n) (next_run (event_at s read) q)
+  rest = replaced (events_by width (e - (k + 1)) s (first + width * (k + 1))) rs (groups_in w n) (next_run (event_at s read) q)
 
-  split : events_by width c.ahead s read ≡ event_at s read ∷ events_by width (c.ahead - 1) s (read + width)
-  split = events_cons width c.ahead (c.ahead - 1) s read (omega (arith, pos))
+  split : events_by width (e - k) s read ≡ event_at s read ∷ events_by width (e - (k + 1)) s (first + width * (k + 1))
+  split =
+      let on : first + width * k + width ≡ first + width * (k + 1) = omega arith in
+      events_cons width (e - k) (e - (k + 1)) s read (omega arith)
+      ∙ ap (λ (a : ℕ). event_at s read ∷ events_by width (e - (k + 1)) s a) on
 
   first_run : (enters_run (event_at s read) ≡ true → (q < length rs) × ((get_or rs q no_run).start ≡ u32_at s (read + 4)))
-      × (runs_from doc (events_by width (c.ahead - 1) s (read + width)) (c.number + 1) (after (event_at s read) c.number c.held) ≡
+      × (runs_from doc (events_by width (e - (k + 1)) s (first + width * (k + 1))) (c.number + 1) (after (event_at s read) c.number c.held) ≡
       drop (next_run (event_at s read) q) rs)
   first_run =
-      runs_first doc (event_at s read) (events_by width (c.ahead - 1) s (read + width)) c.number c.held rs q
+      runs_first doc (event_at s read) (events_by width (e - (k + 1)) s (first + width * (k + 1))) c.number c.held rs q
       (ap (λ (l : List Event). runs_from doc l c.number c.held) (sym split) ∙ c.runs_ahead)
 
   whole_is : total ≡ c.written ++ (given ++ rest)
@@ -141,50 +139,45 @@ module _ {width : ℕ} {d₀ : List ℕ} {p₀ : Pen} {s w doc : List ℕ} {n : 
       c.whole
       ∙ ap (λ (l : List Event). c.written ++ l)
       (ap (λ (l : List Event). replaced l rs (groups_in w n) q) split
-      ∙ (replaced_first (event_at s read) (events_by width (c.ahead - 1) s (read + width)) rs (groups_in w n) q
-      ∙ ap (λ (l : List Event). l ++ rest) (instead_same k (event_at s read) (groups_in w n) q first_run.0)))
+      ∙ (replaced_first (event_at s read) (events_by width (e - (k + 1)) s (first + width * (k + 1))) rs (groups_in w n) q
+      ∙ ap (λ (l : List Event). l ++ rest) (instead_same slots (event_at s read) (groups_in w n) q first_run.0)))
 
   -- what the step asks
   pub known : enters_run (event_at s read) ≡ true → q < runs
-  known x = let t = (first_run.0 x).0 in omega (arith, t, k.as_many)
+  known x = let t = (first_run.0 x).0 in omega (arith, t, slots.as_many)
 
-  pub room : Fits d₀ p₀ total → Fits d p given
-  room h = fits_first given rest (fits_then c.written (given ++ rest) c.put (rw whole_is at h))
+  pub room : Ready out₀ total → Ready out given
+  room h = ready_first given rest (ready_then c.written (given ++ rest) c.put (rw whole_is at h))
 
   -- one event more
-  pub turn : {d' : List ℕ} {p' : Pen} {q' : ℕ} → Put d p given d' p' → q' ≡ next_run (event_at s read) q →
-      Writing width d₀ p₀ s w doc n rs total d' end (read + width) p' q'
-  turn v e =
+  pub turn : {out' : Section} {q' : ℕ} → Puts out given out' → q' ≡ next_run (event_at s read) q →
+      Writing width out₀ s w doc n rs total out' first e (k + 1) q'
+  turn v x =
       record {
         written = c.written ++ given;
         number = c.number + 1;
         held = after (event_at s read) c.number c.held;
-        ahead = c.ahead - 1;
-        reaches = omega (arith, c.reaches, less width c.ahead pos);
         inside = c.inside;
-        put = put_then c.written given c.put v;
-        whole = rw e (whole_is ∙ sym (append_assoc c.written given rest));
-        runs_ahead = rw e first_run.1;
+        put = puts_then c.written given c.put v;
+        whole = rw x (whole_is ∙ sym (append_assoc c.written given rest));
+        runs_ahead = rw x first_run.1;
       }
 
 -- no event is ahead
-pub ended : {width : ℕ} {d₀ : List ℕ} {p₀ : Pen} {s w doc : List ℕ} {n : ℕ} {rs : List Run} {total : List Event} {d : List ℕ} {end read : ℕ} {p : Pen} {q : ℕ} →
-    Writing width d₀ p₀ s w doc n rs total d end read p q → 8 ≤ width → end ≤ read → Put d₀ p₀ total d p
+pub ended : {width : ℕ} {out₀ : Section} {s w doc : List ℕ} {n : ℕ} {rs : List Run} {total : List Event} {out : Section} {first e k q : ℕ} →
+    Writing width out₀ s w doc n rs total out first e k q → e ≤ k → Puts out₀ total out
 unfolding events_by replaced
-ended {width} {d₀} {p₀} {s} {w} {doc} {n} {rs} {total} {d} {end} {read} {p} {q} c h l =
-    let z : c.ahead ≡ 0 = none c.ahead c.reaches in
-    let e : total ≡ c.written ++ [] = rw z at c.whole in
-    rw (e, append-nil) c.put
-  where
-    none : (a : ℕ) → read + width * a ≡ end → a ≡ 0
-    none zero e = refl
-    none (suc a) e = absurd (omega arith)
+ended {e = e} {k = k} c h =
+    let z : e - k ≡ 0 = omega arith in
+    let l = rw z at c.whole in
+    rw (l, append-nil) c.put
 
--- the pen at the first event, and at the end
-module _ {w n : ℕ} {b : List ℕ} {es : List Event} {p : Pen} (e : p ≡ record { at = 4; width = w; number = 0; held = 12 + 12 * n }) (l : length es ≡ n)
-    (few : n ≤ 8000) (bal : balanced es ≡ true) (h : 8 ≤ w) (room : 4 + w * n ≤ length b) where
-  pub begins : Fits b p es
-  begins = all_fit (pen-start w n b es e l few bal h room)
+-- the section before its first event, and at its end
+module _ {w n : ℕ} {b : List ℕ} {es : List Event} {out : Section} (o : out.out.now ≡ b)
+    (e : out.pen ≡ record { at = 4; width = w; number = 0; held = 12 + 12 * n }) (l : length es ≡ n) (few : n ≤ 8000) (bal : balanced es ≡ true) (h : 8 ≤ w)
+    (room : 4 + w * n ≤ length b) where
+  pub begins : Ready out es
+  begins = record { fits = rw o (all_fit (pen-start w n b es e l few bal h room)) }
 
-  pub ends : {d : List ℕ} {p₁ : Pen} → Put b p es d p₁ → Filled w b es d
-  ends v = filled (all_put (pen-start w n b es e l few bal h room) v)
+  pub ends : {out' : Section} → Puts out es out' → Filled w b es out'.out.now
+  ends u = filled (all_put (pen-start w n b es e l few bal h room) (rw o at u.put))

@@ -11,10 +11,10 @@ use Rattle.record.proofs.Bools.{and_false}
 use Rattle.runs.specs.Runs.{Run, enters_run}
 use Rattle.runs.specs.Plain.{Group}
 use Rattle.runs.specs.Output.{run_events}
-use Rattle.partners.specs.Pen.{Put, Fits}
-use Rattle.partners.specs.declared.Pen.{Pen}
+use Rattle.partners.specs.Section.{Ready, Puts}
+use Rattle.partners.specs.declared.Section.{Section}
 use Rattle.writing.specs.Kept.{instead_of, next_run}
-use Rattle.partners.proofs.Pens.{put_none}
+use Rattle.partners.proofs.Sections.{puts_none}
 
 module _ (kind name place : ℕ) where
   other_enters : (name ≡ 1 → ⊥) → enters_run (event kind name place) ≡ false
@@ -35,28 +35,28 @@ module _ (kind name place : ℕ) (gs : List Group) (q : ℕ) (r : Run) where
   unfolding instead_of choose
   other_is x = rw (other_enters kind name place x, ne_eqb _ _ x)
 
-  pub other_fits : {d : List ℕ} {p : Pen} → (name ≡ 1 → ⊥) → Fits d p (instead_of (event kind name place) gs q r) → Fits d p (event kind name place ∷ [])
+  pub other_fits : {out : Section} → (name ≡ 1 → ⊥) → Ready out (instead_of (event kind name place) gs q r) → Ready out (event kind name place ∷ [])
   other_fits x h = rw (other_is x) at h
 
-  pub other_put : {d d' : List ℕ} {p p' : Pen} → (name ≡ 1 → ⊥) → Put d p (event kind name place ∷ []) d' p' →
-      Put d p (instead_of (event kind name place) gs q r) d' p' × (q ≡ next_run (event kind name place) q)
+  pub other_put : {out out' : Section} → (name ≡ 1 → ⊥) → Puts out (event kind name place ∷ []) out' →
+      Puts out (instead_of (event kind name place) gs q r) out' × (q ≡ next_run (event kind name place) q)
   unfolding next_run choose
   other_put x v = (rw (other_is x) v, rw (other_enters kind name place x))
 
   -- an exit of a run
-  pub exit_put : (d : List ℕ) (p : Pen) → name ≡ 1 → (kind ≡ 0 → ⊥) → Put d p (instead_of (event kind name place) gs q r) d p × (q ≡ next_run (event kind name place) q)
+  pub exit_put : (out : Section) → name ≡ 1 → (kind ≡ 0 → ⊥) → Puts out (instead_of (event kind name place) gs q r) out × (q ≡ next_run (event kind name place) q)
   unfolding instead_of next_run choose
-  exit_put d p x y = (rw (exit_enters kind name place y, eq-eqb _ _ x) (put_none d p), rw (exit_enters kind name place y))
+  exit_put out x y = (rw (exit_enters kind name place y, eq-eqb _ _ x) (puts_none out), rw (exit_enters kind name place y))
 
   -- an enter of a run
   enter_is : name ≡ 1 → kind ≡ 0 → instead_of (event kind name place) gs q r ≡ run_events gs q r
   unfolding instead_of choose
   enter_is x y = rw (run_enters kind name place x y)
 
-  pub enter_fits : {d : List ℕ} {p : Pen} → name ≡ 1 → kind ≡ 0 → Fits d p (instead_of (event kind name place) gs q r) → Fits d p (run_events gs q r)
+  pub enter_fits : {out : Section} → name ≡ 1 → kind ≡ 0 → Ready out (instead_of (event kind name place) gs q r) → Ready out (run_events gs q r)
   enter_fits x y h = rw (enter_is x y) at h
 
-  pub enter_put : {d d' : List ℕ} {p p' : Pen} → name ≡ 1 → kind ≡ 0 → Put d p (run_events gs q r) d' p' →
-      Put d p (instead_of (event kind name place) gs q r) d' p' × (q + 1 ≡ next_run (event kind name place) q)
+  pub enter_put : {out out' : Section} → name ≡ 1 → kind ≡ 0 → Puts out (run_events gs q r) out' →
+      Puts out (instead_of (event kind name place) gs q r) out' × (q + 1 ≡ next_run (event kind name place) q)
   unfolding next_run choose
   enter_put x y v = (rw (enter_is x y) v, rw (run_enters kind name place x y))

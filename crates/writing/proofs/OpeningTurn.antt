@@ -14,12 +14,12 @@ use Rattle.runs.specs.Output.{opening_events}
 use Rattle.slots.specs.Layout.{latest_group_of, group_opener, group_taken, group_earlier}
 use Rattle.groups.proofs.Laws.{opened_append, opened_own}
 use Rattle.groups.proofs.Spans.{openings_append}
-use Rattle.partners.specs.Pen.{Put, Fits}
-use Rattle.partners.specs.declared.Pen.{Pen}
+use Rattle.partners.specs.Section.{Ready, Puts}
+use Rattle.partners.specs.declared.Section.{Section}
 use Rattle.writing.specs.Kept.{Kept, group_at, groups_from, groups_in, latest_opening, openings_in}
 use Rattle.writing.proofs.Parts.{groups_parts, groups_split, groups_first, groups_more, none_opening}
 use Rattle.writing.proofs.Found.{Latest, latest_found}
-use Rattle.partners.proofs.Pens.{put_none, put_then, fits_first, fits_then}
+use Rattle.partners.proofs.Sections.{puts_none, puts_then, ready_first, ready_then}
 use Rattle.writing.proofs.Pieces.{opening_append}
 
 -- from group e on, where i is the run's first: its piece comes last
@@ -60,18 +60,18 @@ from_group n e w q m place end a h =
     ∙ rw s)
 
 -- of n groups those from number g on are behind, and g - 1 is next
-pub record Opening (d₀ : List ℕ) (p₀ : Pen) (w : List ℕ) (n q m from g : ℕ) (d : List ℕ) (p : Pen) (place : ℕ) : Type 0 where
+pub record Opening (out₀ : Section) (w : List ℕ) (n q m from g : ℕ) (out : Section) (place : ℕ) : Type 0 where
   pub within : g ≤ n
   pub own : 0 < g → group_opener w (g - 1) ≡ q
-  pub put : Put d₀ p₀ (opening_events (openings (groups_from (n - g) w g) q m place)) d p
+  pub put : Puts out₀ (opening_events (openings (groups_from (n - g) w g) q m place)) out
   pub ends : place + opened (groups_in w g) q ≡ from + opened (groups_in w n) q
   pub small : place + 65536 * g ≤ from + 65536 * n
 
 -- the loop begins at the latest group that the run opens
-pub start : {w : List ℕ} {n runs : ℕ} → Kept w n runs → {q : ℕ} → q < runs → (d : List ℕ) (p : Pen) (m from g : ℕ) → g ≡ latest_group_of w q →
-    Opening d p w n q m from g d p from
+pub start : {w : List ℕ} {n runs : ℕ} → Kept w n runs → {q : ℕ} → q < runs → (out : Section) (m from g : ℕ) → g ≡ latest_group_of w q →
+    Opening out w n q m from g out from
 unfolding opening_events
-start {w} {n} {runs} k {q} r d p m from g e =
+start {w} {n} {runs} k {q} r out m from g e =
     let x : g ≡ latest_opening n w q = e ∙ k.latest q r in
     let a : Latest n w q g = rw x (latest_found n w q) in
     let lo = a.low in
@@ -83,13 +83,13 @@ start {w} {n} {runs} k {q} r d p m from g e =
     record {
       within = lo;
       own = a.own;
-      put = rw l (put_none d p);
+      put = rw l (puts_none out);
       ends = omega (arith, s, t, z);
       small = omega arith;
     }
 
-module _ {w : List ℕ} {n runs : ℕ} (k : Kept w n runs) {d₀ : List ℕ} {p₀ : Pen} {q m from g : ℕ} {d : List ℕ} {p : Pen} {place : ℕ}
-    (c : Opening d₀ p₀ w n q m from g d p place) (pos : 0 < g) where
+module _ {w : List ℕ} {n runs : ℕ} (k : Kept w n runs) {out₀ : Section} {q m from g : ℕ} {out : Section} {place : ℕ}
+    (c : Opening out₀ w n q m from g out place) (pos : 0 < g) where
   earlier_is : (e : ℕ) → e ≡ group_earlier w (g - 1) → Latest (g - 1) w q e
   earlier_is e f =
       let u = c.within in
@@ -125,23 +125,23 @@ module _ {w : List ℕ} {n runs : ℕ} (k : Kept w n runs) {d₀ : List ℕ} {p�
       )
 
   -- there is room for the next piece
-  pub room : {t : ℕ} → t ≡ group_taken w (g - 1) → Fits d₀ p₀ (openings_in w n q m from) → Fits d p (opening_events (piece m t place (place + t) ∷ []))
+  pub room : {t : ℕ} → t ≡ group_taken w (g - 1) → Ready out₀ (openings_in w n q m from) → Ready out (opening_events (piece m t place (place + t) ∷ []))
   room {t} et fits =
       let e : ℕ = group_earlier w (g - 1) in
       let all = first_events e t refl et in
       let x = next_events e t refl et in
-      let f : Fits d₀ p₀ (opening_events (openings (groups_from (n - e) w e) q m (place + t))) =
-      fits_first (opening_events (openings (groups_from (n - e) w e) q m (place + t))) all.0 (rw all.1 at fits) in
-      fits_then (opening_events (openings (groups_from (n - g) w g) q m place)) (opening_events (piece m t place (place + t) ∷ [])) c.put (rw x at f)
+      let f : Ready out₀ (opening_events (openings (groups_from (n - e) w e) q m (place + t))) =
+      ready_first (opening_events (openings (groups_from (n - e) w e) q m (place + t))) all.0 (rw all.1 at fits) in
+      ready_then (opening_events (openings (groups_from (n - g) w g) q m place)) (opening_events (piece m t place (place + t) ∷ [])) c.put (rw x at f)
 
   -- the link names an earlier group
   pub falls : {e : ℕ} → e ≡ group_earlier w (g - 1) → e < g
   falls {e} f = let lo = (earlier_is e f).low in omega arith
 
   -- a piece more
-  pub turn : {d' : List ℕ} {t e : ℕ} {p' : Pen} → t ≡ group_taken w (g - 1) → t < 65536 → e ≡ group_earlier w (g - 1) →
-      Put d p (opening_events (piece m t place (place + t) ∷ [])) d' p' → Opening d₀ p₀ w n q m from e d' p' (place + t)
-  turn {d'} {t} {e} {p'} et lt f v =
+  pub turn : {out' : Section} {t e : ℕ} → t ≡ group_taken w (g - 1) → t < 65536 → e ≡ group_earlier w (g - 1) →
+      Puts out (opening_events (piece m t place (place + t) ∷ [])) out' → Opening out₀ w n q m from e out' (place + t)
+  turn {out'} {t} {e} et lt f v =
       let u = c.within in
       let a = earlier_is e f in
       let lo = a.low in
@@ -150,16 +150,16 @@ module _ {w : List ℕ} {n runs : ℕ} (k : Kept w n runs) {d₀ : List ℕ} {p�
         own = a.own;
         put =
             rw (next_events e t f et)
-            (put_then (opening_events (openings (groups_from (n - g) w g) q m place)) (opening_events (piece m t place (place + t) ∷ [])) c.put v);
+            (puts_then (opening_events (openings (groups_from (n - g) w g) q m place)) (opening_events (piece m t place (place + t) ∷ [])) c.put v);
         ends = next_ends e t f et;
         small = omega (arith, c.small);
       }
 
 -- no group is ahead
-pub ended : {w : List ℕ} {n : ℕ} {d₀ : List ℕ} {p₀ : Pen} {q m from g : ℕ} {d : List ℕ} {p : Pen} {place : ℕ} → Opening d₀ p₀ w n q m from g d p place → g ≤ 0 →
-    Put d₀ p₀ (openings_in w n q m from) d p
+pub ended : {w : List ℕ} {n : ℕ} {out₀ : Section} {q m from g : ℕ} {out : Section} {place : ℕ} → Opening out₀ w n q m from g out place → g ≤ 0 →
+    Puts out₀ (openings_in w n q m from) out
 unfolding groups_from opened
-ended {w} {n} {d₀} {p₀} {q} {m} {from} {g} {d} {p} {place} c h =
+ended {w = w} {n = n} {q = q} {from = from} {g = g} {place = place} c h =
     let z : g ≡ 0 = omega arith in
     let s : n - 0 ≡ n = omega arith in
     let e = rw z at c.ends in

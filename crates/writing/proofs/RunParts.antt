@@ -14,10 +14,10 @@ use Rattle.record.specs.declared.event.Event.{Event}
 use Rattle.runs.specs.Pieces.{closed, opened, remains, opening_pieces}
 use Rattle.runs.specs.Output.{leftover_events, opening_events, run_events}
 use Rattle.slots.specs.Layout.{whole_of, left_of, marker_of}
-use Rattle.partners.specs.Pen.{Put, Fits}
-use Rattle.partners.specs.declared.Pen.{Pen}
+use Rattle.partners.specs.Section.{Ready, Puts}
+use Rattle.partners.specs.declared.Section.{Section}
 use Rattle.writing.specs.Kept.{Kept, groups_in, closings_in, openings_in, left_in, run_kept}
-use Rattle.partners.proofs.Pens.{put_none, put_then, fits_first, fits_then}
+use Rattle.partners.proofs.Sections.{puts_none, puts_then, ready_first, ready_then}
 use Rattle.partners.proofs.Walk.{same}
 
 -- what is left of a run, if it is any
@@ -25,21 +25,21 @@ pub some_left : (from to : ℕ) → (from ≡ to → ⊥) → left_in from to �
 unfolding left_in choose
 some_left from to z = rw (ne_eqb from to z)
 
-pub none_left : (from to : ℕ) → from ≡ to → (d : List ℕ) (p : Pen) → Put d p (left_in from to) d p
+pub none_left : (from to : ℕ) → from ≡ to → (out : Section) → Puts out (left_in from to) out
 unfolding left_in choose
-none_left from to z d p = rw (eq-eqb _ _ z) (put_none d p)
+none_left from to z out = rw (eq-eqb _ _ z) (puts_none out)
 
 -- the events of the run that slot q keeps
 abbrev pub events_kept : List ℕ → ℕ → ℕ → ℕ → List Event
 events_kept w n q from = run_events (groups_in w n) q (run_kept w q from)
 
 -- there is room for the closing pieces
-pub closing_fits : {d : List ℕ} {p : Pen} (w : List ℕ) (n q m from : ℕ) → m ≡ marker_of w q → Fits d p (events_kept w n q from) →
-    Fits d p (closings_in w n q m from)
+pub closing_fits : {out : Section} (w : List ℕ) (n q m from : ℕ) → m ≡ marker_of w q → Ready out (events_kept w n q from) →
+    Ready out (closings_in w n q m from)
 unfolding run_events
 closing_fits w n q m from em h =
     rw em
-    (fits_first (closings_in w n q (marker_of w q) from)
+    (ready_first (closings_in w n q (marker_of w q) from)
     (leftover_events (groups_in w n) q (run_kept w q from) ++ opening_events (opening_pieces (groups_in w n) q (run_kept w q from))) h)
 
 module _ {w : List ℕ} {n runs : ℕ} (k : Kept w n runs) {q : ℕ} (r : q < runs) (m from place t : ℕ) (em : m ≡ marker_of w q)
@@ -82,19 +82,19 @@ module _ {w : List ℕ} {n runs : ℕ} (k : Kept w n runs) {q : ℕ} (r : q < ru
       go (inl z) = emptied_is z
       go (inr z) = left_is z
 
-  module _ {d₀ d₁ : List ℕ} {p₀ p₁ : Pen} (c : Put d₀ p₀ (closings_in w n q m from) d₁ p₁) where
-    behind_fit : Fits d₀ p₀ (events_kept w n q from) → Fits d₁ p₁ (left_in place (place + t) ++ openings_in w n q m (place + t))
-    behind_fit h = fits_then (closings_in w n q m from) (left_in place (place + t) ++ openings_in w n q m (place + t)) c (rw parts at h)
+  module _ {out₀ out₁ : Section} (c : Puts out₀ (closings_in w n q m from) out₁) where
+    behind_fit : Ready out₀ (events_kept w n q from) → Ready out₁ (left_in place (place + t) ++ openings_in w n q m (place + t))
+    behind_fit h = ready_then (closings_in w n q m from) (left_in place (place + t) ++ openings_in w n q m (place + t)) c (rw parts at h)
 
-    pub leftover_fits : Fits d₀ p₀ (events_kept w n q from) → Fits d₁ p₁ (left_in place (place + t))
-    leftover_fits h = fits_first (left_in place (place + t)) (openings_in w n q m (place + t)) (behind_fit h)
+    pub leftover_fits : Ready out₀ (events_kept w n q from) → Ready out₁ (left_in place (place + t))
+    leftover_fits h = ready_first (left_in place (place + t)) (openings_in w n q m (place + t)) (behind_fit h)
 
-    module _ {d₂ : List ℕ} {p₂ : Pen} (l : Put d₁ p₁ (left_in place (place + t)) d₂ p₂) where
-      pub openings_fit : Fits d₀ p₀ (events_kept w n q from) → Fits d₂ p₂ (openings_in w n q m (place + t))
-      openings_fit h = fits_then (left_in place (place + t)) (openings_in w n q m (place + t)) l (behind_fit h)
+    module _ {out₂ : Section} (l : Puts out₁ (left_in place (place + t)) out₂) where
+      pub openings_fit : Ready out₀ (events_kept w n q from) → Ready out₂ (openings_in w n q m (place + t))
+      openings_fit h = ready_then (left_in place (place + t)) (openings_in w n q m (place + t)) l (behind_fit h)
 
-      pub run_put : {d₃ : List ℕ} {p₃ : Pen} → Put d₂ p₂ (openings_in w n q m (place + t)) d₃ p₃ → Put d₀ p₀ (events_kept w n q from) d₃ p₃
+      pub run_put : {out₃ : Section} → Puts out₂ (openings_in w n q m (place + t)) out₃ → Puts out₀ (events_kept w n q from) out₃
       run_put v =
           rw parts
-          (put_then (closings_in w n q m from) (left_in place (place + t) ++ openings_in w n q m (place + t)) c
-          (put_then (left_in place (place + t)) (openings_in w n q m (place + t)) l v))
+          (puts_then (closings_in w n q m from) (left_in place (place + t) ++ openings_in w n q m (place + t)) c
+          (puts_then (left_in place (place + t)) (openings_in w n q m (place + t)) l v))

@@ -1,4 +1,4 @@
--- `classes::ascii_classes` meets its contract: the table's rule is one test at each of its 128 entries, which antt computes.
+-- `classes::ascii_classes` meets its contract: the table's rule is one test at each of 128 characters, which antt computes.
 use mathlib.Core.Path.{refl}
 use Rattle.classes.specs.Class.{class_of, standard_class, ascii_class, amended, whitespace, punctuation}
 use Rattle.classes.proofs.Ascii.{right, table_of}

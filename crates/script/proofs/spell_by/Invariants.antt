@@ -1,11 +1,9 @@
--- `script::spell_by` is safe, ends, and answers no more bytes than there is room for. The measure is what is left of the text.
-use mathlib.Core.Path.{◌≡◌}
-use Prim.Native.Nat.{◌≤◌, ◌-◌}
-use lib.ListN.{length}
+-- `script::spell_by` spells into its own buffer throughout, and ends. The measure is what is left of the line.
+use Rattle.std.proofs.Common.{◌≡◌, length}
 use Rattle.script.proofs.spell_by.Given as goal
 
-abbrev pub invariant-loop-i : goal.invariant-loop-i
-invariant-loop-i l = (l.k ≤ length l.out) × (length l.out ≡ length l.initial.out) × (l.i ≤ length l.s)
+abbrev pub invariant-loop-sign : goal.invariant-loop-sign
+invariant-loop-sign l = l.spelled.out.ghost_name ≡ l.initial.spelled.out.ghost_name
 
-abbrev pub decreases-loop-i : goal.decreases-loop-i
-decreases-loop-i l = length l.s - l.i
+abbrev pub decreases-loop-sign : goal.decreases-loop-sign
+decreases-loop-sign l = length l.rest

@@ -4,5 +4,5 @@ use borrow.Author.Rules.{rules}
 use Rattle.asked.proofs.Lent.{judged}
 use Rattle.asked.proofs.made.judge.Goals as goal
 
-pub put_good-requires : goal.put_good-requires
-put_good-requires c = let p = c.requires in let h = judged _ _ _ _ _ p.0 p.2 (sym c.in-Good.is ∙ c.check.ensures) in search rules
+pub put_good-n-requires : goal.put_good-n-requires
+put_good-n-requires c = let p = c.requires in let h = judged _ _ _ _ p.0 (sym (sym c.in_ok-document.was ∙ c.check.ensures)) in search rules

@@ -1,18 +1,12 @@
--- `attention::call::finish` meets its contract: each return is a case of the definition.
+-- `attention::call::finish` meets its contract: what is answered of the result, with the groups and the candidates.
+use Rattle.std.proofs.lemmas.Result.{err_from_is_err_and}
 use Rattle.attention.proofs.Calls.{finished_refused, finished_written}
 use Rattle.attention.proofs.call.finish.Goals as goal
 
-pub returns-in-Long : goal.returns-in-Long
-returns-in-Long c =
-    let f = c.write_result.ensures in
-    finished_refused c.requires f 7 0 (f.long c.in-Long.is) _ c.refused.ensures
+pub returns-in_err-events : goal.returns-in_err-events
+returns-in_err-events c =
+    let p = err_from_is_err_and c.from_residual.result c.from_residual.ensures.1 in
+    rw (p.1, p.2) (finished_refused c.requires c.write_result.ensures _ c.in_err-events.was)
 
-pub returns-in-Short : goal.returns-in-Short
-returns-in-Short c =
-    let f = c.write_result.ensures in
-    finished_refused c.requires f 8 0 (f.short c.in-Short.is) _ c.refused-in-Short.ensures
-
-pub returns-in-Events : goal.returns-in-Events
-returns-in-Events c =
-    let f = c.write_result.ensures in
-    finished_written c.requires f _ c.in-Events.is
+pub returns : goal.returns
+returns c = finished_written c.requires c.write_result.ensures _ c.in_ok-events.was

@@ -1,6 +1,6 @@
 -- `taking::take_match`: the pieces of a match, one after the other. An opener that is open stays so until it is emptied.
 use native.Mathlib.Omega.{arith}
-use Rattle.chains.proofs.Pops.{amount_le, cleared_kept, match_case}
+use Rattle.chains.proofs.Pops.{amount_le, cleared_kept}
 use Rattle.chains.proofs.taking.take_match.Goals as goal
 
 pub leave-open_runs-requires : goal.leave-open_runs-requires
@@ -13,35 +13,22 @@ leave-open_runs-requires c =
 
 pub overflow_sub-a : goal.overflow_sub-a
 overflow_sub-a c =
-    let a = c.left-a in
-    let b = c.left-b in
+    let a = c.get-a in
+    let b = c.get-b in
     let t = c.requires in
     omega (arith, c.amount-k.ensures, amount_le a.result b.result (omega (arith, a.ensures, t.some)) (omega (arith, b.ensures, t.some')))
 
 pub overflow_sub-b : goal.overflow_sub-b
 overflow_sub-b c =
-    let a = c.left-a in
-    let b = c.left-b in
+    let a = c.get-a in
+    let b = c.get-b in
     let t = c.requires in
     omega (arith, c.amount-k.ensures, amount_le a.result b.result (omega (arith, a.ensures, t.some)) (omega (arith, b.ensures, t.some')))
 
 pub join-requires : goal.join-requires
 join-requires c =
-    let a = c.left-a in
-    let b = c.left-b in
+    let a = c.get-a in
+    let b = c.get-b in
     let t = c.requires in
     let k = amount_le a.result b.result (omega (arith, a.ensures, t.some)) (omega (arith, b.ensures, t.some')) in
-    ((omega (arith, t.before, t.within), t.within), (t.few, (omega (arith, c.amount-k.ensures, k), omega (arith, t.ranged.room, c.put_left-2.auto.w, c.put_left.auto.w, c.leave-open_runs.auto.w, c.clear_above-above.auto.w))))
-
-pub returns : goal.returns
-returns c =
-    match_case _ _ _ _ _ c.left-a.result c.left-b.result c.amount-k.result _ _ _ _ _ _ _
-    c.left-a.ensures.0
-    c.left-b.ensures.0
-    c.amount-k.ensures
-    c.clear_above-above.ensures
-    c.leave-open_runs.ensures.0
-    c.leave-open_runs.ensures.1
-    c.put_left.ensures
-    c.put_left-2.ensures
-    c.join.ensures
+    ((omega (arith, t.before, t.within), t.within), (t.few, (omega (arith, c.amount-k.ensures, k), omega (arith, t.ranged.room, c.put-2.auto.w, c.put.auto.w, c.leave-open_runs.auto.w, c.clear_above-above.auto.w))))

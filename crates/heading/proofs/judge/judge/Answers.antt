@@ -1,46 +1,33 @@
-use mathlib.Core.Path.{sym, ◌∙◌}
-use Rattle.heading.proofs.Lists.{front_room, next_room}
-use Rattle.heading.proofs.Passes.{judging_start, judging_other, judging_refused, judging_heading, judging_done}
-use borrow.Author.Rules.{rules}
+use Rattle.std.proofs.Common.{sym, ◌∙◌, arith}
+use Rattle.record.proofs.ListedEvents.{length_of}
+use Rattle.heading.proofs.Passes.{judging_other, judging_refused, judging_heading, judging_done}
 use Rattle.heading.proofs.judge.judge.Goals as goal
 
-pub loop-i-init : goal.loop-i-init
-loop-i-init c = judging_start _ _ _ _
+pub overflow_add-size : goal.overflow_add-size
+overflow_add-size c = omega (arith, c.loop-event.invariant.low, c.loop-event.invariant.small, length_of c.args.events)
 
-pub is_of-requires : goal.is_of-requires
-is_of-requires c = let h = next_room _ _ _ _ _ c.requires.2 c.loop-i-test.true in search rules
+pub loop-event-preserved-then-not-is_of : goal.loop-event-preserved-then-not-is_of
+loop-event-preserved-then-not-is_of c = judging_other c.loop-event.invariant _ _ c.in-Some.ensures.listed (sym c.is_of.ensures ∙ c.if-not-is_of.true)
 
-pub overflow_add-at : goal.overflow_add-at
-overflow_add-at c = let h = next_room _ _ _ _ _ c.requires.2 c.loop-i-test.true in search rules
-
-pub loop-i-preserved-then-not-is_of : goal.loop-i-preserved-then-not-is_of
-loop-i-preserved-then-not-is_of c = judging_other c.loop-i.invariant c.loop-i-test.true (sym c.is_of.ensures ∙ c.if-not-is_of.true)
-
-pub overflow_add-inside : goal.overflow_add-inside
-overflow_add-inside c = let h = next_room _ _ _ _ _ c.requires.2 c.loop-i-test.true in search rules
-
-pub before_first-n-requires : goal.before_first-n-requires
-before_first-n-requires c = let h = next_room _ _ _ _ _ c.requires.2 c.loop-i-test.true in search rules
-
-pub is_shaped-requires : goal.is_shaped-requires
-is_shaped-requires c = let h = front_room _ _ _ _ _ (next_room _ _ _ _ _ c.requires.2 c.loop-i-test.true) c.before_first-n.ensures.1 in search rules
+pub overflow_sub-result : goal.overflow_sub-result
+overflow_sub-result c = omega (arith, c.loop-event.invariant.low, length_of c.args.events, length_of c.loop-event.rest)
 
 pub returns-then-not-is_shaped : goal.returns-then-not-is_shaped
-returns-then-not-is_shaped c = judging_refused c.loop-i.invariant c.loop-i-test.true _ (sym c.is_of.ensures ∙ c.if-not-is_of.false) c.before_first-n.ensures.0 c.before_first-n.ensures.1 (sym c.is_shaped.ensures ∙ c.if-not-is_shaped.true)
+returns-then-not-is_shaped c =
+    judging_refused c.loop-event.invariant _ _ c.in-Some.ensures.listed (sym c.is_of.ensures ∙ c.if-not-is_of.false) _ c.inner_of-inner.ensures.listed _
+    (omega (arith, length_of c.args.events, length_of c.loop-event.rest)) (sym c.is_shaped.ensures ∙ c.if-not-is_shaped.true)
 
-pub inner_size-requires : goal.inner_size-requires
-inner_size-requires c =
-    let q = sym c.is_shaped.ensures ∙ c.if-not-is_shaped.false in
-    let h = front_room _ _ _ _ _ (next_room _ _ _ _ _ c.requires.2 c.loop-i-test.true) c.before_first-n.ensures.1 in search rules
+pub inner_size-size-requires : goal.inner_size-size-requires
+inner_size-size-requires c = (omega (arith, c.loop-event.invariant.low, length_of c.args.events, length_of c.loop-event.rest, c.in-Some.ensures.counted), sym c.is_shaped.ensures ∙ c.if-not-is_shaped.false)
 
-pub overflow_mul-at : goal.overflow_mul-at
-overflow_mul-at c = let h = front_room _ _ _ _ _ (next_room _ _ _ _ _ c.requires.2 c.loop-i-test.true) c.before_first-n.ensures.1 in search rules
+pub overflow_add-size-in-Some : goal.overflow_add-size-in-Some
+overflow_add-size-in-Some c =
+    omega (arith, c.loop-event.invariant.low, c.loop-event.invariant.small, length_of c.args.events, length_of c.loop-event.rest, c.in-Some.ensures.counted, c.inner_size-size.ensures.1)
 
-pub overflow_add-at-in-loop-i : goal.overflow_add-at-in-loop-i
-overflow_add-at-in-loop-i c = let h = front_room _ _ _ _ _ (next_room _ _ _ _ _ c.requires.2 c.loop-i-test.true) c.before_first-n.ensures.1 in search rules
-
-pub loop-i-preserved : goal.loop-i-preserved
-loop-i-preserved c = judging_heading c.loop-i.invariant c.loop-i-test.true _ (sym c.is_of.ensures ∙ c.if-not-is_of.false) c.before_first-n.ensures.0 c.before_first-n.ensures.1 _ (sym c.is_shaped.ensures ∙ c.if-not-is_shaped.false) c.inner_size.ensures.0 c.inner_size.ensures.1
+pub loop-event-preserved : goal.loop-event-preserved
+loop-event-preserved c =
+    judging_heading c.loop-event.invariant _ _ c.in-Some.ensures.listed (sym c.is_of.ensures ∙ c.if-not-is_of.false) _ c.inner_of-inner.ensures.listed _ _
+    (sym (length_of c.inner_of-inner.result)) (sym c.is_shaped.ensures ∙ c.if-not-is_shaped.false) c.inner_size-size.ensures.0 c.inner_size-size.ensures.1 _ c.skip-rest.ensures.listed
 
 pub returns : goal.returns
-returns c = judging_done c.loop-i.invariant c.loop-i-test.false
+returns c = judging_done c.loop-event.invariant c.in_default.ensures.listed

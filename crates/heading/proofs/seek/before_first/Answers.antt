@@ -1,23 +1,17 @@
-use mathlib.Core.Path.{sym, ◌∙◌}
-use Rattle.record.proofs.Parts.{event_room}
-use Rattle.heading.proofs.Seeking.{onward_start, onward_found, onward_turn, onward_none}
-use borrow.Author.Rules.{rules}
+use Rattle.std.proofs.Common.{sym, ◌∙◌, ap, arith}
+use Rattle.record.proofs.ListedEvents.{length_of}
+use Rattle.heading.proofs.Seeking.{found_here, passed_here, none_here}
 use Rattle.heading.proofs.seek.before_first.Goals as goal
 
-pub loop-i-init : goal.loop-i-init
-loop-i-init c = onward_start _ _ _ _ _
+pub returns-then-is-clause-first : goal.returns-then-is-clause-first
+returns-then-is-clause-first g c =
+    found_here g.such _ _ c.loop-k.invariant (omega (arith, length_of c.args.events)) (ap g.such (sym c.event.ensures) ∙ sym (c.requires.1.1 _ _ c.is.ensures) ∙ c.if-is.true)
 
-pub is_sought-requires : goal.is_sought-requires
-is_sought-requires c = let h = event_room _ _ _ _ _ c.requires.1 c.loop-i-test.true in search rules
+pub loop-k-preserved : goal.loop-k-preserved
+loop-k-preserved g c =
+    passed_here g.such _ _ c.loop-k.invariant (omega (arith, length_of c.args.events)) (ap g.such (sym c.event.ensures) ∙ sym (c.requires.1.1 _ _ c.is.ensures) ∙ c.if-is.false)
 
-pub returns-then-is_sought : goal.returns-then-is_sought
-returns-then-is_sought c = onward_found c.loop-i.invariant c.loop-i-test.true (sym c.is_sought.ensures ∙ c.if-is_sought.true)
-
-pub overflow_add-at : goal.overflow_add-at
-overflow_add-at c = let h = event_room _ _ _ _ _ c.requires.1 c.loop-i-test.true in search rules
-
-pub loop-i-preserved : goal.loop-i-preserved
-loop-i-preserved c = onward_turn c.loop-i.invariant c.loop-i-test.true (sym c.is_sought.ensures ∙ c.if-is_sought.false)
-
-pub returns : goal.returns
-returns c = onward_none c.loop-i.invariant c.loop-i-test.false
+pub returns-clause-first : goal.returns-clause-first
+returns-clause-first g c =
+    let n = none_here g.such _ _ c.loop-k.invariant (omega (arith, length_of c.args.events)) in
+    omega arith

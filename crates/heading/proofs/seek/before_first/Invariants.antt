@@ -1,12 +1,9 @@
--- `heading::seek::before_first` meets its contract. The invariant: i events are passed, and as many more as the definition counts in the rest
--- make what it counts in all; the measure is the number of events left.
-use Prim.Native.Nat.{◌-◌}
-use Rattle.heading.specs.Steps.{sought_by}
-use Rattle.heading.proofs.Seeking.{Onward}
+-- `heading::seek::before_first` meets its contract. The invariant: k events are passed, and as many more as the definition counts in the rest make what it counts
+-- in all.
+use Rattle.std.proofs.Common.{◌≡◌, ◌+◌, drop}
+use Rattle.record.specs.EventsOf.{events_of}
+use Rattle.heading.specs.Headings.{before_first}
 use Rattle.heading.proofs.seek.before_first.Given as goal
 
-abbrev pub invariant-loop-i : goal.invariant-loop-i
-invariant-loop-i l = Onward l.s l.from l.width l.n (sought_by l.what) l.at l.i
-
-abbrev pub decreases-loop-i : goal.decreases-loop-i
-decreases-loop-i l = l.n - l.i
+abbrev pub invariant-loop-k : goal.invariant-loop-k
+invariant-loop-k g l = l.k + before_first g.such (drop l.k (events_of l.events)) ≡ before_first g.such (events_of l.events)

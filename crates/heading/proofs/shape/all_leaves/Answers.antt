@@ -1,29 +1,17 @@
-use native.Mathlib.Omega.{arith}
-use mathlib.Core.Path.{sym, ◌∙◌}
-use Rattle.heading.proofs.Shapes.{leafing_start, leafing_room, leafing_odd, leafing_other, leafing_turn, leafing_done}
-use borrow.Author.Rules.{rules}
+use Rattle.std.proofs.Common.{sym, ◌∙◌}
+use Rattle.heading.proofs.Shapes.{leaf_alone, leaf_other, leaf_turn, leaves_none}
 use Rattle.heading.proofs.shape.all_leaves.Goals as goal
 
-pub loop-left-init : goal.loop-left-init
-loop-left-init c = leafing_start _ _ _ _
-
-pub returns-then-left-eq1 : goal.returns-then-left-eq1
-returns-then-left-eq1 c = leafing_odd c.loop-left.invariant c.if-left-eq1.true
-
-pub is_leaf-requires : goal.is_leaf-requires
-is_leaf-requires c = let h = leafing_room c.loop-left.invariant (omega arith) c.requires.1 in search rules
+pub returns-in_default-split_first : goal.returns-in_default-split_first
+returns-in_default-split_first c = sym (leaf_alone _ _ _ c.in-Some.ensures.listed c.in_default-split_first.ensures.listed) ∙ c.loop-enter.invariant
 
 pub returns-then-not-is_leaf : goal.returns-then-not-is_leaf
-returns-then-not-is_leaf c = leafing_other c.loop-left.invariant (omega arith) (sym c.is_leaf.ensures ∙ c.if-not-is_leaf.true)
+returns-then-not-is_leaf c =
+    sym (leaf_other _ _ _ c.in-Some.ensures.listed _ _ c.in-Some-split_first.ensures.listed (sym c.is_leaf.ensures ∙ c.if-not-is_leaf.true)) ∙ c.loop-enter.invariant
 
-pub overflow_mul-at : goal.overflow_mul-at
-overflow_mul-at c = let h = leafing_room c.loop-left.invariant (omega arith) c.requires.1 in search rules
-
-pub overflow_add-at : goal.overflow_add-at
-overflow_add-at c = let h = leafing_room c.loop-left.invariant (omega arith) c.requires.1 in search rules
-
-pub loop-left-preserved : goal.loop-left-preserved
-loop-left-preserved c = leafing_turn c.loop-left.invariant (omega arith) (sym c.is_leaf.ensures ∙ c.if-not-is_leaf.false)
+pub loop-enter-preserved : goal.loop-enter-preserved
+loop-enter-preserved c =
+    sym (leaf_turn _ _ _ c.in-Some.ensures.listed _ _ c.in-Some-split_first.ensures.listed (sym c.is_leaf.ensures ∙ c.if-not-is_leaf.false)) ∙ c.loop-enter.invariant
 
 pub returns : goal.returns
-returns c = leafing_done c.loop-left.invariant c.loop-left-test.false
+returns c = sym (leaves_none _ c.in_default.ensures.listed) ∙ c.loop-enter.invariant

@@ -1,11 +1,13 @@
 -- `heading::text::inner_size` meets its contract: the length of what the text rule gives, with a text and without.
-use mathlib.Core.Path.{sym}
-use native.Mathlib.Omega.{arith}
-use Rattle.heading.proofs.Texts.{length_unchanged, length_text}
+use Rattle.std.proofs.Common.{sym, ap, ◌∙◌, arith, length}
+use Rattle.record.proofs.ListedEvents.{length_of}
+use Rattle.heading.proofs.Texts.{without, length_text}
 use Rattle.heading.proofs.text.inner_size.Goals as goal
 
-pub returns-then-before-through : goal.returns-then-before-through
-returns-then-before-through c = (sym (length_unchanged _ _ _ _ _ _ c.text_of-text.ensures c.if-before-through.true), omega arith)
+pub returns-in-Some : goal.returns-in-Some
+returns-in-Some c =
+    let some = c.in-Some.ensures in
+    (sym (length_text _ _ _ _ some.0 some.1 (length_of c.args.inner)), omega (arith, some.0.front, some.0.whole, some.1))
 
-pub returns : goal.returns
-returns c = (sym (length_text _ _ _ _ _ _ c.text_of-text.ensures c.if-before-through.false), omega arith)
+pub returns-in-None : goal.returns-in-None
+returns-in-None c = (sym (ap length (without _ c.in-None.ensures) ∙ length_of c.args.inner), omega arith)

@@ -3,4 +3,4 @@ use Rattle.ledgerlark.proofs.Passed.{headed_on}
 use Rattle.ledgerlark.proofs.line.lark_heading.Goals as goal
 
 pub returns : goal.returns
-returns c = headed_on _ _ _ _ _ _ _ c.heading.ensures c.headed_of.ensures
+returns c = headed_on _ _ _ _ _ _ _ c.heading.ensures c.from.ensures

@@ -6,4 +6,4 @@ use Rattle.ledgerlark.proofs.resolve.lark_read2.Goals as goal
 pub returns : goal.returns
 returns c =
     read_on _ _ (lark_reading2 _) _ _ _ _ c.read.ensures
-    (with_options _ _ c.read.result _ c.options_of-options.ensures c.reading2_of.ensures)
+    (with_options _ _ c.read.result _ c.options_of-options.ensures c.of.ensures)

@@ -4,4 +4,4 @@ use Rattle.ledgerlark.proofs.Passed.{written_on}
 use Rattle.ledgerlark.proofs.resolve.lark_resolve_attention2.Goals as goal
 
 pub returns : goal.returns
-returns c = written_on _ _ _ lark_attention _ _ _ _ _ _ c.resolve_attention.ensures c.attention_of.ensures
+returns c = written_on _ _ _ lark_attention _ _ _ _ _ _ c.resolve_attention.ensures c.from.ensures

@@ -4,4 +4,4 @@ use Rattle.ledgerlark.proofs.Passed.{written_on}
 use Rattle.ledgerlark.proofs.resolve.lark_resolve_lists2.Goals as goal
 
 pub returns : goal.returns
-returns c = written_on _ _ _ lark_lists _ _ _ _ _ _ c.resolve_lists.ensures c.lists_of.ensures
+returns c = written_on _ _ _ lark_lists _ _ _ _ _ _ c.resolve_lists.ensures c.from.ensures

@@ -1,22 +1,14 @@
--- `lines::item::is_break` meets its contract: each return is a case of the definition.
-use Rattle.scan.specs.Run.{or}
+-- `lines::item::is_break` meets its contract: each byte is one of the definition's.
 use borrow.Author.Tests.{eq-eqb, ne_eqb}
+use Rattle.std.proofs.Common.{rules}
+use Rattle.scan.specs.Run.{or}
 use Rattle.lines.specs.Item.{break_mark}
-use borrow.Author.Rules.{rules}
 use Rattle.lines.proofs.item.is_break.Goals as goal
 
-pub returns-then-byte-eq42 : goal.returns-then-byte-eq42
+pub returns-in-42 : goal.returns-in-42
 unfolding break_mark or
-returns-then-byte-eq42 c = search (rules, eq-eqb, ne_eqb)
+returns-in-42 c = search (rules, eq-eqb, ne_eqb)
 
-pub returns-then-byte-eq45 : goal.returns-then-byte-eq45
+pub returns-in_default : goal.returns-in_default
 unfolding break_mark or
-returns-then-byte-eq45 c = search (rules, eq-eqb, ne_eqb)
-
-pub returns-then-byte-eq95 : goal.returns-then-byte-eq95
-unfolding break_mark or
-returns-then-byte-eq95 c = search (rules, eq-eqb, ne_eqb)
-
-pub returns : goal.returns
-unfolding break_mark or
-returns c = search (rules, eq-eqb, ne_eqb)
+returns-in_default c = search (rules, eq-eqb, ne_eqb)

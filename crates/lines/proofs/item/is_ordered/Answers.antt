@@ -1,18 +1,14 @@
--- `lines::item::is_ordered` meets its contract: each return is a case of the definition.
-use Rattle.scan.specs.Run.{or}
+-- `lines::item::is_ordered` meets its contract: each byte is one of the definition's.
 use borrow.Author.Tests.{eq-eqb, ne_eqb}
+use Rattle.std.proofs.Common.{rules}
+use Rattle.scan.specs.Run.{or}
 use Rattle.lines.specs.Item.{ordered_mark}
-use borrow.Author.Rules.{rules}
 use Rattle.lines.proofs.item.is_ordered.Goals as goal
 
-pub returns-then-byte-eq46 : goal.returns-then-byte-eq46
+pub returns-in-46 : goal.returns-in-46
 unfolding ordered_mark or
-returns-then-byte-eq46 c = search (rules, eq-eqb, ne_eqb)
+returns-in-46 c = search (rules, eq-eqb, ne_eqb)
 
-pub returns-then-byte-eq41 : goal.returns-then-byte-eq41
+pub returns-in_default : goal.returns-in_default
 unfolding ordered_mark or
-returns-then-byte-eq41 c = search (rules, eq-eqb, ne_eqb)
-
-pub returns : goal.returns
-unfolding ordered_mark or
-returns c = search (rules, eq-eqb, ne_eqb)
+returns-in_default c = search (rules, eq-eqb, ne_eqb)

@@ -15,25 +15,23 @@ slice_bounds-rest-count c = let i = indent_fits _ _ _ _ c.indented-indent.ensure
 pub slice_bounds-rest-start : goal.slice_bounds-rest-start
 slice_bounds-rest-start c = let i = indent_fits _ _ _ _ c.indented-indent.ensures in search rules
 
-pub returns-in-Unmarked : goal.returns-in-Unmarked
-returns-in-Unmarked c =
-    no_marker _ _ _ _ _
-    c.indented-indent.ensures (search rules)
-    (sym c.in-Unmarked.is ∙ c.marker_in.ensures)
+pub returns-in_err-kind : goal.returns-in_err-kind
+returns-in_err-kind c =
+    c.from_residual.ensures ∙ no_marker _ _ _ _ _ c.indented-indent.ensures (search rules) (sym (c.in_err-kind.was) ∙ c.marker_in.ensures)
 
 pub overflow_add-before : goal.overflow_add-before
 overflow_add-before c =
     let m =
     placed _ _ _ _ _ c.indented-indent.ensures _ _
-    (sym c.in-Marked.is ∙ c.marker_in.ensures)
+    (sym c.in_ok-kind.was ∙ c.marker_in.ensures)
     in
     search rules
 
-pub overflow_add-before-in-Marked : goal.overflow_add-before-in-Marked
-overflow_add-before-in-Marked c =
+pub overflow_add-before-2 : goal.overflow_add-before-2
+overflow_add-before-2 c =
     let m =
     placed _ _ _ _ _ c.indented-indent.ensures _ _
-    (sym c.in-Marked.is ∙ c.marker_in.ensures)
+    (sym c.in_ok-kind.was ∙ c.marker_in.ensures)
     in
     search rules
 
@@ -41,7 +39,7 @@ pub slice_bounds-start_after-count : goal.slice_bounds-start_after-count
 slice_bounds-start_after-count c =
     let m =
     placed _ _ _ _ _ c.indented-indent.ensures _ _
-    (sym c.in-Marked.is ∙ c.marker_in.ensures)
+    (sym c.in_ok-kind.was ∙ c.marker_in.ensures)
     in
     search rules
 
@@ -49,7 +47,7 @@ pub slice_bounds-start_after-start : goal.slice_bounds-start_after-start
 slice_bounds-start_after-start c =
     let m =
     placed _ _ _ _ _ c.indented-indent.ensures _ _
-    (sym c.in-Marked.is ∙ c.marker_in.ensures)
+    (sym c.in_ok-kind.was ∙ c.marker_in.ensures)
     in
     search rules
 
@@ -57,7 +55,7 @@ pub overflow_add-column : goal.overflow_add-column
 overflow_add-column c =
     let m =
     placed _ _ _ _ _ c.indented-indent.ensures _ _
-    (sym c.in-Marked.is ∙ c.marker_in.ensures)
+    (sym c.in_ok-kind.was ∙ c.marker_in.ensures)
     in
     search rules
 
@@ -65,13 +63,13 @@ pub start_after-requires : goal.start_after-requires
 start_after-requires c =
     let m =
     placed _ _ _ _ _ c.indented-indent.ensures _ _
-    (sym c.in-Marked.is ∙ c.marker_in.ensures)
+    (sym c.in_ok-kind.was ∙ c.marker_in.ensures)
     in
     search rules
 
-pub returns-in-Marked : goal.returns-in-Marked
-returns-in-Marked c =
+pub returns : goal.returns
+returns c =
     marker_there _ _ _ _ _
     c.indented-indent.ensures (search rules) _ _
-    (sym c.in-Marked.is ∙ c.marker_in.ensures) _
+    (sym c.in_ok-kind.was ∙ c.marker_in.ensures) _
     c.start_after.ensures

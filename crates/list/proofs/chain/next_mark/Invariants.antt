@@ -1,12 +1,11 @@
 -- `list::chain::next_mark` meets its contract. The invariant: what the look finds from here it finds from the start; the measure is the
 -- number of events left.
-use Prim.Native.Nat.{◌-◌}
-use Rattle.record.specs.Event.{document_in}
+use Rattle.record.specs.EventsOf.{events_of}
 use Rattle.list.proofs.Nearest.{Seeking}
 use Rattle.list.proofs.chain.next_mark.Given as goal
 
-abbrev pub invariant-loop-k : goal.invariant-loop-k
-invariant-loop-k l = Seeking (document_in l.form l.s l.d) l.form l.s l.d l.e l.i l.k l.depth
+abbrev pub invariant-loop-event : goal.invariant-loop-event
+invariant-loop-event l = Seeking l.document (events_of l.behind) (events_of l.rest) l.depth
 
-abbrev pub decreases-loop-k : goal.decreases-loop-k
-decreases-loop-k l = l.e - l.k
+abbrev pub decreases-loop-event : goal.decreases-loop-event
+decreases-loop-event l = l.rest.count

@@ -11,5 +11,5 @@ put-requires c = one_fits _ _ _ _ c.if-n-eq0.false c.if-here.true c.requires
 pub returns-then-here : goal.returns-then-here
 returns-then-here c = one_added _ _ _ _ c.if-n-eq0.false c.if-here.true c.put.ensures
 
-pub returns : goal.returns
-returns c = none_here _ _ _ _ c.if-n-eq0.false c.if-here.false
+pub returns-else-here : goal.returns-else-here
+returns-else-here c = none_here _ _ _ _ c.if-n-eq0.false c.if-here.false

@@ -1,11 +1,9 @@
--- `list::write::write_lists` meets its contract. The invariant: what is put and what is still to come is the whole result; the measure
--- is the number of events left.
-use Prim.Native.Nat.{◌-◌}
+-- `list::write::write_lists` meets its contract. The invariant: the section is still the output's, and what is put and what is still to come is the whole result.
+use Rattle.std.proofs.Common.{◌≡◌}
+use Rattle.record.specs.EventsOf.{events_of}
 use Rattle.list.proofs.Written.{Writing}
 use Rattle.list.proofs.write.write_lists.Given as goal
 
 abbrev pub invariant-loop-i : goal.invariant-loop-i
-invariant-loop-i l = Writing l.form l.s l.d l.e l.work l.initial.out l.initial.to l.out l.to l.i
-
-abbrev pub decreases-loop-i : goal.decreases-loop-i
-decreases-loop-i l = l.e - l.i
+invariant-loop-i l =
+    (l.section.out.ghost_name ≡ l.initial.section.out.ghost_name) × Writing l.fn.form.width (events_of l.events) l.work l.initial.section l.section l.i

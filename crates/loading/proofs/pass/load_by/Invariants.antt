@@ -6,7 +6,7 @@ use Rattle.loading.proofs.Walk.{Walking}
 use Rattle.loading.proofs.pass.load_by.Given as goal
 
 abbrev pub invariant-loop-i : goal.invariant-loop-i
-invariant-loop-i l = Walking crate l.form l.s l.d l.e l.options l.initial.w l.w l.inside.numbers l.inside.depth l.i l.n
+invariant-loop-i l = Walking crate l.form l.s l.d l.e l.options l.initial.w l.w l.numbers l.depth l.i l.n
 
 abbrev pub decreases-loop-i : goal.decreases-loop-i
 decreases-loop-i l = l.e - l.i

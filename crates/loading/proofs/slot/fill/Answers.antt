@@ -4,4 +4,5 @@ use borrow.Author.Rules.{rules}
 use Rattle.loading.proofs.slot.fill.Goals as goal
 
 pub returns : goal.returns
-returns c = written (search rules) (search rules) (search rules) c.put_whole.ensures c.put_left.ensures c.put_marker.ensures c.put_flags.ensures c.put_fresh.ensures
+returns c =
+    written (search rules) (search rules) (search rules) c.put.ensures c.put-2.ensures c.put_marker.ensures c.put_flag.ensures c.put_flag-2.ensures c.put_fresh.ensures

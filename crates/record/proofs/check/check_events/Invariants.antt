@@ -1,10 +1,8 @@
 -- `record::check::check_events` meets its contract. The invariant: what is left to judge, with the names that are open, finds what the whole
--- judgement finds; the measure is the number of events left.
+-- judgement finds.
+use Rattle.std.proofs.Common.{◌-◌}
 use Rattle.record.proofs.Events.{Judging}
 use Rattle.record.proofs.check.check_events.Given as goal
 
-abbrev pub invariant-loop-left : goal.invariant-loop-left
-invariant-loop-left l = Judging l.s l.front l.width l.d l.e l.held.names l.held.numbers l.held.depth l.first l.at l.number l.last l.left
-
-abbrev pub decreases-loop-left : goal.decreases-loop-left
-decreases-loop-left l = l.left
+abbrev pub invariant-loop-number : goal.invariant-loop-number
+invariant-loop-number l = Judging l.s l.front l.width l.d l.e l.held.names l.held.numbers l.held.depth l.first l.at l.number l.last (l.e - l.number)

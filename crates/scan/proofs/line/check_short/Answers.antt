@@ -1,3 +1,4 @@
+use mathlib.Core.Path.{◌∙◌}
 use Rattle.scan.proofs.Checks.{look_none, look_more, return_seen, none_seen}
 use borrow.Author.Rules.{rules}
 use Rattle.scan.proofs.line.check_short.Goals as goal
@@ -15,7 +16,7 @@ loop-n-preserved c =
     c.here_or-back.ensures
 
 pub returns-then-back-s : goal.returns-then-back-s
-returns-then-back-s c = return_seen c.loop-n.invariant (search rules) (search rules) (search rules)
+returns-then-back-s c = c.refused.ensures ∙ return_seen c.loop-n.invariant (search rules) (search rules) (search rules)
 
 pub returns : goal.returns
 returns c = none_seen c.loop-n.invariant (search rules) (search rules) (search rules)

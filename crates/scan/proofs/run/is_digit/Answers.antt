@@ -1,14 +1,15 @@
--- `scan::run::is_digit` meets its contract: each return is a case of the definition.
-use mathlib.Core.Path.{sym}
-use Rattle.scan.proofs.ByteKinds.{below_digits, above_digits, a_digit}
-use borrow.Author.Rules.{rules}
+use mathlib.Core.Path.{◌∙◌}
+use mathlib.Core.Bool.{Bool, true, false, ◌&&◌}
+use Rattle.std.proofs.Common.{◌≡◌, refl}
+use Rattle.record.specs.Choice.{and}
+use Rattle.scan.specs.Run.{digit}
 use Rattle.scan.proofs.run.is_digit.Goals as goal
 
-pub returns-then-byte-lt48 : goal.returns-then-byte-lt48
-returns-then-byte-lt48 c = sym (below_digits _ (search rules))
-
-pub returns-then-byte-gt57 : goal.returns-then-byte-gt57
-returns-then-byte-gt57 c = sym (above_digits _ (search rules) (search rules))
+both : (a b : Bool) → (a && b) ≡ and a b
+unfolding and
+both true b = refl
+both false b = refl
 
 pub returns : goal.returns
-returns c = sym (a_digit _ (search rules) (search rules))
+unfolding digit
+returns c = c.is_ascii_digit.ensures.value ∙ both _ _

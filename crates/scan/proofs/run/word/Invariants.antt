@@ -1,13 +1,6 @@
--- `scan::run::word` meets its contract. The invariant: n bytes of the run are passed, and what is left of it makes up the whole; the
--- measure is what is left of the slice.
-use Prim.Native.Nat.{◌-◌}
-use lib.ListN.{length}
-use Rattle.scan.proofs.Leading.{Counting}
+-- The kind of byte that `leading` counts for `scan::run::word`.
 use Rattle.scan.specs.Run.{filled}
 use Rattle.scan.proofs.run.word.Given as goal
 
-abbrev pub invariant-loop-n : goal.invariant-loop-n
-invariant-loop-n l = Counting filled l.rest l.n
-
-abbrev pub decreases-loop-n : goal.decreases-loop-n
-decreases-loop-n l = length l.rest - l.n
+abbrev pub ghost-leading : goal.ghost-leading
+ghost-leading a = filled

@@ -1,10 +1,10 @@
--- `script::second::enter_of` is safe, ends, and answers a place no later than the exit. The measure is that place; what is still inside is no more
--- than the bytes gone back over.
-use Prim.Native.Nat.{◌+◌, ◌≤◌}
+-- `script::second::enter_of` is safe, ends, and answers a place before the exit. The measure is what is left of the events; what is still inside is no
+-- more than the bytes gone back over.
+use Rattle.std.proofs.Common.{◌+◌, ◌≤◌, length}
 use Rattle.script.proofs.second.enter_of.Given as goal
 
-abbrev pub invariant-loop-at : goal.invariant-loop-at
-invariant-loop-at l = (l.at ≤ l.exit) × (l.inside + l.at ≤ l.exit)
+abbrev pub invariant-loop-before : goal.invariant-loop-before
+invariant-loop-before l = l.inside + l.first + length l.events ≤ l.exit
 
-abbrev pub decreases-loop-at : goal.decreases-loop-at
-decreases-loop-at l = l.at
+abbrev pub decreases-loop-before : goal.decreases-loop-before
+decreases-loop-before l = length l.events

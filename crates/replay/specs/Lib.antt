@@ -1,0 +1,2 @@
+-- The numbers of the calls.
+pub mod Numbers
