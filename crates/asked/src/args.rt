@@ -72,7 +72,7 @@ pub struct Operand {
 // next word is, and `ended` that -- was there.
 #[derive(Clone, Copy)]
 pub struct Asked {
-    takes: Takes,
+    pub takes: Takes,
     pub options: Option<u32>,
     pub form: RecordForm,
     pub as_text: bool,
@@ -82,8 +82,8 @@ pub struct Asked {
     pub blank: bool,
     pub operand: Option<Operand>,
     pub events: Option<usize>,
-    awaits: Option<Awaited>,
-    ended: bool,
+    pub awaits: Option<Awaited>,
+    pub ended: bool,
 }
 
 // An option of a command. `End` is --, behind which there are no more.

@@ -29,6 +29,12 @@ fn put_word(host: &mut Host, word: &[u8], section: &mut [u8], to: usize) -> Resu
     }
 }
 
+// The word that stands in front, and what is behind it. A step over what is between words is one search, however much that is.
+fn first_word(words: &[u8]) -> (&[u8], &[u8]) {
+    let end = words.iter().position(|byte| is_between(*byte));
+    words.split_at(end.unwrap_or(words.len()))
+}
+
 // Writes the events that words spell behind so many that are there already; how many there are then.
 fn put_words(
     host: &mut Host,
@@ -39,15 +45,15 @@ fn put_words(
     requires { 16396 ≤ length section.old }
 {
     let mut events = events;
-    for word in words.split(|byte| is_between(*byte)) {
-        if word.is_empty() {
-            continue;
-        }
+    let mut rest = words;
+    while let Some(start) = rest.iter().position(|byte| !is_between(*byte)) {
         if events > MAX_EVENTS {
             break;
         }
+        let (word, behind) = first_word(&rest[start..]);
         put_word(host, word, section, 4 + 8 * events)?;
         events += 1;
+        rest = behind;
     }
     Ok(events)
 }

@@ -12,7 +12,7 @@ use terminal::host::{Host, argument};
 use terminal::say::{Status, fail};
 
 // Reads until a buffer is full, its source has no more, or a read fails; how many bytes it has then.
-// Kept: `read_exact` of std does not say how many bytes came before the end; and the same function of `script` is of a crate for tests, on which no program stands.
+// Kept: `read_exact` of std does not say how many bytes came before the end; and the same function of `script` is of a crate for tests, on which `lark` does not stand.
 fn read_full<R: Read>(from: &mut R, buffer: &mut [u8]) -> usize
     ensures { result ≤ length buffer.new }
 {

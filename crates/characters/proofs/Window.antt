@@ -11,9 +11,9 @@ use lib.Dec.{T, leb, ltb, eqb}
 use lib.ListN.{length, get_or, take, drop, length-take, length-drop}
 use lib.Seq.{get_or-take, get_or-drop}
 use borrow.Author.Tests.{le-leb, leb-true, ltb-true, eqb-true}
-use Rattle.characters.specs.Ranges.{member, rising, unpacked, low, high, In}
-use Rattle.characters.specs.Tables.{punctuation_ranges}
-use Rattle.characters.specs.Ordered.{punctuation_ordered}
+use Rattle.characters.specs.Ranges.{within, member, rising, unpacked, low, high, In}
+use Rattle.characters.specs.Tables.{punctuation_ranges, space_ranges}
+use Rattle.characters.specs.Ordered.{punctuation_ordered, spaces_ordered}
 use Rattle.characters.specs.Index.{enough, Indexed}
 use Rattle.characters.proofs.Table.{below, all_below}
 use Rattle.characters.proofs.Order.{and_left, and_right, head, filled, apart, is_member, no_member, member_of}
@@ -209,6 +209,36 @@ past_last t n c e l h = missed beyond (omega arith)
 pub past_all : (c : ℕ) → 131072 ≤ c → false ≡ member punctuation_ranges c
 unfolding punctuation_ranges
 past_all c h = past_last punctuation_ranges 348 c punctuation_ordered refl (omega arith)
+
+pub past_spaces : (c : ℕ) → 12288 < c → false ≡ member space_ranges c
+unfolding space_ranges
+past_spaces c h = past_last space_ranges 6 c spaces_ordered refl (omega arith)
+
+-- two of the spaces stand below U+1680
+pub few_spaces : (c : ℕ) → c < 5760 → member (take 4 space_ranges) c ≡ member space_ranges c
+unfolding space_ranges member rising
+few_spaces c h = ap (λ (b : Bool). within 32 32 c || (within 160 160 c || b)) (missed before (omega arith))
+  where
+    later : List ℕ
+    later = drop 4 space_ranges
+
+    ordered : rising 0 later ≡ true
+    ordered = refl
+
+    before : Between later c 0 0
+    before =
+        record {
+          ordered = ordered;
+          bound = omega arith;
+          below = λ k g. absurd (omega arith);
+          above =
+              λ k g m.
+              ⊎_elim (λ e. subst (λ (n : ℕ). c < low later n) e (omega arith))
+              (λ s.
+              let a = apart 0 later ordered 0 k s m in
+              omega arith)
+              (eq-or-lt_of_le g);
+        }
 
 true_of : (b : Bool) → T b → b ≡ true
 true_of true t = refl

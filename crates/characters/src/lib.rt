@@ -1,5 +1,5 @@
-// What Unicode says of characters and of the bytes that stand for them, as far as a run of markers asks: the general categories P and S of version 16.0.0
-// as a table of ranges, Zs as a pattern, and the character of well-formed UTF-8 that ends or begins at a place of a document.
+// What Unicode says of characters and of the bytes that stand for them, as far as a run of markers asks: the general categories P, S and Zs of version
+// 16.0.0 as tables of ranges, and the character of well-formed UTF-8 that ends or begins at a place of a document.
 
 #![tactic(auto)]
 

@@ -1,14 +1,14 @@
-// Whether a character lies in one of some ranges.
+// Whether a character lies in one of the ranges of a table.
 //
-// The compiler lays a constant table out on the stack wherever it is named. So the table of punctuation is made once, by whoever has look-ups to do, and lent to
-// each of them; the spaces are few enough for a pattern.
+// The compiler lays a constant table out on the stack wherever it is named. So the large one is made once, by whoever has look-ups to do, and lent to each of
+// them; the small one is made at each look-up, 28 bytes.
 
 ghost use Rattle.std.specs.Prelude.{◌≡◌, true};
 ghost use Rattle.characters.specs.Ranges.{member, unpacked, rising};
 ghost use Rattle.characters.specs.Tables.{punctuation_ranges, space_ranges};
 ghost use Rattle.characters.specs.Index.{Indexed};
 
-use super::tables::PUNCTUATION;
+use super::tables::{PUNCTUATION, SPACES};
 
 // Whether c lies in one of some ranges in rising order and apart, each of which is one number. Of those that begin at c or before, it can only be in the last.
 fn in_ranges(ranges: &[u32], c: u32) -> bool
@@ -45,10 +45,15 @@ pub fn is_punctuation(table: &[u32], c: u32) -> bool
     in_ranges(&ranges[from..=to], c)
 }
 
-// Whether c is of the general category Zs.
-#[tactic(auto, using(std::proofs::lemmas::Bool::Decides::nat_tests), unfolding(crate::specs::Ranges::member, crate::specs::Tables::space_ranges))]
+// Whether c is of the general category Zs. Most letters stand past the last one, the ideographic space, or below the third, the Ogham space mark.
 pub fn is_space(c: u32) -> bool
     ensures { result ≡ member space_ranges c }
 {
-    matches!(c, 32 | 160 | 5760 | 8192..=8202 | 8239 | 8287 | 12288)
+    if 12288 < c {
+        return false;
+    }
+    if c < 5760 {
+        return in_ranges(&SPACES[..2], c);
+    }
+    in_ranges(&SPACES, c)
 }

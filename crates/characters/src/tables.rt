@@ -1,5 +1,5 @@
 // The ranges of Unicode 16.0.0, made from its file UnicodeData.txt by crates/characters/tables: a range in one number, its first code point times 2,048 and
-// how many follow. So the table takes half the stack of whoever lends it.
+// how many follow. So a table takes half the stack of whoever lends it.
 
 // The general categories P (punctuation) and S (symbol): for each 1,024 code points the number of the first range that ends there or
 // later, or else of the last one, 129 numbers; and then the ranges.
@@ -482,4 +482,15 @@ pub const PUNCTUATION: [u32; 478] = [
     265781256, // U+1FAF0 to U+1FAF8
     265814162, // U+1FB00 to U+1FB92
     266117211, // U+1FB94 to U+1FBEF
+];
+
+// The general category Zs (space separator).
+pub const SPACES: [u32; 7] = [
+    65536, // U+0020 to U+0020
+    327680, // U+00A0 to U+00A0
+    11796480, // U+1680 to U+1680
+    16777226, // U+2000 to U+200A
+    16873472, // U+202F to U+202F
+    16971776, // U+205F to U+205F
+    25165824, // U+3000 to U+3000
 ];

@@ -1,7 +1,7 @@
 -- The text rule against its definition: where a text begins and ends, its four events, and what a heading's inner events become, with a text or
 -- without.
 -- Assumes nothing.
-use Rattle.std.proofs.Common.{◌≡◌, sym, ap, ◌∙◌, ℕ, ◌+◌, ◌-◌, ◌≤◌, ◌<◌, true, false, List, [], ◌∷◌, ◌++◌, reverse, length, take, drop, arith, length-append, length-drop}
+use Rattle.std.proofs.Common.{◌≡◌, refl, sym, ap, ◌∙◌, ℕ, ◌+◌, ◌-◌, ◌≤◌, ◌<◌, true, false, List, [], ◌∷◌, ◌++◌, reverse, length, take, drop, arith, length-append, length-drop}
 use Rattle.std.proofs.lemmas.List.{take_all, length-take}
 use Rattle.std.proofs.Math.Seq.{take-length}
 use mathlib.Core.List.{reverse-append}
@@ -16,7 +16,7 @@ use Rattle.partners.proofs.Sections.{puts_then, ready_first, ready_then}
 use Rattle.heading.specs.Headings.{before_first, through_last, starts_with, shaped, through_opening, is_data_or_run, before_text, to_last, before_closing, without_closing, text_events, through_text, text_round, with_text}
 use Rattle.heading.specs.Shape.{Shape, bare, spaced}
 use Rattle.heading.specs.Steps.{Ends}
-use Rattle.heading.proofs.Seeking.{last_such, last_other}
+use Rattle.heading.proofs.Seeking.{through_le, still_last}
 use Rattle.heading.proofs.Offence.{shape_of}
 
 -- a heading is as long as its opening run, at least
@@ -37,24 +37,10 @@ pub opening_bare : (inner : List Event) → starts_with 14 inner ≡ false → 2
 unfolding through_opening choose
 opening_bare inner q = rw q
 
--- up to the last Data or `#` run, looked for from the end
-module _ (es front : List Event) (e : Event) (c : es ≡ front ++ (e ∷ [])) where
-  pub ends_here : is_data_or_run e ≡ true → es ≡ to_last es
-  unfolding to_last
-  ends_here q = rw c (sym (last_such is_data_or_run front e q))
-
-  pub ends_before : is_data_or_run e ≡ false → to_last front ≡ to_last es
-  unfolding to_last
-  ends_before q = rw c (sym (last_other is_data_or_run front e q))
-
-  -- the last of some events is the first from their end
-  pub starts_last : (name : ℕ) → eqb e.name name ≡ starts_with name (reverse es)
-  unfolding starts_with
-  starts_last name = sym (ap (λ (l : List Event). starts_with name l) (ap reverse c ∙ reverse-append front (e ∷ [])))
-
-pub ends_nowhere : (es : List Event) → es ≡ [] → es ≡ to_last es
-unfolding to_last
-ends_nowhere es c = rw c (sym (take_all (through_last is_data_or_run []) [] (omega arith)))
+-- the last of some events is the first from their end
+pub starts_last : (es front : List Event) (e : Event) → es ≡ front ++ (e ∷ []) → (name : ℕ) → eqb e.name name ≡ starts_with name (reverse es)
+unfolding starts_with
+starts_last es front e c name = sym (ap (λ (l : List Event). starts_with name l) (ap reverse c ∙ reverse-append front (e ∷ [])))
 
 pub starts_none : (name : ℕ) (es : List Event) → es ≡ [] → false ≡ starts_with name (reverse es)
 unfolding starts_with
@@ -69,6 +55,17 @@ module _ (es : List Event) where
   pub closing_other : starts_with 12 (reverse es) ≡ false → es ≡ without_closing es
   unfolding without_closing before_closing choose
   closing_other q = rw q (sym (take-length es))
+
+-- without a closing run the last event is known
+pub last_known : (behind marked unclosed : List Event) → marked ≡ to_last behind → unclosed ≡ without_closing marked → length unclosed ≡ length marked →
+    marked ≡ to_last (without_closing (to_last behind))
+unfolding to_last without_closing
+last_known behind marked unclosed em eu l =
+    let k : through_last is_data_or_run behind ≤ length behind = through_le is_data_or_run behind (length behind) (through_last is_data_or_run behind) refl refl in
+    let m : length marked ≡ through_last is_data_or_run behind = omega (arith, ap length em, length-take (through_last is_data_or_run behind) behind) in
+    let s : take (before_closing marked) marked ≡ marked = take_all (before_closing marked) marked (omega (arith, ap length eu, length-take (before_closing marked) marked)) in
+    let t : through_last is_data_or_run marked ≡ through_last is_data_or_run behind = rw em (still_last is_data_or_run behind) in
+    rw (← em, s) (sym (take_all (through_last is_data_or_run marked) marked (omega arith)))
 
 -- where a text begins and ends: behind the opening run, before the first Data or `#` run, up to the last one, before a closing run, up to the last
 -- one again

@@ -1,9 +1,9 @@
-// Which event is which, and where the first of some sort stands.
+// Which event is which, and where the first and the last of some sort stand.
 
 ghost use Rattle.std.specs.Prelude.{◌≡◌, ◌≤◌, Bool};
 ghost use Rattle.record.specs.declared.event.Event.{Event};
 ghost use Rattle.record.specs.EventsOf.{events_of};
-ghost use Rattle.heading.specs.Headings.{is_of, is_data_or_run, before_first, inner_of};
+ghost use Rattle.heading.specs.Headings.{is_of, is_data_or_run, before_first, through_last, inner_of};
 
 use record::event::Event;
 use record::limits::{DATA, EXIT, HEADING, HEADING_SEQUENCE};
@@ -40,6 +40,24 @@ pub fn before_first<F: Fn(Event) -> bool>(events: Events, is: F) -> usize
         }
     }
     events.count
+}
+
+// How many events stand up to the last that is such, it included.
+pub fn through_last<F: Fn(Event) -> bool>(events: Events, is: F) -> usize
+    ghost such: { Event → Bool }
+    requires asked { (e : Event) → F.pre is e }
+    requires answered { (e : Event) (r : Bool) → F.post is e r → r ≡ such e }
+    ensures last { result ≡ through_last such (events_of events.entry) }
+    ensures within { result ≤ events.entry.count }
+{
+    let mut rest = events;
+    while let Some((last, front)) = rest.split_last() {
+        if is(last) {
+            return rest.count;
+        }
+        rest = front;
+    }
+    0
 }
 
 // A heading's inner events, of those behind its enter.

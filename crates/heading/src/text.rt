@@ -4,10 +4,10 @@
 ghost use Rattle.std.specs.Prelude.{◌≡◌, ◌+◌, ◌≤◌, ◌<◌, true, length, reverse, MatchOption};
 ghost use Rattle.record.specs.EventsOf.{events_of};
 ghost use Rattle.partners.specs.Section.{Ready, Puts};
-ghost use Rattle.heading.specs.Headings.{shaped, starts_with, through_opening, to_last, without_closing, before_text, through_text, text_round, with_text};
+ghost use Rattle.heading.specs.Headings.{shaped, starts_with, through_opening, to_last, without_closing, before_text, text_round, with_text};
 ghost use Rattle.heading.specs.Steps.{Ends};
 
-use crate::seek::{before_first, is_data_or_run};
+use crate::seek::{before_first, is_data_or_run, through_last};
 use crate::shape::starts_with;
 use partners::Section;
 use record::limits::{DATA, ENTER, EXIT, HEADING_SEQUENCE, HEADING_TEXT, SPACE_OR_TAB};
@@ -36,14 +36,7 @@ pub fn through_opening(inner: Events) -> usize
 pub fn to_last<'a>(events: Events<'a>) -> Events<'a>
     ensures { events_of result ≡ to_last (events_of events.entry) }
 {
-    let mut rest = events;
-    while let Some((last, front)) = rest.split_last() {
-        if is_data_or_run(last) {
-            return rest;
-        }
-        rest = front;
-    }
-    rest
+    events.take(through_last(events, |e| is_data_or_run(e)))
 }
 
 // Whether the last event has a name.
@@ -66,14 +59,27 @@ pub fn without_closing<'a>(events: Events<'a>) -> Events<'a>
     events
 }
 
+// Of the events from a text's first on those up to its last.
+fn text_events<'a>(behind: Events<'a>) -> Events<'a>
+    ensures { events_of result ≡ to_last (without_closing (to_last (events_of behind.entry))) }
+{
+    let marked = to_last(behind);
+    let unclosed = without_closing(marked);
+    // Most headings have no closing run: then the last event is known.
+    if unclosed.count == marked.count {
+        return marked;
+    }
+    to_last(unclosed)
+}
+
 // The text of a heading's inner events, if one is left.
 pub fn text_of(inner: Events) -> Option<Text>
     requires { shaped (events_of inner) ≡ true }
-    ensures { MatchOption result (before_text (events_of inner.entry) ≡ through_text (events_of inner.entry)) (λ t. Ends (events_of inner.entry) inner.entry.count t.before t.through × (t.before < t.through)) }
+    ensures { MatchOption result (Ends (events_of inner.entry) inner.entry.count (before_text (events_of inner.entry)) (before_text (events_of inner.entry))) (λ t. Ends (events_of inner.entry) inner.entry.count t.before t.through × (t.before < t.through)) }
 {
     let opened = through_opening(inner);
     let before = opened + before_first(inner.skip(opened), |e| is_data_or_run(e));
-    let text = to_last(without_closing(to_last(inner.skip(before))));
+    let text = text_events(inner.skip(before));
     if text.count == 0 {
         return None;
     }

@@ -33,7 +33,8 @@ const STATUS_FILE: &str = "/dev/fd/3";
 const UNREAD: u8 = 141;
 
 // A command whose arguments begin with number `next`, on the input that they stand for: how that is read into a buffer, and what is answered on it. It
-// answers only where its arguments are good and the input can be had.
+// answers only where its arguments are good and the input can be had. Each command has a frame of its own on the stack, with no room for the others' buffers.
+#[inline(never)]
 fn on_input<R, F>(
     host: &mut Host,
     takes: Takes,

@@ -5,7 +5,7 @@
 // At most ten events are looked at, however many the item holds.
 
 ghost use Rattle.std.specs.Prelude.{◌≡◌, ◌≤◌};
-ghost use Rattle.record.specs.EventsOf.{events_of};
+ghost use Rattle.record.specs.EventsOf.{events_of, LastOf};
 ghost use Rattle.list.specs.Item.{known};
 ghost use Rattle.list.specs.Walk.{Placed, has, first, first_leaf, behind_leaf, mark_over, mark_in, marked};
 
@@ -43,7 +43,8 @@ pub fn leaf(ahead: Events, name: u8) -> bool
 
 // The events behind a leaf pair of this name if one stands next, else as they are.
 pub fn past_leaf<'a>(ahead: Events<'a>, name: u8) -> Events<'a>
-    ensures { events_of result ≡ behind_leaf name (events_of ahead.entry) }
+    ensures listed { events_of result ≡ behind_leaf name (events_of ahead.entry) }
+    ensures last { LastOf ahead.entry result }
 {
     if leaf(ahead, name) {
         ahead.skip(2)

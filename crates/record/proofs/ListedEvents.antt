@@ -5,11 +5,11 @@ use Rattle.std.proofs.lemmas.Bool.{cases_lt}
 use Rattle.std.proofs.Math.Seq.{take-suc}
 use Rattle.std.proofs.lemmas.List.{take_all, drop_all}
 use Rattle.record.specs.Event.{event_at, events_by}
-use Rattle.record.specs.EventsOf.{events_of}
+use Rattle.record.specs.EventsOf.{events_of, LastOf}
 use Rattle.record.specs.Stack.{nth}
 use Rattle.record.specs.declared.event.Event.{Event}
 use Rattle.record.specs.declared.listed.Events.{Events}
-use Rattle.record.proofs.Parts.{length_events, drop_events, nth_event, events_none}
+use Rattle.record.proofs.Parts.{less, length_events, drop_events, nth_event, events_none}
 
 pub length_of : (v : Events) → length (events_of v) ≡ v.count
 unfolding events_of
@@ -78,3 +78,26 @@ split_last_of v e front h p q = go (events_of v) (v.count - 1) (omega (arith, le
   where
     go : (es : List Event) (k : ℕ) → length es ≡ suc k → e ≡ nth es k → front ≡ take k es → es ≡ front ++ (e ∷ [])
     go es k l p q = rw (p, q) (sym (take_all (suc k) es (omega arith)) ∙ take-suc es k (record { kind = 0; name = 0; place = 0 }) (omega arith))
+
+-- behind some of them are the last of them
+split_width : (w m k : ℕ) → w * m + w * k ≡ w * (m + k)
+split_width w zero k = omega arith
+split_width w (suc m) k = omega (arith, split_width w m k, less w (suc m) (omega arith), less w (suc m + k) (omega arith))
+
+pub ends_kept : (w at count n m : ℕ) → m ≡ min n count → at + w * m + w * (count - m) ≡ at + w * count
+ends_kept w at count n m e =
+    let k : m + (count - m) ≡ count = omega (arith, least n m count e) in
+    omega (arith, split_width w m (count - m), ap (λ (j : ℕ). w * j) k)
+
+-- and the last of the last are the last of all
+pub last_again : {u v w : Events} → LastOf u v → LastOf v w → LastOf u w
+last_again a b =
+    record {
+      record_kept = b.record_kept ∙ a.record_kept;
+      width_kept = b.width_kept ∙ a.width_kept;
+      end_kept = b.end_kept ∙ a.end_kept;
+      fewer = omega (arith, a.fewer, b.fewer);
+    }
+
+pub last_same : (v : Events) → LastOf v v
+last_same v = record { record_kept = refl; width_kept = refl; end_kept = refl; fewer = omega arith }

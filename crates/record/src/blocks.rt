@@ -8,11 +8,11 @@ ghost use Rattle.record.specs.Stretch.{of_kind, is_not, Tells, Passed};
 
 // The widths of blocks: one for what is long, one for a line's length, and one so that no more than seven bytes are left. No answer depends on
 // them; none is 0.
-const WIDE: usize = 128;
+pub const WIDE: usize = 128;
 
-const MIDDLE: usize = 32;
+pub const MIDDLE: usize = 32;
 
-const NARROW: usize = 8;
+pub const NARROW: usize = 8;
 
 // A kind of byte: either of two, where `within` is set, else neither of them.
 #[derive(Clone, Copy)]

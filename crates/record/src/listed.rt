@@ -21,7 +21,7 @@ pub struct Events<'a> {
 impl<'a> Events<'a> {
     ghost use Rattle.std.specs.Prelude.{◌≡◌, [], ◌∷◌, ◌++◌, ◌-◌, ◌<◌, min, take, drop, MatchOption};
     ghost use Rattle.record.specs.Event.{events_in};
-    ghost use Rattle.record.specs.EventsOf.{events_of};
+    ghost use Rattle.record.specs.EventsOf.{events_of, LastOf};
     ghost use Rattle.record.specs.Good.{GoodIn};
     ghost use Rattle.record.specs.Stack.{nth};
 
@@ -64,6 +64,7 @@ impl<'a> Events<'a> {
     pub fn skip(self, n: usize) -> Events<'a>
         ensures listed { events_of result ≡ drop n (events_of self.entry) }
         ensures counted { result.count ≡ self.entry.count - n }
+        ensures last { LastOf self.entry result }
     {
         let passed = n.min(self.count);
         Events {

@@ -12,11 +12,14 @@
 //
 // An entry that no answer can stand in is ill-formed: the file is then not a list of answers, and says nothing of our calls.
 
+ghost use Rattle.std.specs.Prelude.{◌≡◌, ◌≤◌, length, IfOk};
+
 use crate::call::{Call, UnknownCall};
 use record::bytes::u32_at;
 use record::limits::MAX_RESULT;
+use script::read_full;
+use std::fmt;
 use std::io::Read;
-use std::{fmt, io};
 
 // A list that is none, or that could not be read on.
 #[derive(Clone, Copy, Debug, PartialEq, Eq)]
@@ -30,12 +33,6 @@ impl fmt::Display for IllFormed {
 
 impl From<UnknownCall> for IllFormed {
     fn from(_error: UnknownCall) -> IllFormed {
-        IllFormed
-    }
-}
-
-impl From<io::Error> for IllFormed {
-    fn from(_error: io::Error) -> IllFormed {
         IllFormed
     }
 }
@@ -132,14 +129,29 @@ fn six_in(s: &[u8; 24]) -> [u32; 6] {
     six
 }
 
+// Whether the list ends here. A read that fails is no end.
+fn is_end(list: &mut impl Read) -> bool {
+    matches!(list.read(&mut [0u8; 1]), Ok(0))
+}
+
+// The next bytes of the list, as many as a buffer has. A read that fails counts as the end, whatever it fails for.
+fn read_whole(list: &mut impl Read, buffer: &mut [u8]) -> Result<(), IllFormed> {
+    if read_full(list, buffer) < buffer.len() {
+        return Err(IllFormed);
+    }
+    Ok(())
+}
+
 // The numbers with which an entry begins, or that the list ends before it.
 fn read_question(list: &mut impl Read) -> Result<Option<Question>, IllFormed> {
     let mut bytes = [0u8; 24];
-    let got = list.read(&mut bytes)?;
-    if got == 0 {
+    let got = read_full(list, &mut bytes);
+    if got == 0 && is_end(list) {
         return Ok(None);
     }
-    list.read_exact(&mut bytes[got..])?;
+    if got < bytes.len() {
+        return Err(IllFormed);
+    }
     let [call, options, a, b, c, length] = six_in(&bytes);
     let question = Question {
         call: Call::try_from(call)?,
@@ -158,7 +170,7 @@ fn read_question(list: &mut impl Read) -> Result<Option<Question>, IllFormed> {
 // The numbers of the crate's answer.
 fn read_told(list: &mut impl Read, call: Call) -> Result<Answer, IllFormed> {
     let mut bytes = [0u8; 24];
-    list.read_exact(&mut bytes)?;
+    read_whole(list, &mut bytes)?;
     let [a, b, c, d, e, section] = six_in(&bytes).map(|n| n as usize);
     let told = Answer {
         numbers: [a, b, c, d, e],
@@ -175,9 +187,11 @@ fn read_bytes<'a>(
     list: &mut impl Read,
     buffer: &'a mut [u8],
     n: usize,
-) -> Result<&'a [u8], IllFormed> {
+) -> Result<&'a [u8], IllFormed>
+    ensures { IfOk result (λ bytes. (length bytes.now ≡ n) × (n ≤ length buffer.old)) }
+{
     let bytes = buffer.get_mut(..n).ok_or(IllFormed)?;
-    list.read_exact(bytes)?;
+    read_whole(list, bytes)?;
     Ok(bytes)
 }
 

@@ -28,17 +28,17 @@ fn enter_of(s: &[u8], first: usize, exit: usize) -> Option<usize>
     requires { exit + 12 ≤ length s.now }
     ensures { IfSome result (λ enter. enter ≤ exit) }
 {
-    let mut events = s.get(first..exit)?;
+    let events = exit.checked_sub(first)? / 12;
     let mut inside: usize = 0;
-    while let Some((before, event)) = events.split_last_chunk::<12>() {
-        if event[0] == 1 {
+    for n in 0..events {
+        let at = exit - 12 * (n + 1);
+        if s[at] == 1 {
             inside += 1;
         } else if inside == 0 {
-            return Some(first + before.len());
+            return Some(at);
         } else {
             inside -= 1;
         }
-        events = before;
     }
     None
 }

@@ -1,5 +1,7 @@
 // One line of a script: the question that it asks, and its trial.
 
+ghost use Rattle.std.specs.Prelude.{◌≤◌, length};
+
 use crate::buffers::{FILL, say_work};
 use crate::calls::{Answer, Call, ask_call};
 use crate::section::say_output;
@@ -23,7 +25,9 @@ fn as_options(n: usize) -> u32 {
 }
 
 // The call and the numbers behind the label, which are cut off the line's front. Form 2 where the call ends with a 2; else the old form with its options.
-fn read_question(line: &mut &[u8]) -> Question {
+fn read_question(line: &mut &[u8]) -> Question
+    ensures { length line.new.now ≤ length line.old.now }
+{
     let call = next_word(line);
     let handed = if call.ends_with(b"2") {
         Handed::Second

@@ -10,4 +10,4 @@ returns-in-Some c =
     (sym (length_text _ _ _ _ some.0 some.1 (length_of c.args.inner)), omega (arith, some.0.front, some.0.whole, some.1))
 
 pub returns-in-None : goal.returns-in-None
-returns-in-None c = (sym (ap length (without _ c.in-None.ensures) ∙ length_of c.args.inner), omega arith)
+returns-in-None c = (sym (ap length (without _ c.in-None.ensures.last) ∙ length_of c.args.inner), omega arith)

@@ -4,10 +4,10 @@ use Rattle.heading.proofs.Texts.{unchanged_fits, unchanged, front_fits, round_fi
 use Rattle.heading.proofs.text.put_inner.Goals as goal
 
 pub copy-requires : goal.copy-requires
-copy-requires c = unchanged_fits _ c.in_default.ensures c.requires.1
+copy-requires c = unchanged_fits _ c.in_default.ensures.last c.requires.1
 
 pub returns-in_default : goal.returns-in_default
-returns-in_default c = unchanged _ c.in_default.ensures c.copy.ensures
+returns-in_default c = unchanged _ c.in_default.ensures.last c.copy.ensures
 
 pub copy-requires-2 : goal.copy-requires-2
 copy-requires-2 c =
