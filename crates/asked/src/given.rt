@@ -29,7 +29,7 @@ fn put_word(host: &mut Host, word: &[u8], section: &mut [u8], to: usize) -> Resu
     }
 }
 
-// The word that stands in front, and what is behind it. A step over what is between words is one search, however much that is.
+// The word that stands in front, and what is behind it.
 fn first_word(words: &[u8]) -> (&[u8], &[u8]) {
     let end = words.iter().position(|byte| is_between(*byte));
     words.split_at(end.unwrap_or(words.len()))
@@ -46,6 +46,7 @@ fn put_words(
 {
     let mut events = events;
     let mut rest = words;
+    // What stands between two words is gone over by one search, however much it is.
     while let Some(start) = rest.iter().position(|byte| !is_between(*byte)) {
         if events > MAX_EVENTS {
             break;
