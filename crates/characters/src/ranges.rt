@@ -15,7 +15,9 @@ fn in_ranges(ranges: &[u32], c: u32) -> bool
     requires { rising 0 (unpacked ranges.now) ≡ true }
     ensures { result ≡ member (unpacked ranges.now) c }
 {
-    let begun = ranges.partition_point(|range| *range / 2048 <= c);
+    // The ranges that begin at c or before are the numbers below this, however far they go.
+    let behind = 2048 * (u64::from(c) + 1);
+    let begun = ranges.partition_point(|range| u64::from(*range) < behind);
     if begun == 0 {
         return false;
     }

@@ -72,7 +72,8 @@ fn text_events<'a>(behind: Events<'a>) -> Events<'a>
     to_last(unclosed)
 }
 
-// The text of a heading's inner events, if one is left.
+// The text of a heading's inner events, if one is left. It is inlined, since it is asked twice of each heading, and most are short.
+#[inline(always)]
 pub fn text_of(inner: Events) -> Option<Text>
     requires { shaped (events_of inner) ≡ true }
     ensures { MatchOption result (Ends (events_of inner.entry) inner.entry.count (before_text (events_of inner.entry)) (before_text (events_of inner.entry))) (λ t. Ends (events_of inner.entry) inner.entry.count t.before t.through × (t.before < t.through)) }

@@ -17,7 +17,8 @@ use record::form::{Form, Handed, form_of, place_of};
 use record::listed::{Events, document_of};
 
 // Numbers 6 and 8, or the section and how many events it has: of a good record of a form with these two counts. The result has at most two events for each
-// of the record's, so that number 7 is never given.
+// of the record's, so that number 7 is never given. Never inlined: so its frame is not on the stack while the record is checked.
+#[inline(never)]
 fn settle(
     s: &[u8],
     form: Form,

@@ -1,4 +1,4 @@
--- The list that some events of a record are.
+-- The list that some events of a record are, and which events are the last of others.
 -- Assumes nothing.
 use Rattle.std.specs.Prelude.{◌+◌, ◌*◌, ◌≤◌, ◌≡◌, List}
 use Rattle.record.specs.Event.{events_by}
